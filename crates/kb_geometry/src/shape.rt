@@ -1,0 +1,106 @@
+// The size of a board, its points, and their numbers row by row.
+ghost use Rattle.std.specs.Prelude.{◌≡◌, ◌<◌, ◌≤◌, ◌↔◌, IsTrue, IsSome, IfSome};
+ghost use Rattle.kb_geometry.specs.Side.{IsSide};
+
+/// The most columns, and the most rows, that a board may have.
+pub const MAX_SIDE: u8 = 19;
+
+/// The most points that a board may have: its sides multiplied.
+pub const MAX_POINTS: u16 = 361;
+
+/// A point of a board: the column from the left and the row from the top, both from 0.
+#[derive(Clone, Copy, Debug, PartialEq, Eq, Hash)]
+pub struct Point {
+    pub x: u8,
+    pub y: u8,
+}
+
+/// A rectangle of points, by its corners. Both corners belong to it.
+#[derive(Clone, Copy, Debug, PartialEq, Eq, Hash)]
+pub struct Rect {
+    pub x0: u8,
+    pub y0: u8,
+    pub x1: u8,
+    pub y1: u8,
+}
+
+/// The size of a board, with 1 to [`MAX_SIDE`] columns and as many rows.
+#[derive(Clone, Copy, Debug, PartialEq, Eq, Hash)]
+pub struct Shape {
+    cols: u8,
+    rows: u8,
+    pub ghost in_range: { IsSide cols × IsSide rows },
+}
+
+impl Shape {
+    ghost use Rattle.kb_geometry.specs.declared.shape.Point.{Point};
+    ghost use Rattle.kb_geometry.specs.Board.{cols_of, rows_of, IsOnBoard, point_count, number_of};
+
+    /// A shape of this many columns and rows. `None` exactly where one of them is none of 1 to
+    /// [`MAX_SIDE`].
+    pub fn new(cols: u8, rows: u8) -> Option<Self>
+        ensures sides { IsSome result ↔ (IsSide cols × IsSide rows) }
+        ensures made { IfSome result (λ s. (cols_of s ≡ cols) × (rows_of s ≡ rows)) }
+    {
+        if cols >= 1 && cols <= MAX_SIDE && rows >= 1 && rows <= MAX_SIDE {
+            Some(Shape { cols, rows })
+        } else {
+            None
+        }
+    }
+
+    /// How many columns.
+    pub fn cols(&self) -> u8
+        ensures value { result ≡ cols_of self.now }
+        ensures side { IsSide result }
+    {
+        self.cols
+    }
+
+    /// How many rows.
+    pub fn rows(&self) -> u8
+        ensures value { result ≡ rows_of self.now }
+        ensures side { IsSide result }
+    {
+        self.rows
+    }
+
+    /// Whether there are as many columns as rows.
+    pub fn is_square(&self) -> bool
+        ensures { IsTrue result ↔ (cols_of self.now ≡ rows_of self.now) }
+    {
+        self.cols == self.rows
+    }
+
+    /// How many points.
+    pub fn count(&self) -> u16
+        ensures value { result ≡ point_count self.now }
+        ensures some { 1 ≤ result }
+        ensures most { result ≤ MAX_POINTS }
+    {
+        u16::from(self.cols) * u16::from(self.rows)
+    }
+
+    /// The number of a point of the board: row by row from the upper left, from 0.
+    pub fn number(&self, p: Point) -> u16
+        requires { IsOnBoard self.now p }
+        ensures value { result ≡ number_of self.now p }
+        ensures in_range { result < point_count self.now }
+    {
+        u16::from(p.y) * u16::from(self.cols) + u16::from(p.x)
+    }
+
+    /// The point with this number.
+    pub fn point(&self, number: u16) -> Point
+        requires { number < point_count self.now }
+        ensures on_board { IsOnBoard self.now result }
+        ensures inverse { number_of self.now result ≡ number }
+        ensures only { (p : Point) → IsOnBoard self.now p → number_of self.now p ≡ number → p ≡ result }
+    {
+        let cols = u16::from(self.cols);
+        Point {
+            x: (number % cols) as u8,
+            y: (number / cols) as u8,
+        }
+    }
+}

@@ -1,0 +1,36 @@
+// Stones, the changes that a move makes, and who won.
+ghost use Rattle.std.specs.Prelude.{◌≡◌};
+
+/// A side of the game.
+#[derive(Clone, Copy, Debug, PartialEq, Eq, Hash)]
+pub enum Colour {
+    Black,
+    White,
+}
+
+/// What stands on a point.
+#[derive(Clone, Copy, Debug, PartialEq, Eq, Hash)]
+pub enum Cell {
+    Empty,
+    Black,
+    White,
+}
+
+/// One point whose cell changes, by the point's number.
+#[derive(Clone, Copy, Debug, PartialEq, Eq, Hash)]
+pub struct Change {
+    pub point: u16,
+    pub old: Cell,
+    pub new: Cell,
+}
+
+/// The class of a game's result.
+#[derive(Clone, Copy, Debug, PartialEq, Eq, Hash)]
+pub enum Outcome {
+    Black,
+    White,
+    Draw,
+    Void,
+    Unknown,
+    Other,
+}
