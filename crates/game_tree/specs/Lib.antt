@@ -1,0 +1,5 @@
+pub mod Information
+pub mod MainLine
+pub mod Plain
+pub mod Position
+pub mod Tree

@@ -1,0 +1,90 @@
+-- A game tree: its nodes in order of the text, each with its parent, its setups and its move.
+use Prim.Native.Nat.{zero}
+use Rattle.std.specs.Prelude.{◌≡◌, ℕ, ◌+◌, ◌-◌, ◌<◌, ◌≤◌, suc, ◌==◌, nat_lt, Bool, false, List, length, slice_index_or, [], ◌∷◌, Option, Some, None, IfSome, All, filter, count_by, is_some, option_and_then}
+use Rattle.std.specs.Option.{option_map_or}
+use Rattle.std.specs.List.{range_with_len}
+use Rattle.kb_geometry.specs.declared.shape.Shape.{Shape}
+use Rattle.kb_geometry.specs.declared.shape.Rect.{Rect}
+use Rattle.kb_geometry.specs.declared.shape.Point.{Point}
+use Rattle.kb_geometry.specs.Board.{IsOnBoard, cols_of, rows_of}
+use Rattle.game_tree.specs.declared.node.Setup.{Setup}
+use Rattle.game_tree.specs.declared.node.Move.{Move}
+use Rattle.game_tree.specs.Information.{Information}
+
+-- a node: the number of its parent, what it sets up, and what it plays
+pub record Node : Type 0 where
+  pub parent : Option ℕ
+  pub setups : List Setup
+  pub played : Option Move
+
+-- a game: its board, its information, and its nodes in order of the text
+pub record Tree : Type 0 where
+  pub shape : Shape
+  pub info : Information
+  pub nodes : List Node
+
+abbrev pub node_count : Tree → ℕ
+node_count tree = length tree.nodes
+
+-- the node with this number, or one without parent, setups and move
+abbrev pub node_at : Tree → ℕ → Node
+node_at tree n = slice_index_or tree.nodes n (record { parent = None; setups = []; played = None })
+
+abbrev pub parent_of : Tree → ℕ → Option ℕ
+parent_of tree n = (node_at tree n).parent
+
+-- a is n or an ancestor of n
+pub data IsAbove (tree : Tree) : ℕ → ℕ → Type 0 where
+  itself : {n : ℕ} → IsAbove tree n n
+  higher : {a m n : ℕ} → parent_of tree n ≡ Some m → IsAbove tree a m → IsAbove tree a n
+
+-- the rectangle lies on the board, and its first corner is the upper left one
+abbrev pub IsRectOnBoard : Shape → Rect → Type 0
+IsRectOnBoard shape r = (r.x0 ≤ r.x1) × (r.y0 ≤ r.y1) × (r.x1 < cols_of shape) × (r.y1 < rows_of shape)
+
+-- what a node sets up and plays lies on the board
+pub record IsNodeOnBoard (shape : Shape) (node : Node) : Type 0 where
+  pub setups : All (λ (s : Setup). IsRectOnBoard shape s.rect) node.setups
+  pub played : IfSome node.played (λ (m : Move). IfSome m.point (λ (p : Point). IsOnBoard shape p))
+
+-- There is a root, which has no parent. The parent of each other node is the node before it, or an ancestor of that.
+pub record IsTree (tree : Tree) : Type 0 where
+  pub some : 1 ≤ node_count tree
+  pub most : node_count tree ≤ 65536
+  pub root : parent_of tree 0 ≡ None
+  pub parents : (n : ℕ) → 1 ≤ n → n < node_count tree → (m : ℕ) × (parent_of tree n ≡ Some m) × (m < n) × IsAbove tree m (n - 1)
+  pub on_board : (n : ℕ) → n < node_count tree → IsNodeOnBoard tree.shape (node_at tree n)
+
+-- the node's parent is m
+abbrev pub is_child_of : Tree → ℕ → ℕ → Bool
+is_child_of tree m n = option_map_or (λ p. p == m) (parent_of tree n) false
+
+-- the children of a node, in order of the text
+abbrev pub children_of : Tree → ℕ → List ℕ
+children_of tree m = filter (is_child_of tree m) (range_with_len 0 (node_count tree))
+
+-- the first of these numbers, if there is one
+abbrev pub first_of : List ℕ → Option ℕ
+first_of [] = None
+first_of (n ∷ ns) = Some n
+
+-- the first child of a node
+abbrev pub first_child_of : Tree → ℕ → Option ℕ
+first_child_of tree m = first_of (children_of tree m)
+
+-- the next child of the node's parent
+abbrev pub next_sibling_of : Tree → ℕ → Option ℕ
+next_sibling_of tree n = option_and_then (λ m. first_of (filter (nat_lt n) (children_of tree m))) (parent_of tree n)
+
+-- the path from a node up to the root, the node itself first, of at most so many nodes
+abbrev pub path_within : Tree → ℕ → ℕ → List ℕ
+path_within tree zero n = []
+path_within tree (suc most) n = n ∷ option_map_or (path_within tree most) (parent_of tree n) []
+
+-- the path from a node up to the root: a parent's number is less than its child's
+abbrev pub path_to : Tree → ℕ → List ℕ
+path_to tree n = path_within tree (n + 1) n
+
+-- the number of moves and passes on the path from the root to the node, both ends among them
+abbrev pub move_number_of : Tree → ℕ → ℕ
+move_number_of tree n = count_by (λ m. is_some (node_at tree m).played) (path_to tree n)

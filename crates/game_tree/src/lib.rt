@@ -1,0 +1,14 @@
+//! Game trees: the nodes of a game with their setups and moves, and the game's information.
+//!
+//! Stands on kb_geometry. In `specs/` are the words for a tree, its main line, its move numbers and
+//! its positions. The layers above use that a tree's readers show the tree, and that [`plain`] gives
+//! the tree that a plain text spells.
+#![tactic(auto)]
+
+mod bytes;
+mod info;
+mod node;
+
+pub use bytes::Bytes;
+pub use info::Info;
+pub use node::{Move, Setup};
