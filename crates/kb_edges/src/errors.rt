@@ -1,0 +1,25 @@
+// What a call of the outside answers where it fails.
+
+/// A read failed: the count of faults rose in that call.
+#[derive(Clone, Copy, Debug, PartialEq, Eq)]
+pub struct ReadFailed;
+
+/// Why a write took nothing.
+#[derive(Clone, Copy, Debug, PartialEq, Eq)]
+pub enum SinkError {
+    /// A fault: the count of faults rose in that call.
+    Failed,
+    /// Want of memory. It is no fault.
+    NoMemory,
+}
+
+/// Why a folder gave no answer.
+#[derive(Clone, Copy, Debug, PartialEq, Eq)]
+pub enum FolderError {
+    /// A fault: the count of faults rose in that call.
+    Failed,
+    /// The folder tells its files, and has none with the path, or with the path and the name. It is no fault.
+    Missing,
+    /// Want of memory.
+    NoMemory,
+}
