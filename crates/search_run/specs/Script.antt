@@ -1,27 +1,16 @@
 -- The script: its lines, the statements that they spell, and the least line that is bad.
-use Rattle.std.specs.Prelude.{◌≡◌, ℕ, ◌+◌, ◌<◌, ◌≤◌, ◌==◌, List, [], ◌∷◌, ◌++◌, length, take, slice_index_or, All, codes, if◌then◌else◌}
-use Rattle.search_run.specs.declared.script.Statement.{Statement}
-use Rattle.search_run.specs.declared.script.Statement.TheVariants as statement
-use Rattle.search_run.specs.declared.script.Placed.{Placed}
-use Rattle.search_run.specs.declared.script.TheConstants.{MAX_SCRIPT}
+use Rattle.std.specs.Prelude.{◌≡◌, ℕ, ◌+◌, ◌<◌, ◌≤◌, List, [], ◌∷◌, ◌++◌, length, take, slice_index_or, codes}
+use Rattle.search_run.specs.Lines.{IsPath, lines_of}
+use Rattle.search_run.specs.declared.statement.Statement.{Statement}
+use Rattle.search_run.specs.declared.statement.Statement.TheVariants as statement
+use Rattle.search_run.specs.declared.statement.Placed.{Placed}
+use Rattle.search_run.specs.declared.statement.TheConstants.{MAX_SCRIPT}
 
--- puts a byte at the front of the first line
-abbrev pub longer_first : ℕ → List (List ℕ) → List (List ℕ)
-longer_first c [] = (c ∷ []) ∷ []
-longer_first c (line ∷ lines) = (c ∷ line) ∷ lines
-
--- the lines of a text: each ends with a line feed, the last one perhaps with the text
-abbrev pub lines_of : List ℕ → List (List ℕ)
-lines_of [] = []
-lines_of (c ∷ cs) = if c == 10 then [] ∷ lines_of cs else longer_first c (lines_of cs)
-
--- a letter from `a` to `z`
-abbrev pub IsLetter : ℕ → Type 0
-IsLetter c = (97 ≤ c) × (c ≤ 122)
-
--- a path: one letter or more
-abbrev pub IsPath : List ℕ → Type 0
-IsPath path = (1 ≤ length path) × All IsLetter path
+-- the statement is an import
+abbrev pub IsImport : Statement → Type 0
+IsImport (statement.Import path) = Unit {0}
+IsImport statement.Wait = ⊥
+IsImport statement.Search = ⊥
 
 -- the line spells this statement
 abbrev pub Spells : List ℕ → Statement → Type 0
@@ -47,9 +36,9 @@ HasImportBefore lines k = (j : ℕ) × (1 ≤ j) × (j < k) × SpellsImport (lin
 
 -- why a line is bad: it spells no statement, it spells a second import, or it holds the byte past the greatest length
 pub data IsFaulty (text : List ℕ) (k : ℕ) : Type 0 where
-  no_statement : ((s : Statement) → ¬ Spells (line_at (lines_seen text) k) s) → IsFaulty text k
-  second_import : SpellsImport (line_at (lines_seen text) k) → HasImportBefore (lines_seen text) k → IsFaulty text k
-  too_long : MAX_SCRIPT < length text → k ≡ length (lines_seen text) → IsFaulty text k
+  spells_nothing : ((s : Statement) → ¬ Spells (line_at (lines_seen text) k) s) → IsFaulty text k
+  imports_again : SpellsImport (line_at (lines_seen text) k) → HasImportBefore (lines_seen text) k → IsFaulty text k
+  passes_length : MAX_SCRIPT < length text → k ≡ length (lines_seen text) → IsFaulty text k
 
 -- a bad line of the script, by its number from 1
 pub record IsBadLine (text : List ℕ) (k : ℕ) : Type 0 where

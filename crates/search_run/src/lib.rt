@@ -2,5 +2,6 @@
 #![tactic(auto)]
 
 mod script;
+mod statement;
 
-pub use script::{Placed, ScriptError, Statement};
+pub use statement::{Placed, ScriptError, Statement};
