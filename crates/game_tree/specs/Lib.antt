@@ -1,5 +1,7 @@
 pub mod Information
+pub mod Line
 pub mod MainLine
 pub mod Plain
 pub mod Position
+pub mod Result
 pub mod Tree

@@ -1,6 +1,8 @@
 // A byte text that contracts see as a list.
-ghost use Rattle.std.specs.Prelude.{◌≡◌, ℕ, List};
+ghost use Rattle.std.specs.Prelude.{◌≡◌, ℕ, List, IfOk};
 
+use kb_geometry::NoMemory;
+use std::alloc::Global;
 use std::marker::Model;
 
 /// A text of bytes in no particular character set. Contracts see it as the list of its bytes.
@@ -28,5 +30,13 @@ impl Bytes {
         ensures { result.now ≡ self.now }
     {
         self.bytes.as_slice()
+    }
+
+    /// An equal text. `Err` only if memory runs out.
+    pub fn copy(&self, alloc: Global) -> Result<Bytes, NoMemory>
+        ensures { IfOk result (λ copied. copied ≡ self.now) }
+    {
+        let bytes = self.bytes.as_slice().to_vec(alloc)?;
+        Ok(Bytes { bytes })
     }
 }

@@ -1,8 +1,11 @@
 // The information of a game: names, event, place, date and result.
-ghost use Rattle.std.specs.Prelude.{◌≡◌, ℕ, List};
-ghost use Rattle.game_tree.specs.Information.{Information};
+ghost use Rattle.std.specs.Prelude.{◌≡◌, ℕ, List, IfOk};
+ghost use Rattle.game_tree.specs.Information.{Information, no_information};
+ghost use Rattle.game_tree.specs.Result.{outcome_of};
 
 use crate::Bytes;
+use kb_geometry::{NoMemory, Outcome};
+use std::alloc::Global;
 use std::marker::Model;
 
 /// The names of the players, and the event, place, date and result of a game, as bytes.
@@ -27,4 +30,108 @@ impl Model for Info {
       date = i.date;
       outcome_text = i.result;
     } };
+}
+
+impl Info {
+    /// The information of a game of which nothing is told.
+    pub(crate) fn empty(alloc: Global) -> Self
+        ensures { result ≡ no_information }
+    {
+        Info {
+            black: Bytes::new(Vec::new(alloc)),
+            white: Bytes::new(Vec::new(alloc)),
+            event: Bytes::new(Vec::new(alloc)),
+            place: Bytes::new(Vec::new(alloc)),
+            date: Bytes::new(Vec::new(alloc)),
+            result: Bytes::new(Vec::new(alloc)),
+        }
+    }
+
+    /// The name of the player of the black stones.
+    pub fn black(&self) -> &[u8]
+        ensures { result.now ≡ self.now.black }
+    {
+        self.black.as_slice()
+    }
+
+    /// The name of the player of the white stones.
+    pub fn white(&self) -> &[u8]
+        ensures { result.now ≡ self.now.white }
+    {
+        self.white.as_slice()
+    }
+
+    /// The event at which the game was played.
+    pub fn event(&self) -> &[u8]
+        ensures { result.now ≡ self.now.event }
+    {
+        self.event.as_slice()
+    }
+
+    /// The place where the game was played.
+    pub fn place(&self) -> &[u8]
+        ensures { result.now ≡ self.now.place }
+    {
+        self.place.as_slice()
+    }
+
+    /// The date on which the game was played.
+    pub fn date(&self) -> &[u8]
+        ensures { result.now ≡ self.now.date }
+    {
+        self.date.as_slice()
+    }
+
+    /// The text of the game's result.
+    pub fn result(&self) -> &[u8]
+        ensures { result.now ≡ self.now.outcome_text }
+    {
+        self.result.as_slice()
+    }
+
+    /// Who won, by the text of the game's result.
+    pub fn outcome(&self) -> Outcome
+        ensures { result ≡ outcome_of self.now.outcome_text }
+    {
+        class_of(self.result())
+    }
+
+    /// An equal information. `Err` only if memory runs out.
+    pub fn copy(&self, alloc: Global) -> Result<Info, NoMemory>
+        ensures { IfOk result (λ copied. copied ≡ self.now) }
+    {
+        let black = self.black.copy(alloc)?;
+        let white = self.white.copy(alloc)?;
+        let event = self.event.copy(alloc)?;
+        let place = self.place.copy(alloc)?;
+        let date = self.date.copy(alloc)?;
+        let result = self.result.copy(alloc)?;
+        Ok(Info {
+            black,
+            white,
+            event,
+            place,
+            date,
+            result,
+        })
+    }
+}
+
+// The class of a result's text.
+fn class_of(text: &[u8]) -> Outcome
+    ensures { result ≡ outcome_of text.now }
+{
+    if text.starts_with(b"B+") {
+        Outcome::Black
+    } else if text.starts_with(b"W+") {
+        Outcome::White
+    } else if text == b"0".as_slice() || text == b"Draw".as_slice() {
+        Outcome::Draw
+    } else if text == b"Void".as_slice() {
+        Outcome::Void
+    } else if text == b"?".as_slice() {
+        Outcome::Unknown
+    } else {
+        Outcome::Other
+    }
 }

@@ -6,9 +6,13 @@
 #![tactic(auto)]
 
 mod bytes;
+mod children;
 mod info;
 mod node;
+mod tree;
 
 pub use bytes::Bytes;
+pub use children::Children;
 pub use info::Info;
 pub use node::{Move, Setup};
+pub use tree::GameTree;

@@ -1,0 +1,21 @@
+-- A tree that is one line: a root that does nothing, and below it one move after another.
+use Rattle.std.specs.Prelude.{ℕ, ◌+◌, ◌<◌, ◌≤◌, List, [], ◌∷◌, length, slice_index_or, Some, None, IfSome}
+use Rattle.kb_geometry.specs.declared.shape.Shape.{Shape}
+use Rattle.kb_geometry.specs.Board.{IsOnBoard}
+use Rattle.game_tree.specs.declared.node.Move.{Move}
+use Rattle.game_tree.specs.Information.{Information}
+use Rattle.game_tree.specs.Tree.{Tree, Node}
+
+-- the nodes that play these moves, each the child of the node before it; the parent of the first has this number
+abbrev pub nodes_below : ℕ → List Move → List Node
+nodes_below n [] = []
+nodes_below n (m ∷ ms) = record { parent = Some n; setups = []; played = Some m } ∷ nodes_below (n + 1) ms
+
+-- the line of these moves
+abbrev pub line_of : Shape → Information → List Move → Tree
+line_of shape info moves = record { shape = shape; info = info; nodes = record { parent = None; setups = []; played = None } ∷ nodes_below 0 moves }
+
+-- a tree has room for the moves, and their points lie on the board
+pub record FitsTree (shape : Shape) (moves : List Move) : Type 0 where
+  pub most : length moves ≤ 65535
+  pub on_board : (k : ℕ) (d : Move) → k < length moves → IfSome (slice_index_or moves k d).point (IsOnBoard shape)
