@@ -12,7 +12,7 @@ use Rattle.std.specs.String.{string_cmp, string_cmp_total, string_eq}
 use Rattle.std.specs.declared.alloc.Global.{Global}
 use Rattle.std.proofs.lemmas.Bool.{and_parts, and_from}
 use Rattle.std.proofs.lemmas.List.{append-nil, get_or-map, length-map, map-append, map_more, map_push}
-use Rattle.std.proofs.lemmas.List.Elements.{All-contains, All-contains_itself, All-filter, All-map, filter-append, filter_passes}
+use Rattle.std.proofs.lemmas.List.Elements.{All-contains, All-contains_itself, All-filter, All-map, All-push, Contains-get_or, filter-append, filter_passes}
 use Rattle.std.proofs.lemmas.List.Filters.{dedup_is}
 use Rattle.std.proofs.lemmas.List.Folds.{Any-from_list_any}
 use Rattle.std.proofs.lemmas.List.Kept.{Contains-dedup, Contains-from_dedup, IsStrictlySortedBy-dedup}
@@ -154,3 +154,14 @@ IsListing-from files path taken names is keeps adds_none distinct =
       complete = λ name has sgf. keeps name (subst (λ all. Contains all name) (sym is) (sgf_names_of-complete files path name has sgf));
       distinct = distinct;
     }
+
+-- one more name that ends in `.sgf`
+pub sgf_pushed : (names : List (String Global)) (name : String Global) → is_sgf_name (string_bytes name) ≡ true →
+    All IsSgfName (map string_bytes names) → All IsSgfName (map string_bytes (names ++ name ∷ []))
+sgf_pushed names name test all =
+    subst (All IsSgfName) (sym (map_push string_bytes names name))
+        (All-push IsSgfName (map string_bytes names) (string_bytes name) all ((IsSgfName-decides (string_bytes name)).0 test))
+
+-- what holds of each of some elements holds of each of those among them
+pub All-among : {X : Type 0} (P : X → Type 0) (xs ys : List X) → ((x : X) → Contains ys x → Contains xs x) → All P xs → All P ys
+All-among P xs ys among all k d lt = All-contains P xs (get_or ys k d) all (among (get_or ys k d) (Contains-get_or ys k d lt))

@@ -19,5 +19,5 @@ source_faults source = source.faults
 abbrev pub sink_faults : {W : Type 0} → RealSink W → ℕ
 sink_faults sink = sink.faults
 
-abbrev pub folder_faults : {R : Type 0} → RealFolder R → ℕ
+abbrev pub folder_faults : {R File Dir : Type 0} → RealFolder R File Dir → ℕ
 folder_faults folder = folder.faults

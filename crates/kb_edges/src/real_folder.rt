@@ -32,6 +32,7 @@ impl<R: Files + AllocGlobal + Clone + Drop> RealFolder<R> {
     // The answer to an error, which is counted unless it is want of memory.
     fn refusal(&mut self, error: io::Error) -> FolderError
         ensures answer { (result ≡ FolderError.NoMemory) ⊎ (result ≡ FolderError.Failed) }
+        ensures later { folder_faults self.old ≤ folder_faults self.new }
         ensures faults { result ≡ FolderError.NoMemory → folder_faults self.new ≡ folder_faults self.old }
         ensures faults_rise { result ≡ FolderError.Failed → folder_faults self.new ≡ next_count (folder_faults self.old) }
     {
