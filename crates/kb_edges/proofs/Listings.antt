@@ -51,15 +51,15 @@ pub sgf_names_of-complete : (files : List File) (path name : List ℕ) →
     HasFile files path name → IsSgfName name → Contains (sgf_names_of files path) name
 sgf_names_of-complete files path name has sgf =
     let listed : (file : File) → has_place path name file ≡ true → is_listed path file ≡ true =
-        λ file e. let same = has_place-same path name file e in
-            and_from (bytes_eq file.path path) (is_sgf_name file.name) ((bytes_eq-Decides file.path path).1 same.0)
-                (ap is_sgf_name same.1 ∙ (IsSgfName-decides name).1 sgf) in
+    λ file e. let same = has_place-same path name file e in
+    and_from (bytes_eq file.path path) (is_sgf_name file.name) ((bytes_eq-Decides file.path path).1 same.0)
+    (ap is_sgf_name same.1 ∙ (IsSgfName-decides name).1 sgf) in
     let found : list_any (has_place path name) (filter (is_listed path) files) ≡ true =
-        any-filter_same (has_place path name) (is_listed path) true listed files ∙ HasFile-any files path name has in
+    any-filter_same (has_place path name) (is_listed path) true listed files ∙ HasFile-any files path name has in
     let at = Any-from_list_any (has_place path name) (filter (is_listed path) files) found in
     let is : get_or (sgf_names_of files path) at.0 name ≡ name =
-        get_or-map (λ file. file.name) (filter (is_listed path) files) at.0 at.1 name at.2
-        ∙ ap (λ file. file.name) at.3 ∙ (has_place-same path name at.1 at.4).1 in
+    get_or-map (λ file. file.name) (filter (is_listed path) files) at.0 at.1 name at.2
+    ∙ ap (λ file. file.name) at.3 ∙ (has_place-same path name at.1 at.4).1 in
     (at.0, subst (λ n. at.0 < n) (sym (length-map (filter (is_listed path) files) (λ file. file.name))) at.2, is)
 
 -- one more file
@@ -68,7 +68,7 @@ sgf_names_of-more : (entries : List FileEntry) (path : List ℕ) (i : ℕ) (entr
     ≡ sgf_names_of (files_of (take i entries)) path ++ map (λ file. file.name) (filter (is_listed path) (file_of entry ∷ []))
 sgf_names_of-more entries path i entry lt is =
     let more : files_of (take (i + 1) entries) ≡ files_of (take i entries) ++ file_of entry ∷ [] =
-        map_more file_of entries i entry lt ∙ ap (λ e. files_of (take i entries) ++ file_of e ∷ []) (sym is) in
+    map_more file_of entries i entry lt ∙ ap (λ e. files_of (take i entries) ++ file_of e ∷ []) (sym is) in
     ap (λ files. sgf_names_of files path) more
     ∙ ap (map (λ file. file.name)) (filter-append (is_listed path) (files_of (take i entries)) (file_of entry ∷ []))
     ∙ map-append (λ file. file.name) (filter (is_listed path) (files_of (take i entries))) (filter (is_listed path) (file_of entry ∷ []))
@@ -77,8 +77,8 @@ pub listed_kept : (entries : List FileEntry) (path : List ℕ) (i : ℕ) (entry 
     is_listed path (file_of entry) ≡ false → names ≡ sgf_names_of (files_of (take i entries)) path → names ≡ sgf_names_of (files_of (take (i + 1) entries)) path
 listed_kept entries path i entry names lt is test so_far =
     so_far ∙ sym (sgf_names_of-more entries path i entry lt is
-        ∙ ap (λ b. sgf_names_of (files_of (take i entries)) path ++ map (λ file. file.name) (cond b (file_of entry ∷ []) [])) test
-        ∙ append-nil (sgf_names_of (files_of (take i entries)) path))
+    ∙ ap (λ b. sgf_names_of (files_of (take i entries)) path ++ map (λ file. file.name) (cond b (file_of entry ∷ []) [])) test
+    ∙ append-nil (sgf_names_of (files_of (take i entries)) path))
 
 pub listed_pushed : (entries : List FileEntry) (path : List ℕ) (i : ℕ) (entry : FileEntry) (names : List (String Global)) (name : String Global) → i < length entries → entry ≡ get_or entries i entry →
     is_listed path (file_of entry) ≡ true → string_bytes name ≡ string_bytes entry.name →
@@ -87,7 +87,7 @@ listed_pushed entries path i entry names name lt is test same so_far =
     map_push string_bytes names name
     ∙ (λ j. so_far j ++ same j ∷ [])
     ∙ sym (sgf_names_of-more entries path i entry lt is
-        ∙ ap (λ b. sgf_names_of (files_of (take i entries)) path ++ map (λ file. file.name) (cond b (file_of entry ∷ []) [])) test)
+    ∙ ap (λ b. sgf_names_of (files_of (take i entries)) path ++ map (λ file. file.name) (cond b (file_of entry ∷ []) [])) test)
 
 -- names without repeats as texts
 dedup_from-texts : (name : String Global) (names : List (String Global)) →
@@ -95,8 +95,8 @@ dedup_from-texts : (name : String Global) (names : List (String Global)) →
 dedup_from-texts name [] = refl
 dedup_from-texts name (next ∷ names) =
     elim (string_eq next name) as (λ b.
-        map string_bytes (cond b (dedup_from string_eq name names) (name ∷ dedup_from string_eq next names))
-        ≡ cond b (dedup_from bytes_eq (string_bytes name) (map string_bytes names)) (string_bytes name ∷ dedup_from bytes_eq (string_bytes next) (map string_bytes names)))
+    map string_bytes (cond b (dedup_from string_eq name names) (name ∷ dedup_from string_eq next names))
+    ≡ cond b (dedup_from bytes_eq (string_bytes name) (map string_bytes names)) (string_bytes name ∷ dedup_from bytes_eq (string_bytes next) (map string_bytes names)))
     [ true ↦ dedup_from-texts name names | false ↦ ap (λ rest. string_bytes name ∷ rest) (dedup_from-texts next names) ]
 
 dedup-texts : (names : List (String Global)) → map string_bytes (dedup string_eq names) ≡ dedup bytes_eq (map string_bytes names)
@@ -126,7 +126,7 @@ module _ (names sorted kept : List (String Global)) (moved : IsPermutation names
   pub sorted-keeps : (name : List ℕ) → Contains (map string_bytes names) name → Contains (map string_bytes kept) name
   sorted-keeps name has = subst (λ all. Contains all name) (sym kept_texts)
       (Contains-dedup nat_list_eq_equiv (λ x y e. (bytes_eq-Decides x y).0 e) (map string_bytes sorted) name
-          (Contains-permutation (map string_bytes names) (map string_bytes sorted) name moved_texts has))
+      (Contains-permutation (map string_bytes names) (map string_bytes sorted) name moved_texts has))
 
   -- they add none
   pub sorted-adds_none : (name : List ℕ) → Contains (map string_bytes kept) name → Contains (map string_bytes names) name
@@ -137,8 +137,8 @@ module _ (names sorted kept : List (String Global)) (moved : IsPermutation names
   pub sorted-distinct : IsSorted string_cmp sorted → AllPairs (λ x y. x ≢ y) (map string_bytes kept)
   sorted-distinct rises = AllPairs-from_IsDistinct bytes_eq-Decides (map string_bytes kept)
       (IsDistinct-texts kept (subst (IsDistinct (eq_by_cmp string_cmp)) (sym (dedup_is string_eq sorted kept filtered))
-          (IsDistinct-from_sorted string_cmp (dedup string_eq sorted)
-              (IsStrictlySortedBy-dedup string_cmp_total (λ x y. texts_ties (string_bytes x) (string_bytes y)) sorted rises))))
+      (IsDistinct-from_sorted string_cmp (dedup string_eq sorted)
+      (IsStrictlySortedBy-dedup string_cmp_total (λ x y. texts_ties (string_bytes x) (string_bytes y)) sorted rises))))
 
 -- names with the same members, each once, are a listing
 pub IsListing-from : (files : List File) (path : List ℕ) (taken names : List (List ℕ)) → taken ≡ sgf_names_of files path →
@@ -146,8 +146,8 @@ pub IsListing-from : (files : List File) (path : List ℕ) (taken names : List (
     AllPairs (λ x y. x ≢ y) names → IsListing files path names
 IsListing-from files path taken names is keeps adds_none distinct =
     let listed : (name : List ℕ) → Contains names name → IsListedName files path name =
-        λ name has. All-contains (IsListedName files path) (sgf_names_of files path) name (sgf_names_of-sound files path)
-            (subst (λ all. Contains all name) is (adds_none name has)) in
+    λ name has. All-contains (IsListedName files path) (sgf_names_of files path) name (sgf_names_of-sound files path)
+    (subst (λ all. Contains all name) is (adds_none name has)) in
     record {
       there = λ name has. (listed name has).0;
       sgf = λ name has. (listed name has).1;
@@ -160,7 +160,7 @@ pub sgf_pushed : (names : List (String Global)) (name : String Global) → is_sg
     All IsSgfName (map string_bytes names) → All IsSgfName (map string_bytes (names ++ name ∷ []))
 sgf_pushed names name test all =
     subst (All IsSgfName) (sym (map_push string_bytes names name))
-        (All-push IsSgfName (map string_bytes names) (string_bytes name) all ((IsSgfName-decides (string_bytes name)).0 test))
+    (All-push IsSgfName (map string_bytes names) (string_bytes name) all ((IsSgfName-decides (string_bytes name)).0 test))
 
 -- what holds of each of some elements holds of each of those among them
 pub All-among : {X : Type 0} (P : X → Type 0) (xs ys : List X) → ((x : X) → Contains ys x → Contains xs x) → All P xs → All P ys

@@ -55,17 +55,18 @@ pub find-files : (test : File → Bool) (entries : List FileEntry) →
 find-files test [] = refl
 find-files test (entry ∷ entries) =
     elim (test (file_of entry)) as (λ b.
-        option_map (λ e. e.bytes.items) (cond b (Some entry) (find (λ e. test (file_of e)) entries))
-        ≡ option_map (λ file. file.bytes) (cond b (Some (file_of entry)) (find test (files_of entries))))
+    option_map (λ e. e.bytes.items) (cond b (Some entry) (find (λ e. test (file_of e)) entries))
+    ≡ option_map (λ file. file.bytes) (cond b (Some (file_of entry)) (find test (files_of entries))))
     [ true ↦ refl | false ↦ find-files test entries ]
 
 -- an entry has the path
 pub HasPath-decides : (entries : List FileEntry) (path : List ℕ) (r : Bool) →
     r ≡ list_any (λ entry. bytes_eq (string_bytes entry.path) path) entries → IsTrue r ↔ HasPath (files_of entries) path
 HasPath-decides entries path r is =
-    let same : r ≡ list_any (λ file. bytes_eq file.path path) (files_of entries) = is ∙ list_any-files (λ file. bytes_eq file.path path) entries in
-    (λ e. Any-weaker _ _ (λ file h. (bytes_eq-Decides file.path path).0 h) (files_of entries) (Any-from_list_any (λ file. bytes_eq file.path path) (files_of entries) (sym same ∙ e)),
-     λ has. same ∙ list_any-from_Any (λ file. bytes_eq file.path path) (files_of entries) (Any-weaker _ _ (λ file h. (bytes_eq-Decides file.path path).1 h) (files_of entries) has))
+    let same : r ≡ list_any (λ file. bytes_eq file.path path) (files_of entries) = is ∙ list_any-files (λ file. bytes_eq file.path path) entries in (
+      λ e. Any-weaker _ _ (λ file h. (bytes_eq-Decides file.path path).0 h) (files_of entries) (Any-from_list_any (λ file. bytes_eq file.path path) (files_of entries) (sym same ∙ e)),
+      λ has. same ∙ list_any-from_Any (λ file. bytes_eq file.path path) (files_of entries) (Any-weaker _ _ (λ file h. (bytes_eq-Decides file.path path).1 h) (files_of entries) has),
+    )
 
 -- a name ends in `.sgf`
 pub IsSgfName-decides : (name : List ℕ) → Decides (is_sgf_name name) (IsSgfName name)
@@ -85,4 +86,4 @@ pub content_of-found : (entries seen : List FileEntry) (path name : List ℕ) (f
     content_of (files_of entries) path name ≡ option_map (λ entry. entry.now.bytes.items) found
 content_of-found entries seen path name found same is =
     sym (option_map-now found ∙ ap (option_map (λ entry. entry.bytes.items)) is
-        ∙ find-files (has_place path name) seen ∙ ap (λ all. content_of (files_of all) path name) same)
+    ∙ find-files (has_place path name) seen ∙ ap (λ all. content_of (files_of all) path name) same)

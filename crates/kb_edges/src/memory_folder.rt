@@ -4,8 +4,8 @@ ghost use Rattle.kb_edges.specs.Faults.{next_count};
 ghost use Rattle.kb_edges.specs.Files.{HasPath, IsListing, content_of};
 ghost use Rattle.kb_edges.specs.Told.{IfTold};
 
-use crate::search::{first_file, has_path, sgf_names};
 use crate::plan::FailurePlan;
+use crate::search::{first_file, has_path, sgf_names};
 use crate::{FileEntry, Folder, FolderError, MAX_LIMIT};
 use std::alloc::Global;
 
@@ -76,7 +76,13 @@ impl Folder for MemoryFolder {
         Ok(sgf_names(alloc, &self.entries, path)?)
     }
 
-    fn read(&mut self, alloc: Global, path: &str, name: &str, limit: usize) -> Result<Vec<u8>, FolderError>
+    fn read(
+        &mut self,
+        alloc: Global,
+        path: &str,
+        name: &str,
+        limit: usize,
+    ) -> Result<Vec<u8>, FolderError>
         requires { limit ≤ MAX_LIMIT }
         ensures fails { IsErrOf result FolderError.Failed ↔ Contains (folder_fails self.old) (folder_calls self.old) }
         ensures bound { IfOk result (λ bytes. vec_len bytes ≤ limit + 1) }

@@ -6,10 +6,9 @@ ghost use Rattle.kb_edges.specs.Files.{IsSgfName};
 use crate::search::{is_sgf_name, sort_names};
 use crate::{Folder, FolderError, MAX_LIMIT};
 use std::alloc::Global;
-use std::fs;
-use std::io;
 use std::io::{ErrorKind, Read};
 use std::rt::Files;
+use std::{fs, io};
 
 /// The files of the system. It tells nothing of them. Each error of the system is a fault, and so is a name in a
 /// directory that is not UTF-8. A path that is not there is a fault too: it never answers `Missing`.
@@ -45,7 +44,11 @@ impl<R: Files + AllocGlobal + Clone + Drop> RealFolder<R> {
 }
 
 // The names in a directory that end in `.sgf`, each once.
-fn names_in<R: Files + AllocGlobal + Clone + Drop>(rt: &R, alloc: Global, path: &str) -> io::Result<Vec<String>>
+fn names_in<R: Files + AllocGlobal + Clone + Drop>(
+    rt: &R,
+    alloc: Global,
+    path: &str,
+) -> io::Result<Vec<String>>
     ensures sgf { IfOk result (λ names. All IsSgfName (map string_bytes names.items)) }
     ensures distinct { IfOk result (λ names. AllPairs (λ x y. x ≢ y) (map string_bytes names.items)) }
 {
@@ -62,7 +65,13 @@ fn names_in<R: Files + AllocGlobal + Clone + Drop>(rt: &R, alloc: Global, path: 
 }
 
 // The first `limit + 1` bytes of a file, or all of them.
-fn read_file<R: Files>(rt: &R, alloc: Global, path: &str, name: &str, limit: usize) -> io::Result<Vec<u8>>
+fn read_file<R: Files>(
+    rt: &R,
+    alloc: Global,
+    path: &str,
+    name: &str,
+    limit: usize,
+) -> io::Result<Vec<u8>>
     requires { limit ≤ MAX_LIMIT }
     ensures { IfOk result (λ bytes. vec_len bytes ≤ limit + 1) }
 {
@@ -95,7 +104,13 @@ impl<R: Files + AllocGlobal + Clone + Drop> Folder for RealFolder<R> {
         }
     }
 
-    fn read(&mut self, alloc: Global, path: &str, name: &str, limit: usize) -> Result<Vec<u8>, FolderError>
+    fn read(
+        &mut self,
+        alloc: Global,
+        path: &str,
+        name: &str,
+        limit: usize,
+    ) -> Result<Vec<u8>, FolderError>
         requires { limit ≤ MAX_LIMIT }
         ensures bound { IfOk result (λ bytes. vec_len bytes ≤ limit + 1) }
         ensures never_missing { result ≢ Err FolderError.Missing }

@@ -19,9 +19,7 @@ pub fn has_path(files: &[FileEntry], path: &str) -> bool
 pub fn first_file<'a>(files: &'a [FileEntry], path: &str, name: &str) -> Option<&'a FileEntry>
     ensures { option_copied result ≡ find (λ entry. bytes_eq (string_bytes entry.path) path.now && bytes_eq (string_bytes entry.name) name.now) files.now }
 {
-    files
-        .iter()
-        .find(|file| file.path.as_str() == path && file.name.as_str() == name)
+    files.iter().find(|file| file.path.as_str() == path && file.name.as_str() == name)
 }
 
 pub fn is_sgf_name(name: &str) -> bool
