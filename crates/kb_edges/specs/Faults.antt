@@ -12,3 +12,7 @@ RoseBy n before now = min (before + n) fault_ceiling ≤ now
 -- the count rose by at least one, or stands at its ceiling
 abbrev pub Rose : ℕ → ℕ → Type 0
 Rose before now = RoseBy 1 before now
+
+-- the next count, or the ceiling
+abbrev pub next_count : ℕ → ℕ
+next_count n = min (n + 1) fault_ceiling

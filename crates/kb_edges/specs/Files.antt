@@ -1,5 +1,6 @@
 -- The files of a folder. A path, a name and a content are lists of bytes.
-use Rattle.std.specs.Prelude.{◌≡◌, ◌≢◌, ℕ, List, ◌++◌, ◌&&◌, Any, AllPairs, Contains, find, codes}
+use Rattle.std.specs.Prelude.{◌≡◌, ◌≢◌, ℕ, Bool, List, ◌++◌, ◌&&◌, nat_eq, map, filter, find, Any, AllPairs, Contains, codes}
+use Rattle.std.specs.List.{ends_with}
 use Rattle.std.specs.Option.{option_map}
 use Rattle.std.specs.Str.{bytes_eq}
 use Rattle.std.specs.declared.option.Option.{Option}
@@ -26,6 +27,15 @@ content_of files path name =
 -- the name ends in `.sgf`, byte for byte; `.sgf` alone does too
 abbrev pub IsSgfName : List ℕ → Type 0
 IsSgfName name = (stem : List ℕ) × (name ≡ stem ++ codes ".sgf")
+
+-- whether the name ends in `.sgf`
+abbrev pub is_sgf_name : List ℕ → Bool
+is_sgf_name name = ends_with nat_eq name (codes ".sgf")
+
+-- the names of the files under this path that end in `.sgf`, in the order of the files, with repeats
+abbrev pub sgf_names_of : List File → List ℕ → List (List ℕ)
+sgf_names_of files path =
+    map (λ file. file.name) (filter (λ file. bytes_eq file.path path && is_sgf_name file.name) files)
 
 -- the names of the files under this path that end in `.sgf`, each once, in any order
 pub record IsListing (files : List File) (path : List ℕ) (names : List (List ℕ)) : Type 0 where

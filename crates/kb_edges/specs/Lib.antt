@@ -1,3 +1,6 @@
+pub mod Entries
 pub mod Faults
 pub mod Files
+pub mod Memory
+pub mod Real
 pub mod Told

@@ -1,4 +1,9 @@
 // What a call of the outside answers where it fails.
+ghost use Rattle.std.specs.Prelude.{◌≡◌};
+ghost use Rattle.kb_edges.specs.declared.errors.FolderError.TheVariants.{NoMemory};
+ghost use Rattle.kb_edges.specs.declared.errors.SinkError.TheVariants as sink;
+
+use std::alloc::AllocError;
 
 /// A read failed: the count of faults rose in that call.
 #[derive(Clone, Copy, Debug, PartialEq, Eq)]
@@ -22,4 +27,20 @@ pub enum FolderError {
     Missing,
     /// Want of memory.
     NoMemory,
+}
+
+impl From<AllocError> for SinkError {
+    ghost from_gives = { λ _ e. e ≡ sink.NoMemory };
+
+    fn from(_: AllocError) -> Self {
+        SinkError::NoMemory
+    }
+}
+
+impl From<AllocError> for FolderError {
+    ghost from_gives = { λ _ e. e ≡ NoMemory };
+
+    fn from(_: AllocError) -> Self {
+        FolderError::NoMemory
+    }
 }

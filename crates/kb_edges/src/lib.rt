@@ -6,7 +6,26 @@
 #![tactic(auto)]
 
 mod errors;
+mod file_entry;
+mod memory_folder;
+mod memory_sink;
+mod memory_source;
+mod plan;
+mod real_folder;
+mod real_sink;
+mod real_source;
+mod search;
 mod traits;
 
 pub use errors::{FolderError, ReadFailed, SinkError};
+pub use file_entry::FileEntry;
+pub use memory_folder::MemoryFolder;
+pub use memory_sink::MemorySink;
+pub use memory_source::MemorySource;
+pub use real_folder::RealFolder;
+pub use real_sink::RealSink;
+pub use real_source::RealSource;
 pub use traits::{Folder, MAX_LIMIT, Sink, Source};
+
+#[cfg(test)]
+mod tests;

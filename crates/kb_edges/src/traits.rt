@@ -78,7 +78,13 @@ pub trait Folder: Drop {
         ensures failed { IsErrOf result FolderError.Failed → Rose (faults self.old) (faults self.new) };
 
     /// The first `limit + 1` bytes of a file, or all of them if there are fewer.
-    fn read(&mut self, alloc: Global, path: &str, name: &str, limit: usize) -> Result<Vec<u8>, FolderError>
+    fn read(
+        &mut self,
+        alloc: Global,
+        path: &str,
+        name: &str,
+        limit: usize,
+    ) -> Result<Vec<u8>, FolderError>
         requires { limit ≤ MAX_LIMIT }
 
         ensures bound { IfOk result (λ bytes. vec_len bytes ≤ limit + 1) }

@@ -1,0 +1,12 @@
+use Rattle.kb_edges.proofs.Listings.{sorted-adds_none, sorted-distinct, sorted-keeps}
+use Rattle.kb_edges.proofs.search.sort_names.Goals as goal
+
+pub returns : goal.returns
+returns c =
+    let moved = c.sort_unstable.ensures.permutation in
+    let filtered = c.dedup.ensures.filtered in
+    record {
+      distinct = sorted-distinct _ _ _ moved filtered c.sort_unstable.ensures.sorted;
+      kept = sorted-keeps _ _ _ moved filtered;
+      none_added = sorted-adds_none _ _ _ moved filtered;
+    }

@@ -1,0 +1,126 @@
+// A folder over the file system.
+ghost use Rattle.std.specs.Prelude.{◌≡◌, ◌≢◌, ◌⊎◌, ◌+◌, ◌≤◌, None, map, string_bytes, vec_len, All, AllPairs, IfOk, IsErrOf};
+ghost use Rattle.kb_edges.specs.Faults.{next_count};
+ghost use Rattle.kb_edges.specs.Files.{IsSgfName};
+
+use crate::search::{is_sgf_name, sort_names};
+use crate::{Folder, FolderError, MAX_LIMIT};
+use std::alloc::Global;
+use std::io::{ErrorKind, Read};
+use std::rt::Files;
+use std::{fs, io};
+
+/// The files of the system. It tells nothing of them. Each error of the system is a fault, and so is a name in a
+/// directory that is not UTF-8. A path that is not there is a fault too: it never answers `Missing`.
+#[derive(Drop)]
+pub struct RealFolder<R: Files + AllocGlobal + Clone + Drop> {
+    rt: R,
+    faults: u64,
+}
+
+impl<R: Files + AllocGlobal + Clone + Drop> RealFolder<R> {
+    ghost use Rattle.kb_edges.specs.Real.{folder_faults};
+
+    /// The files of this runtime, with no fault so far.
+    pub fn new(rt: R) -> RealFolder<R>
+        ensures { folder_faults result ≡ 0 }
+    {
+        RealFolder { rt, faults: 0 }
+    }
+
+    // The answer to an error, which is counted unless it is want of memory.
+    fn refusal(&mut self, error: io::Error) -> FolderError
+        ensures answer { (result ≡ FolderError.NoMemory) ⊎ (result ≡ FolderError.Failed) }
+        ensures later { folder_faults self.old ≤ folder_faults self.new }
+        ensures faults { result ≡ FolderError.NoMemory → folder_faults self.new ≡ folder_faults self.old }
+        ensures faults_rise { result ≡ FolderError.Failed → folder_faults self.new ≡ next_count (folder_faults self.old) }
+    {
+        if error.kind() == ErrorKind::OutOfMemory {
+            return FolderError::NoMemory;
+        }
+        self.faults = self.faults.saturating_add(1);
+        FolderError::Failed
+    }
+}
+
+// The names in a directory that end in `.sgf`, each once.
+fn names_in<R: Files + AllocGlobal + Clone + Drop>(
+    rt: &R,
+    alloc: Global,
+    path: &str,
+) -> io::Result<Vec<String>>
+    ensures sgf { IfOk result (λ names. All IsSgfName (map string_bytes names.items)) }
+    ensures distinct { IfOk result (λ names. AllPairs (λ x y. x ≢ y) (map string_bytes names.items)) }
+{
+    let mut names = Vec::new(alloc);
+    for entry in fs::read_dir(rt, path)? {
+        let entry = entry?;
+        let name = entry.file_name();
+        if is_sgf_name(name) {
+            names.push(String::from_str(alloc, name)?)?;
+        }
+    }
+    sort_names(&mut names);
+    Ok(names)
+}
+
+// The first `limit + 1` bytes of a file, or all of them.
+fn read_file<R: Files>(
+    rt: &R,
+    alloc: Global,
+    path: &str,
+    name: &str,
+    limit: usize,
+) -> io::Result<Vec<u8>>
+    requires { limit ≤ MAX_LIMIT }
+    ensures { IfOk result (λ bytes. vec_len bytes ≤ limit + 1) }
+{
+    let path = format!(in alloc; "{path}/{name}")?;
+    let file = fs::open(rt, path.as_str())?;
+    let mut bytes = Vec::new(alloc);
+    file.take(limit as u64 + 1).read_to_end(&mut bytes)?;
+    bytes.truncate(limit + 1);
+    Ok(bytes)
+}
+
+impl<R: Files + AllocGlobal + Clone + Drop> Folder for RealFolder<R> {
+    ghost use Rattle.kb_edges.specs.Real.{folder_faults};
+
+    ghost files = { λ _. None };
+
+    ghost faults = { folder_faults };
+
+    fn list(&mut self, alloc: Global, path: &str) -> Result<Vec<String>, FolderError>
+        ensures sgf { IfOk result (λ names. All IsSgfName (map string_bytes names.items)) }
+        ensures distinct { IfOk result (λ names. AllPairs (λ x y. x ≢ y) (map string_bytes names.items)) }
+        ensures never_missing { result ≢ Err FolderError.Missing }
+        ensures later { folder_faults self.old ≤ folder_faults self.new }
+        ensures faults { result ≢ Err FolderError.Failed → folder_faults self.new ≡ folder_faults self.old }
+        ensures faults_rise { IsErrOf result FolderError.Failed → folder_faults self.new ≡ next_count (folder_faults self.old) }
+    {
+        match names_in(&self.rt, alloc, path) {
+            Ok(names) => Ok(names),
+            Err(error) => Err(self.refusal(error)),
+        }
+    }
+
+    fn read(
+        &mut self,
+        alloc: Global,
+        path: &str,
+        name: &str,
+        limit: usize,
+    ) -> Result<Vec<u8>, FolderError>
+        requires { limit ≤ MAX_LIMIT }
+        ensures bound { IfOk result (λ bytes. vec_len bytes ≤ limit + 1) }
+        ensures never_missing { result ≢ Err FolderError.Missing }
+        ensures later { folder_faults self.old ≤ folder_faults self.new }
+        ensures faults { result ≢ Err FolderError.Failed → folder_faults self.new ≡ folder_faults self.old }
+        ensures faults_rise { IsErrOf result FolderError.Failed → folder_faults self.new ≡ next_count (folder_faults self.old) }
+    {
+        match read_file(&self.rt, alloc, path, name, limit) {
+            Ok(bytes) => Ok(bytes),
+            Err(error) => Err(self.refusal(error)),
+        }
+    }
+}
