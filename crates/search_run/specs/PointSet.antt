@@ -1,5 +1,5 @@
 -- A set of points by a list of its members and a mark for each point.
-use Rattle.std.specs.Prelude.{◌≡◌, ℕ, ◌≤◌, ◌↔◌, ◌⊎◌, ◌++◌, [], ◌∷◌, List, Bool, true, false, length, take, slice_index_or, count_by, Contains}
+use Rattle.std.specs.Prelude.{◌≡◌, ℕ, ◌<◌, ◌≤◌, ◌⊎◌, ◌++◌, [], ◌∷◌, List, Bool, true, false, length, take, slice_index, slice_index_or, count_by, Contains}
 
 -- The first len points of a list are the members, and the points that are marked. There are as many marks as members.
 pub record IsPointSet (points : List ℕ) (len : ℕ) (has : List Bool) : Type 0 where
@@ -11,3 +11,8 @@ pub record IsPointSet (points : List ℕ) (len : ℕ) (has : List Bool) : Type 0
 -- after is before with the point, at the end where it was not there
 abbrev pub IsWithPoint : List ℕ → ℕ → List ℕ → Type 0
 IsWithPoint before point after = (Contains before point × (after ≡ before)) ⊎ ((¬ Contains before point) × (after ≡ before ++ point ∷ []))
+
+-- after begins with before
+pub record Extends (before after : List ℕ) : Type 0 where
+  pub no_shorter : length before ≤ length after
+  pub same : (k : ℕ) → k < length before → slice_index after k ≡ slice_index before k

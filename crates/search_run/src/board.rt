@@ -1,11 +1,19 @@
 // A board of fixed room that plays moves by the capture rule.
-ghost use Rattle.std.specs.Prelude.{◌≡◌, ◌<◌, take};
+ghost use Rattle.std.specs.Prelude.{◌≡◌, ◌<◌, length};
+
+ghost use Rattle.kb_geometry.specs.Board.{point_count};
+ghost use Rattle.kb_geometry.specs.Capture.{IsPlayed};
 
 use std::marker::Model;
 
 use kb_geometry::{Cell, Colour, MAX_POINTS, Point, Shape};
 
+use captures::{captured, clear, other_side, stone_of};
+use groups::surrounded_group;
+
 mod adjacent;
+mod captures;
+mod groups;
 mod point_set;
 
 /// The room that each board has: the points of the greatest board.
@@ -49,5 +57,30 @@ impl Board {
         ensures { result ≡ cell_at self.now.position number }
     {
         self.cells[usize::from(number)]
+    }
+
+    /// Plays a stone of a side on a point, whatever stands there, by the capture rule.
+    pub fn play(&mut self, side: Colour, point: Point)
+        requires { IsOnBoard self.old.shape point }
+        ensures shape { self.new.shape ≡ self.old.shape }
+        ensures played { IsPlayed self.old.shape self.old.position side (number_of self.old.shape point) self.new.position }
+    {
+        let number = self.shape.number(point);
+        let count = usize::from(self.shape.count());
+        play_on(self.shape, &mut self.cells[..count], side, number);
+    }
+}
+
+/// Plays a stone of a side on a point of a position.
+fn play_on(shape: Shape, cells: &mut [Cell], side: Colour, point: u16)
+    requires whole { length cells.old ≡ point_count shape }
+    requires on_board { point < point_count shape }
+    ensures { IsPlayed shape cells.old side point cells.new }
+{
+    cells[usize::from(point)] = stone_of(side);
+    let taken = captured(shape, cells, other_side(side), point);
+    clear(cells, &taken);
+    if let Some(group) = surrounded_group(shape, cells, point) {
+        clear(cells, &group);
     }
 }

@@ -1,5 +1,5 @@
 // The neighbours of a point of a board.
-ghost use Rattle.std.specs.Prelude.{◌≡◌, ℕ, ◌<◌, ◌↔◌, ◌+◌, ◌-◌, ◌*◌, Contains};
+ghost use Rattle.std.specs.Prelude.{◌≡◌, ℕ, ◌<◌, ◌↔◌, ◌+◌, ◌-◌, ◌*◌, length, Contains};
 ghost use Rattle.kb_geometry.specs.Board.{point_count, AreNeighbours};
 
 use kb_geometry::{Point, Shape};
@@ -7,7 +7,8 @@ use kb_geometry::{Point, Shape};
 /// The neighbours of the point with this number: left, right, up and down, each where it is on the board.
 pub fn neighbours(shape: Shape, number: u16) -> [Option<u16>; 4]
     requires { number < point_count shape }
-    ensures { (q : ℕ) → Contains result (Some q) ↔ AreNeighbours shape number q }
+    ensures four { length result ≡ 4 }
+    ensures all { (q : ℕ) → Contains result (Some q) ↔ AreNeighbours shape number q }
 {
     let Point { x, y } = shape.point(number);
     let left = if x > 0 { Some(shape.number(Point { x: x - 1, y })) } else { None };

@@ -1,5 +1,5 @@
 // A set of points in the order in which they came, in fixed room.
-ghost use Rattle.std.specs.Prelude.{◌≡◌, ℕ, ◌≤◌, ◌<◌, [], List, length, take, slice_index};
+ghost use Rattle.std.specs.Prelude.{◌≡◌, ℕ, ◌≤◌, ◌<◌, ◌↔◌, ◌⊎◌, [], List, length, take, slice_index, Contains};
 ghost use Rattle.search_run.specs.PointSet.{IsPointSet, IsWithPoint};
 
 use std::marker::Model;
@@ -45,7 +45,8 @@ impl PointSet {
     /// The point that came after this many others.
     pub fn at(&self, index: usize) -> u16
         requires { index < length self.now }
-        ensures { result ≡ slice_index self.now index }
+        ensures value { result ≡ slice_index self.now index }
+        ensures in_range { result < ROOM }
     {
         let points = &self.points;
         points[index]
@@ -61,6 +62,15 @@ impl PointSet {
             self.has[index] = true;
             self.points[self.len] = point;
             self.len += 1;
+        }
+    }
+
+    /// Adds the points of another set.
+    pub fn insert_all(&mut self, others: &PointSet)
+        ensures { (q : ℕ) → Contains self.new q ↔ (Contains self.old q ⊎ Contains others.now q) }
+    {
+        for index in 0..others.len() {
+            self.insert(others.at(index));
         }
     }
 }

@@ -5,8 +5,8 @@ use Rattle.search_run.proofs.Neighbours.{number_at, neighbours_are_four}
 use Rattle.search_run.proofs.board.adjacent.neighbours.Goals as goal
 use Rattle.search_run.proofs.board.adjacent.neighbours.Goals.{then-x-gt0, else-x-gt0, then-x-cols, else-x-cols, then-y-gt0, else-y-gt0, then-y-rows, else-y-rows}
 
-pub returns : goal.returns
-returns c =
+pub returns-clause-all : goal.returns-clause-all
+returns-clause-all c =
     let shape = c.args.shape in
     let p = c.point-x.result in
     let left : SomeIff c.if-x-gt0.left (0 < p.x) (number_at shape (p.x - 1) p.y) = elim c.if-x-gt0.branch [ then-x-gt0 w ↦ rw w.left-is (omega arith, w.number.ensures.value) | else-x-gt0 w ↦ rw w.left-is (λ h. omega arith) ] in
