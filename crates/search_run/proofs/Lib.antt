@@ -1,4 +1,5 @@
 pub mod Boards
+pub mod Captures
 pub mod Cells
 pub mod Groups
 pub mod Neighbours
