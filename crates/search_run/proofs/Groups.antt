@@ -127,10 +127,10 @@ module _ (shape : Shape) (position : Position) (start : ℕ) where
     within_more lt q (inr new) = go (Filled-member lt) new.0 new.1
 
     pub Filled-more : n < length group → (grown : List ℕ) → Extends group grown
-      → ((q : ℕ) → Contains grown q → Contains group q ⊎ (AreNeighbours shape (get_or group n 0) q × (cell_at position q ≡ cell_at position start)))
-      → ((q : ℕ) → AreNeighbours shape (get_or group n 0) q → cell_at position q ≢ cell.Empty)
-      → ((q : ℕ) → AreNeighbours shape (get_or group n 0) q → cell_at position q ≡ cell_at position start → Contains grown q)
-      → Filled shape position start grown (n + 1)
+        → ((q : ℕ) → Contains grown q → Contains group q ⊎ (AreNeighbours shape (get_or group n 0) q × (cell_at position q ≡ cell_at position start)))
+        → ((q : ℕ) → AreNeighbours shape (get_or group n 0) q → cell_at position q ≢ cell.Empty)
+        → ((q : ℕ) → AreNeighbours shape (get_or group n 0) q → cell_at position q ≡ cell_at position start → Contains grown q)
+        → Filled shape position start grown (n + 1)
     Filled-more lt grown extends only solid added = record {
       counted = omega arith;
       within = λ q h. within_more lt q (only q h);

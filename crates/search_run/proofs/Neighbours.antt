@@ -47,11 +47,10 @@ module _ (shape : Shape) (p : Point) (number : ℕ) (on_board : IsOnBoard shape 
   to_below h = record { from = p; to = point_at p.x (p.y + 1); from_on_board = on_board; to_on_board = (omega arith, omega arith); from_number = same; to_number = refl; one_step = inr (refl, inl refl) }
 
   module _ (left right above below : Option ℕ)
-    (left_is : SomeIff left (0 < p.x) (number_at shape (p.x - 1) p.y))
-    (right_is : SomeIff right (p.x + 1 < cols_of shape) (number_at shape (p.x + 1) p.y))
-    (above_is : SomeIff above (0 < p.y) (number_at shape p.x (p.y - 1)))
-    (below_is : SomeIff below (p.y + 1 < rows_of shape) (number_at shape p.x (p.y + 1))) where
-
+      (left_is : SomeIff left (0 < p.x) (number_at shape (p.x - 1) p.y))
+      (right_is : SomeIff right (p.x + 1 < cols_of shape) (number_at shape (p.x + 1) p.y))
+      (above_is : SomeIff above (0 < p.y) (number_at shape p.x (p.y - 1)))
+      (below_is : SomeIff below (p.y + 1 < rows_of shape) (number_at shape p.x (p.y + 1))) where
     are_neighbours : (q : ℕ) → (left ≡ Some q) ⊎ ((right ≡ Some q) ⊎ ((above ≡ Some q) ⊎ (below ≡ Some q))) → AreNeighbours shape number q
     are_neighbours q (inl e) = let v = SomeIff-value left _ _ q left_is e in rw (← v.1) (to_left v.0)
     are_neighbours q (inr (inl e)) = let v = SomeIff-value right _ _ q right_is e in rw (← v.1) (to_right v.0)

@@ -1,20 +1,19 @@
 // A board of fixed room that plays moves by the capture rule.
 ghost use Rattle.std.specs.Prelude.{◌≡◌, ◌<◌, length};
-
 ghost use Rattle.kb_geometry.specs.Board.{point_count};
 ghost use Rattle.kb_geometry.specs.Capture.{IsPlayed};
 
-use std::marker::Model;
-
-use kb_geometry::{Cell, Colour, MAX_POINTS, Point, Shape};
-
 use captures::{captured, clear, other_side, stone_of};
 use groups::surrounded_group;
+use kb_geometry::{Cell, Colour, MAX_POINTS, Point, Shape};
+use std::marker::Model;
 
 mod adjacent;
 mod captures;
 mod groups;
 mod point_set;
+#[cfg(test)]
+mod tests;
 
 /// The room that each board has: the points of the greatest board.
 const ROOM: usize = MAX_POINTS as usize;
@@ -54,7 +53,8 @@ impl Board {
     /// What stands on the point with this number.
     pub fn cell(&self, number: u16) -> Cell
         requires { number < point_count self.now.shape }
-        ensures { result ≡ cell_at self.now.position number }
+        ensures value { result ≡ cell_at self.now.position number }
+        ensures whole { length self.now.position ≡ point_count self.now.shape }
     {
         self.cells[usize::from(number)]
     }
@@ -64,6 +64,7 @@ impl Board {
         requires { IsOnBoard self.old.shape point }
         ensures shape { self.new.shape ≡ self.old.shape }
         ensures played { IsPlayed self.old.shape self.old.position side (number_of self.old.shape point) self.new.position }
+        ensures whole { length self.new.position ≡ point_count self.old.shape }
     {
         let number = self.shape.number(point);
         let count = usize::from(self.shape.count());

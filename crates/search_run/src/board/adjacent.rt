@@ -11,9 +11,25 @@ pub fn neighbours(shape: Shape, number: u16) -> [Option<u16>; 4]
     ensures all { (q : ℕ) → Contains result (Some q) ↔ AreNeighbours shape number q }
 {
     let Point { x, y } = shape.point(number);
-    let left = if x > 0 { Some(shape.number(Point { x: x - 1, y })) } else { None };
-    let right = if x + 1 < shape.cols() { Some(shape.number(Point { x: x + 1, y })) } else { None };
-    let up = if y > 0 { Some(shape.number(Point { x, y: y - 1 })) } else { None };
-    let down = if y + 1 < shape.rows() { Some(shape.number(Point { x, y: y + 1 })) } else { None };
+    let left = if x > 0 {
+        Some(shape.number(Point { x: x - 1, y }))
+    } else {
+        None
+    };
+    let right = if x + 1 < shape.cols() {
+        Some(shape.number(Point { x: x + 1, y }))
+    } else {
+        None
+    };
+    let up = if y > 0 {
+        Some(shape.number(Point { x, y: y - 1 }))
+    } else {
+        None
+    };
+    let down = if y + 1 < shape.rows() {
+        Some(shape.number(Point { x, y: y + 1 }))
+    } else {
+        None
+    };
     [left, right, up, down]
 }

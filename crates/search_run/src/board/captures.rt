@@ -3,11 +3,10 @@ ghost use Rattle.std.specs.Prelude.{◌≡◌, ℕ, ◌<◌, ◌↔◌, ◌⊎�
 ghost use Rattle.kb_geometry.specs.Board.{point_count};
 ghost use Rattle.kb_geometry.specs.Capture.{cell_at, stone_of, other_side, IsInGroup, HasLiberty, IsCaptured, IsWithout};
 
-use kb_geometry::{Cell, Colour, Shape};
-
 use super::adjacent::neighbours;
 use super::groups::surrounded_group;
 use super::point_set::PointSet;
+use kb_geometry::{Cell, Colour, Shape};
 
 /// The stone of a side.
 pub fn stone_of(side: Colour) -> Cell

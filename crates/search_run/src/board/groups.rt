@@ -5,10 +5,9 @@ ghost use Rattle.kb_geometry.specs.Capture.{cell_at, IsInGroup, HasLiberty};
 ghost use Rattle.kb_geometry.specs.declared.stone.Cell.TheVariants as cell;
 ghost use Rattle.search_run.specs.PointSet.{Extends};
 
-use kb_geometry::{Cell, Shape};
-
 use super::adjacent::neighbours;
 use super::point_set::PointSet;
+use kb_geometry::{Cell, Shape};
 
 /// The group of a point if it has no liberty, and `None` if it has one.
 pub fn surrounded_group(shape: Shape, cells: &[Cell], start: u16) -> Option<PointSet>
@@ -32,7 +31,13 @@ pub fn surrounded_group(shape: Shape, cells: &[Cell], start: u16) -> Option<Poin
 }
 
 /// Adds the neighbours of a point that have this cell, up to the first empty neighbour. Answers whether there is one.
-fn add_neighbours(shape: Shape, cells: &[Cell], point: u16, stone: Cell, group: &mut PointSet) -> bool
+fn add_neighbours(
+    shape: Shape,
+    cells: &[Cell],
+    point: u16,
+    stone: Cell,
+    group: &mut PointSet,
+) -> bool
     requires whole { length cells.now ≡ point_count shape }
     requires on_board { point < point_count shape }
     ensures liberty { IsTrue result ↔ ((q : ℕ) × AreNeighbours shape point q × (cell_at cells.now q ≡ cell.Empty)) }

@@ -2,9 +2,8 @@
 ghost use Rattle.std.specs.Prelude.{◌≡◌, ℕ, ◌≤◌, ◌<◌, ◌↔◌, ◌⊎◌, [], List, length, take, slice_index, Contains};
 ghost use Rattle.search_run.specs.PointSet.{IsPointSet, IsWithPoint};
 
-use std::marker::Model;
-
 use super::ROOM;
+use std::marker::Model;
 
 /// Points by their numbers, each once, in the order in which they came.
 #[derive(Drop)]

@@ -14,10 +14,11 @@ loop-next-preserved c =
     let more = IsTaken-more c.args.shape c.args.cells.now c.args.side c.args.point c.neighbours-around.result c.loop-next.taken c.loop-next.next-index c.loop-next.invariant in
     let skip = IsTaken-skip c.args.shape c.args.cells.now c.args.side c.args.point c.neighbours-around.result c.loop-next.taken c.loop-next.next-index c.loop-next.invariant in
     elim c.match-next.branch [
-      in-Some w ↦
-        let near = around_neighbour c.args.shape c.args.point c.neighbours-around.result c.neighbours-around.ensures.all c.loop-next.next-index w.in-Some.touching w.in-Some.is in
-        rw w.taken-is (more w.in-Some.touching w.in-Some.is near w.add_surrounded.new.taken (λ q. rw c.stone_of-stone.ensures at (w.add_surrounded.ensures q)))
-    | in_default w ↦ rw w.taken-is (skip w.in_default.is) ]
+      | in-Some w ↦
+          let near = around_neighbour c.args.shape c.args.point c.neighbours-around.result c.neighbours-around.ensures.all c.loop-next.next-index w.in-Some.touching w.in-Some.is in
+          rw w.taken-is (more w.in-Some.touching w.in-Some.is near w.add_surrounded.new.taken (λ q. rw c.stone_of-stone.ensures at (w.add_surrounded.ensures q)))
+      | in_default w ↦ rw w.taken-is (skip w.in_default.is)
+    ]
 
 pub returns : goal.returns
 returns c = IsTaken-all c.args.shape c.args.cells.now c.args.side c.args.point c.neighbours-around.result c.loop-next.taken c.loop-next.next-index c.loop-next.invariant (omega arith) c.neighbours-around.ensures.all

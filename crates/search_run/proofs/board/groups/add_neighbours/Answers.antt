@@ -38,16 +38,17 @@ loop-next-preserved c =
     let more_other = Reached-other shape cells c.args.stone c.args.point around c.args.group.now c.loop-next.group c.loop-next.next-index c.loop-next.invariant in
     let more_skip = Reached-skip shape cells c.args.stone c.args.point around c.args.group.now c.loop-next.group c.loop-next.next-index c.loop-next.invariant in
     elim c.match-next.branch [
-      in-Some+else-eq+then-eq-2 w ↦
-        let near = around_neighbour shape c.args.point around c.neighbours-around.ensures.all c.loop-next.next-index w.in-Some.q w.in-Some.is in
-        let full : cell_at cells w.in-Some.q ≢ cell.Empty = rw (← w.from.ensures) (other_cell _ _ (sym w.eq.ensures ∙ w.if-eq.false)) in
-        let same : cell_at cells w.in-Some.q ≡ c.args.stone = rw (← w.from.ensures) (same_cell _ _ (sym w.eq-in-Some.ensures ∙ w.if-eq-2.true)) in
-        rw w.group-is (more_added w.in-Some.q w.in-Some.is full same near w.insert.new.self w.insert.ensures)
-    | in-Some+else-eq+else-eq-2 w ↦
-        let full : cell_at cells w.in-Some.q ≢ cell.Empty = rw (← w.from.ensures) (other_cell _ _ (sym w.eq.ensures ∙ w.if-eq.false)) in
-        let other : cell_at cells w.in-Some.q ≢ c.args.stone = rw (← w.from.ensures) (other_cell _ _ (sym w.eq-in-Some.ensures ∙ w.if-eq-2.false)) in
-        rw w.group-is (more_other w.in-Some.q w.in-Some.is full other)
-    | in_default w ↦ rw w.group-is (more_skip w.in_default.is) ]
+      | in-Some+else-eq+then-eq-2 w ↦
+          let near = around_neighbour shape c.args.point around c.neighbours-around.ensures.all c.loop-next.next-index w.in-Some.q w.in-Some.is in
+          let full : cell_at cells w.in-Some.q ≢ cell.Empty = rw (← w.from.ensures) (other_cell _ _ (sym w.eq.ensures ∙ w.if-eq.false)) in
+          let same : cell_at cells w.in-Some.q ≡ c.args.stone = rw (← w.from.ensures) (same_cell _ _ (sym w.eq-in-Some.ensures ∙ w.if-eq-2.true)) in
+          rw w.group-is (more_added w.in-Some.q w.in-Some.is full same near w.insert.new.self w.insert.ensures)
+      | in-Some+else-eq+else-eq-2 w ↦
+          let full : cell_at cells w.in-Some.q ≢ cell.Empty = rw (← w.from.ensures) (other_cell _ _ (sym w.eq.ensures ∙ w.if-eq.false)) in
+          let other : cell_at cells w.in-Some.q ≢ c.args.stone = rw (← w.from.ensures) (other_cell _ _ (sym w.eq-in-Some.ensures ∙ w.if-eq-2.false)) in
+          rw w.group-is (more_other w.in-Some.q w.in-Some.is full other)
+      | in_default w ↦ rw w.group-is (more_skip w.in_default.is)
+    ]
 
 pub returns-clause-liberty : goal.returns-clause-liberty
 returns-clause-liberty c =

@@ -30,6 +30,7 @@ loop-visited-preserved c =
 
 pub returns : goal.returns
 returns c =
-    let all : length c.loop-visited.group ≤ c.loop-visited.visited = omega arith in
-    (Filled-surrounded c.args.shape c.args.cells.now c.args.start c.loop-visited.group c.loop-visited.visited c.loop-visited.invariant all,
-     Filled-group c.args.shape c.args.cells.now c.args.start c.loop-visited.group c.loop-visited.visited c.loop-visited.invariant all)
+    let all : length c.loop-visited.group ≤ c.loop-visited.visited = omega arith in (
+      Filled-surrounded c.args.shape c.args.cells.now c.args.start c.loop-visited.group c.loop-visited.visited c.loop-visited.invariant all,
+      Filled-group c.args.shape c.args.cells.now c.args.start c.loop-visited.group c.loop-visited.visited c.loop-visited.invariant all,
+    )
