@@ -1,7 +1,8 @@
 -- Captured stones, stones taken off, and a move by the capture rule.
 use Rattle.std.proofs.Common.{◌≡◌, ◌≢◌, ℕ, ◌+◌, ◌<◌, ◌≤◌, ◌⊎◌, ◌↔◌, inl, inr, List, [], length, get_or, set, Option, Some, None, refl, sym, ◌∙◌, arith, below_more}
 use Rattle.std.specs.Prelude.{Contains, All}
-use Rattle.std.proofs.lemmas.List.{get_or-set_same, get_or-set_other, get_or_default, length-set}
+use Rattle.std.proofs.lemmas.List.{get_or-set_same, get_or-set_other, get_or_default, length-set, ext_get_or}
+use Rattle.search_run.proofs.Cells.{cases_cell}
 use Rattle.std.proofs.lemmas.List.Elements.{Contains-get_or}
 use Rattle.std.proofs.lemmas.Bool.{cases_eq}
 use Rattle.kb_geometry.specs.declared.shape.Shape.{Shape}
@@ -10,7 +11,8 @@ use Rattle.kb_geometry.specs.declared.stone.Cell.TheVariants as cell
 use Rattle.kb_geometry.specs.declared.stone.Colour.{Colour}
 use Rattle.kb_geometry.specs.Board.{AreNeighbours, point_count}
 use Rattle.kb_geometry.specs.Capture.{Position, Walk, IsInGroup, HasLiberty, IsWithout, IsCaptured, IsSuicide, IsPlayed, cell_at, stone_of, other_side}
-use Rattle.search_run.proofs.Groups.{neighbour-lt-count, walk-lt-count}
+use Rattle.search_run.proofs.Neighbours.{neighbour-lt-count}
+use Rattle.search_run.proofs.Walks.{walk-lt-count}
 
 -- before without the stones on the first count points of a list
 pub record IsCleared (points : List ℕ) (before after : Position) (count : ℕ) : Type 0 where
@@ -55,6 +57,23 @@ IsWithout-none P position none = record { same_length = refl; gone = λ q taken.
 -- a group of a stone on touching, without a liberty
 abbrev pub IsSurrounded : Shape → Position → Cell → ℕ → ℕ → Type 0
 IsSurrounded shape position stone touching q = (cell_at position touching ≡ stone) × (¬ HasLiberty shape position touching) × IsInGroup shape position touching q
+
+same_at : (P : ℕ → Type 0) (before one other : Position) → IsWithout P before one → IsWithout P before other → (q : ℕ) → (cell_at one q ≡ cell_at other q) ⊎ (cell_at one q ≢ cell_at other q) → cell_at one q ≡ cell_at other q
+same_at P before one other h k q (inl same) = same
+same_at P before one other h k q (inr differ) =
+    let left : ¬ P q = λ taken. differ (h.gone q taken ∙ sym (k.gone q taken)) in
+    absurd (differ (h.kept q left ∙ sym (k.kept q left)))
+
+-- what is taken determines what is left
+pub IsWithout-unique : (P : ℕ → Type 0) (before one other : Position) → IsWithout P before one → IsWithout P before other → one ≡ other
+IsWithout-unique P before one other h k = ext_get_or cell.Empty one other (h.same_length ∙ sym k.same_length) (λ i lt. same_at P before one other h k i (cases_cell (cell_at one i) (cell_at other i)))
+
+-- a move has one outcome
+pub IsPlayed-unique : (shape : Shape) (before : Position) (side : Colour) (point : ℕ) (one other : Position) → IsPlayed shape before side point one → IsPlayed shape before side point other → one ≡ other
+IsPlayed-unique shape before side point one other h k =
+    let placed = set before point (stone_of side) in
+    let same : k.between ≡ h.between = IsWithout-unique (IsCaptured shape placed (other_side side) point) placed k.between h.between k.captures h.captures in
+    IsWithout-unique (IsSuicide shape h.between point) h.between one other h.suicide (rw same at k.suicide)
 
 -- the captured stones of the groups at the first count points around
 pub record IsTaken (shape : Shape) (position : Position) (side : Colour) (point : ℕ) (around : List (Option ℕ)) (taken : List ℕ) (count : ℕ) : Type 0 where

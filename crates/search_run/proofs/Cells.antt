@@ -1,5 +1,6 @@
 -- What a test of two cells tells.
-use Rattle.std.proofs.Common.{◌≡◌, ◌≢◌, Bool, true, false, refl}
+use Rattle.std.proofs.Common.{◌≡◌, ◌≢◌, ◌⊎◌, inl, inr, Bool, true, false, refl}
+use Rattle.std.proofs.lemmas.Bool.{cases_Bool}
 use Rattle.kb_geometry.specs.declared.stone.Cell.{Cell}
 use Rattle.kb_geometry.specs.declared.stone.Cell.TheVariants.{Empty, Black, White}
 use Rattle.kb_geometry.specs.contracts.stone.Cell.{the_type}
@@ -23,3 +24,7 @@ sameb_self White = refl
 
 pub other_cell : (a b : Cell) → sameb the_type a b ≡ false → a ≢ b
 other_cell a b e s = let self = sameb_self a in cc
+
+-- two cells are the same or not
+pub cases_cell : (a b : Cell) → (a ≡ b) ⊎ (a ≢ b)
+cases_cell a b = elim (cases_Bool (sameb the_type a b)) [ inl e ↦ inl (same_cell a b e) | inr e ↦ inr (other_cell a b e) ]

@@ -1,6 +1,7 @@
 pub mod Boards
 pub mod Captures
 pub mod Cells
-pub mod Groups
+pub mod Fills
 pub mod Neighbours
 pub mod PointSets
+pub mod Walks

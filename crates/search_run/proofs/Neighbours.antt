@@ -2,9 +2,29 @@
 use Rattle.std.proofs.Common.{◌≡◌, ◌≢◌, ℕ, zero, suc, ◌+◌, ◌-◌, ◌*◌, ◌<◌, ◌≤◌, ◌⊎◌, ◌↔◌, inl, inr, List, [], ◌∷◌, length, get_or, Option, Some, None, refl, sym, ap, ◌∙◌, subst, arith}
 use Rattle.std.specs.Prelude.{Contains}
 use Rattle.std.specs.Option.{SomeIff}
+use Rattle.std.proofs.lemmas.List.{get_or_default, get_or_past}
+use Rattle.std.proofs.lemmas.Bool.{cases_lt}
+use Rattle.std.proofs.lemmas.Nat.{mul-add-lt}
 use Rattle.kb_geometry.specs.declared.shape.Shape.{Shape}
 use Rattle.kb_geometry.specs.declared.shape.Point.{Point}
-use Rattle.kb_geometry.specs.Board.{AreNeighbours, IsOnBoard, IsOneStep, number_of, cols_of, rows_of}
+use Rattle.kb_geometry.specs.Board.{AreNeighbours, IsOnBoard, IsOneStep, number_of, cols_of, rows_of, point_count}
+
+-- the number of a point of the board is below the count
+pub number_of-lt-count : (shape : Shape) (p : Point) → IsOnBoard shape p → number_of shape p < point_count shape
+number_of-lt-count shape p on = mul-add-lt p.y (cols_of shape) p.x (rows_of shape) on.1 on.0
+
+pub neighbour-lt-count : (shape : Shape) (p q : ℕ) → AreNeighbours shape p q → q < point_count shape
+neighbour-lt-count shape p q h = rw (← h.to_number) (number_of-lt-count shape h.to h.to_on_board)
+
+none_not_some : (q : ℕ) → ◌≡◌ {A = Option ℕ} None (Some q) → ⊥
+none_not_some q e = cc
+
+some_entry : (around : List (Option ℕ)) (k q : ℕ) → get_or around k None ≡ Some q → Contains around (Some q)
+some_entry around k q e = elim (cases_lt k (length around)) [ inl lt ↦ (k, lt, get_or_default around k (Some q) None lt ∙ e) | inr le ↦ absurd (none_not_some q (sym (get_or_past around k None le) ∙ e)) ]
+
+-- an entry of the list of neighbours is a neighbour
+pub around_neighbour : (shape : Shape) (point : ℕ) (around : List (Option ℕ)) → ((q : ℕ) → Contains around (Some q) ↔ AreNeighbours shape point q) → (k q : ℕ) → get_or around k None ≡ Some q → AreNeighbours shape point q
+around_neighbour shape point around are k q e = (are q).0 (some_entry around k q e)
 
 four_at : {X : Type 0} (a b c d x : X) (k : ℕ) → k < 4 → get_or (a ∷ b ∷ c ∷ d ∷ []) k x ≡ x → (a ≡ x) ⊎ ((b ≡ x) ⊎ ((c ≡ x) ⊎ (d ≡ x)))
 four_at a b c d x zero lt e = inl e

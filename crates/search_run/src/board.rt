@@ -63,7 +63,8 @@ impl Board {
     pub fn play(&mut self, side: Colour, point: Point)
         requires { IsOnBoard self.old.shape point }
         ensures shape { self.new.shape ≡ self.old.shape }
-        ensures played { IsPlayed self.old.shape self.old.position side (number_of self.old.shape point) self.new.position }
+        ensures played { IsPlayed self.old.shape self.old.position side
+            (number_of self.old.shape point) self.new.position }
         ensures whole { length self.new.position ≡ point_count self.old.shape }
     {
         let number = self.shape.number(point);

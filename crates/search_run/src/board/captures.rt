@@ -50,7 +50,9 @@ fn add_surrounded(shape: Shape, cells: &[Cell], touching: u16, stone: Cell, take
     requires whole { length cells.now ≡ point_count shape }
     requires on_board { touching < point_count shape }
     ensures { (q : ℕ) → Contains taken.new q ↔ (Contains taken.old q
-        ⊎ ((cell_at cells.now touching ≡ stone) × (¬ HasLiberty shape cells.now touching) × IsInGroup shape cells.now touching q)) }
+        ⊎ ((cell_at cells.now touching ≡ stone)
+        × (¬ HasLiberty shape cells.now touching)
+        × IsInGroup shape cells.now touching q)) }
 {
     if cells[usize::from(touching)] == stone {
         if let Some(group) = surrounded_group(shape, cells, touching) {

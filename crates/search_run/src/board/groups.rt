@@ -1,5 +1,5 @@
 // The group of a point, by a walk over neighbours that stops at the first liberty.
-ghost use Rattle.std.specs.Prelude.{◌≡◌, ℕ, ◌<◌, ◌≤◌, ◌↔◌, ◌⊎◌, length, slice_index, MatchOption, IsTrue, Contains};
+ghost use Rattle.std.specs.Prelude.{◌≡◌, ℕ, ◌<◌, ◌≤◌, ◌↔◌, ◌⊎◌, length, slice_index, IfNone, OnSome, IfSome, IsTrue, Contains};
 ghost use Rattle.kb_geometry.specs.Board.{point_count, AreNeighbours};
 ghost use Rattle.kb_geometry.specs.Capture.{cell_at, IsInGroup, HasLiberty};
 ghost use Rattle.kb_geometry.specs.declared.stone.Cell.TheVariants as cell;
@@ -13,8 +13,10 @@ use kb_geometry::{Cell, Shape};
 pub fn surrounded_group(shape: Shape, cells: &[Cell], start: u16) -> Option<PointSet>
     requires whole { length cells.now ≡ point_count shape }
     requires on_board { start < point_count shape }
-    ensures { MatchOption result (HasLiberty shape cells.now start)
-        (λ group. (¬ HasLiberty shape cells.now start) × ((q : ℕ) → Contains group q ↔ IsInGroup shape cells.now start q)) }
+    ensures liberty { IfNone result (HasLiberty shape cells.now start) }
+    ensures surrounded { OnSome result (¬ HasLiberty shape cells.now start) }
+    ensures members { IfSome result (λ group.
+        (q : ℕ) → Contains group q ↔ IsInGroup shape cells.now start q) }
 {
     let stone = cells[usize::from(start)];
     let mut group = PointSet::new();
@@ -40,7 +42,8 @@ fn add_neighbours(
 ) -> bool
     requires whole { length cells.now ≡ point_count shape }
     requires on_board { point < point_count shape }
-    ensures liberty { IsTrue result ↔ ((q : ℕ) × AreNeighbours shape point q × (cell_at cells.now q ≡ cell.Empty)) }
+    ensures liberty { IsTrue result
+        ↔ ((q : ℕ) × AreNeighbours shape point q × (cell_at cells.now q ≡ cell.Empty)) }
     ensures added { ¬ IsTrue result
         → (q : ℕ) → AreNeighbours shape point q → cell_at cells.now q ≡ stone → Contains group.new q }
     ensures only { (q : ℕ) → Contains group.new q

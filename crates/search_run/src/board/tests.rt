@@ -4,17 +4,9 @@ ghost use Rattle.std.specs.Prelude.{◌≡◌};
 use super::*;
 use std::process::Abort;
 
-/// A move: the board before it and after it, row by row, with `X` for Black and `O` for White.
-#[derive(Drop)]
-struct Case {
-    cols: u8,
-    rows: u8,
-    before: &'static str,
-    side: Colour,
-    x: u8,
-    y: u8,
-    after: &'static str,
-}
+/// A move: columns, rows, the board row by row with `X` for Black and `O` for White, the side, the column and the
+/// row of its point, and the board after it.
+type Case = (u8, u8, &'static str, Colour, u8, u8, &'static str);
 
 fn cell_of(byte: u8) -> Cell {
     match byte {
@@ -59,102 +51,33 @@ fn shows(board: &Board, shape: Shape, picture: &str) -> bool
 }
 
 fn check(rt: &impl Abort, case: &Case) {
-    let Some(shape) = Shape::new(case.cols, case.rows) else {
+    let (cols, rows, before, side, x, y, after) = *case;
+    let Some(shape) = Shape::new(cols, rows) else {
         panic!(rt; "no shape");
     };
-    let mut board = set_up(shape, case.before);
-    assert!(rt; shows(&board, shape, case.before), "set up {}", case.before);
-    assert!(rt;
-        case.x < shape.cols() && case.y < shape.rows(),
-        "off the board"
-    );
-    board.play(
-        case.side,
-        Point {
-            x: case.x,
-            y: case.y,
-        },
-    );
-    assert!(rt;
-        shows(&board, shape, case.after),
-        "{} became not {}",
-        case.before,
-        case.after
-    );
+    let mut board = set_up(shape, before);
+    assert!(rt; shows(&board, shape, before), "set up {before}");
+    assert!(rt; x < shape.cols() && y < shape.rows(), "off the board");
+    board.play(side, Point { x, y });
+    assert!(rt; shows(&board, shape, after), "{before} became not {after}");
 }
 
 #[test]
 fn captures(rt: HostRuntime) {
     let cases = [
         // one stone in the middle
-        Case {
-            cols: 3,
-            rows: 3,
-            before: ".X.XO..X.",
-            side: Colour::Black,
-            x: 2,
-            y: 1,
-            after: ".X.X.X.X.",
-        },
+        (3, 3, ".X.XO..X.", Colour::Black, 2, 1, ".X.X.X.X."),
         // two groups by one move
-        Case {
-            cols: 5,
-            rows: 2,
-            before: "XO.OX.X.X.",
-            side: Colour::Black,
-            x: 2,
-            y: 0,
-            after: "X.X.X.X.X.",
-        },
+        (5, 2, "XO.OX.X.X.", Colour::Black, 2, 0, "X.X.X.X.X."),
         // a ko, and back
-        Case {
-            cols: 4,
-            rows: 3,
-            before: ".XO.X.XO.XO.",
-            side: Colour::White,
-            x: 1,
-            y: 1,
-            after: ".XO.XO.O.XO.",
-        },
-        Case {
-            cols: 4,
-            rows: 3,
-            before: ".XO.XO.O.XO.",
-            side: Colour::Black,
-            x: 2,
-            y: 1,
-            after: ".XO.X.XO.XO.",
-        },
+        (4, 3, ".XO.X.XO.XO.", Colour::White, 1, 1, ".XO.XO.O.XO."),
+        (4, 3, ".XO.XO.O.XO.", Colour::Black, 2, 1, ".XO.X.XO.XO."),
         // captures come before the own group's liberties
-        Case {
-            cols: 3,
-            rows: 3,
-            before: ".OXOX.X..",
-            side: Colour::Black,
-            x: 0,
-            y: 0,
-            after: "X.X.X.X..",
-        },
+        (3, 3, ".OXOX.X..", Colour::Black, 0, 0, "X.X.X.X.."),
         // a corner of a board that is not square
-        Case {
-            cols: 3,
-            rows: 2,
-            before: "..O..X",
-            side: Colour::Black,
-            x: 1,
-            y: 0,
-            after: ".X...X",
-        },
+        (3, 2, "..O..X", Colour::Black, 1, 0, ".X...X"),
         // the end of a row and the start of the next are no neighbours
-        Case {
-            cols: 3,
-            rows: 2,
-            before: "O.XX..",
-            side: Colour::White,
-            x: 1,
-            y: 1,
-            after: "O.X.O.",
-        },
+        (3, 2, "O.XX..", Colour::White, 1, 1, "O.X.O."),
     ];
     for case in &cases {
         check(&rt, case);
@@ -164,52 +87,12 @@ fn captures(rt: HostRuntime) {
 #[test]
 fn suicides_and_overwriting(rt: HostRuntime) {
     let cases = [
-        Case {
-            cols: 3,
-            rows: 3,
-            before: ".O.O.O.O.",
-            side: Colour::Black,
-            x: 1,
-            y: 1,
-            after: ".O.O.O.O.",
-        },
-        Case {
-            cols: 4,
-            rows: 3,
-            before: ".OO.OX.O.OO.",
-            side: Colour::Black,
-            x: 2,
-            y: 1,
-            after: ".OO.O..O.OO.",
-        },
-        Case {
-            cols: 1,
-            rows: 1,
-            before: ".",
-            side: Colour::White,
-            x: 0,
-            y: 0,
-            after: ".",
-        },
+        (3, 3, ".O.O.O.O.", Colour::Black, 1, 1, ".O.O.O.O."),
+        (4, 3, ".OO.OX.O.OO.", Colour::Black, 2, 1, ".OO.O..O.OO."),
+        (1, 1, ".", Colour::White, 0, 0, "."),
         // on a stone of the same side, and of the other, which captures its neighbour
-        Case {
-            cols: 2,
-            rows: 2,
-            before: "X...",
-            side: Colour::Black,
-            x: 0,
-            y: 0,
-            after: "X...",
-        },
-        Case {
-            cols: 3,
-            rows: 2,
-            before: "XXOO..",
-            side: Colour::White,
-            x: 1,
-            y: 0,
-            after: ".OOO..",
-        },
+        (2, 2, "X...", Colour::Black, 0, 0, "X..."),
+        (3, 2, "XXOO..", Colour::White, 1, 0, ".OOO.."),
     ];
     for case in &cases {
         check(&rt, case);
@@ -218,45 +101,13 @@ fn suicides_and_overwriting(rt: HostRuntime) {
 
 #[test]
 fn lines(rt: HostRuntime) {
+    // on one row, and on one column
     let cases = [
-        Case {
-            cols: 19,
-            rows: 1,
-            before: ".XO................",
-            side: Colour::Black,
-            x: 3,
-            y: 0,
-            after: ".X.X...............",
-        },
-        Case {
-            cols: 1,
-            rows: 19,
-            before: ".XO................",
-            side: Colour::Black,
-            x: 0,
-            y: 3,
-            after: ".X.X...............",
-        },
-        Case {
-            cols: 19,
-            rows: 1,
-            before: "................X.O",
-            side: Colour::Black,
-            x: 17,
-            y: 0,
-            after: "................XX.",
-        },
-        Case {
-            cols: 1,
-            rows: 19,
-            before: "................X.O",
-            side: Colour::Black,
-            x: 0,
-            y: 17,
-            after: "................XX.",
-        },
+        (".XO................", 3, ".X.X..............."),
+        ("................X.O", 17, "................XX."),
     ];
-    for case in &cases {
-        check(&rt, case);
+    for (before, at, after) in cases {
+        check(&rt, &(19, 1, before, Colour::Black, at, 0, after));
+        check(&rt, &(1, 19, before, Colour::Black, 0, at, after));
     }
 }

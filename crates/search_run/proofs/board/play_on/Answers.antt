@@ -3,7 +3,7 @@ use Rattle.std.specs.Prelude.{Contains}
 use Rattle.std.proofs.lemmas.List.{length-set}
 use Rattle.kb_geometry.specs.Capture.{IsWithout, IsCaptured, IsSuicide, cell_at, stone_of, other_side}
 use Rattle.search_run.proofs.PointSets.{All-from_contains}
-use Rattle.search_run.proofs.Groups.{walk-lt-count}
+use Rattle.search_run.proofs.Walks.{walk-lt-count}
 use Rattle.search_run.proofs.Captures.{IsWithout-same, IsWithout-none, captured-lt-count, no_suicide, suicide_is}
 use Rattle.search_run.proofs.board.play_on.Goals as goal
 
@@ -17,7 +17,7 @@ pub clear-requires-in-Some : goal.clear-requires-in-Some
 clear-requires-in-Some c =
     let between = c.clear.new.cells in
     let same = length-set c.args.cells.now c.from.result c.stone_of.result in
-    All-from_contains (λ q. q < length between) c.in-Some.group (λ q h. omega (arith, same, c.clear.ensures.same_length, walk-lt-count c.args.shape between (cell_at between c.args.point) ((c.in-Some.ensures.1 q).0 h) c.requires.on_board))
+    All-from_contains (λ q. q < length between) c.in-Some.group (λ q h. omega (arith, same, c.clear.ensures.same_length, walk-lt-count c.args.shape between (cell_at between c.args.point) ((c.in-Some.ensures.members q).0 h) c.requires.on_board))
 
 pub returns-in-Some : goal.returns-in-Some
 returns-in-Some c =
@@ -27,7 +27,7 @@ returns-in-Some c =
     record {
       between = between;
       captures = rw (c.from.ensures, c.stone_of.ensures, c.other_side.ensures) at captures;
-      suicide = IsWithout-same (Contains c.in-Some.group) (IsSuicide c.args.shape between c.args.point) between c.clear-in-Some.new.cells (suicide_is c.args.shape between c.args.point c.in-Some.ensures.0 c.in-Some.group c.in-Some.ensures.1) c.clear-in-Some.ensures;
+      suicide = IsWithout-same (Contains c.in-Some.group) (IsSuicide c.args.shape between c.args.point) between c.clear-in-Some.new.cells (suicide_is c.args.shape between c.args.point c.in-Some.ensures.surrounded c.in-Some.group c.in-Some.ensures.members) c.clear-in-Some.ensures;
     }
 
 pub returns-in_default : goal.returns-in_default
@@ -38,5 +38,5 @@ returns-in_default c =
     record {
       between = between;
       captures = rw (c.from.ensures, c.stone_of.ensures, c.other_side.ensures) at captures;
-      suicide = IsWithout-none (IsSuicide c.args.shape between c.args.point) between (no_suicide c.args.shape between c.args.point c.in_default.ensures);
+      suicide = IsWithout-none (IsSuicide c.args.shape between c.args.point) between (no_suicide c.args.shape between c.args.point c.in_default.ensures.liberty);
     }

@@ -11,4 +11,4 @@ joined A C D S h to from = (λ a. elim (h.0 a) [ inl c ↦ inl c | inr d ↦ inr
 pub returns-in-Some : goal.returns-in-Some
 returns-in-Some c =
     let same : cell_at c.args.cells.now c.args.touching ≡ c.args.stone = rw (← c.from.ensures) (same_cell _ _ (sym c.eq.ensures ∙ c.if-eq.true)) in
-    λ q. joined (Contains c.insert_all.new.self q) (Contains c.args.taken.now q) (Contains c.in-Some.group q) (IsSurrounded c.args.shape c.args.cells.now c.args.stone c.args.touching q) (c.insert_all.ensures q) (λ d. (same, c.in-Some.ensures.0, (c.in-Some.ensures.1 q).0 d)) (λ s. (c.in-Some.ensures.1 q).1 s.2)
+    λ q. joined (Contains c.insert_all.new.self q) (Contains c.args.taken.now q) (Contains c.in-Some.group q) (IsSurrounded c.args.shape c.args.cells.now c.args.stone c.args.touching q) (c.insert_all.ensures q) (λ d. (same, c.in-Some.ensures.surrounded, (c.in-Some.ensures.members q).0 d)) (λ s. (c.in-Some.ensures.members q).1 s.2)

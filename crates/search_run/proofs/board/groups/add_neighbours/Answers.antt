@@ -6,7 +6,8 @@ use Rattle.kb_geometry.specs.Board.{point_count, AreNeighbours}
 use Rattle.kb_geometry.specs.Capture.{cell_at}
 use Rattle.kb_geometry.specs.declared.stone.Cell.TheVariants as cell
 use Rattle.search_run.proofs.Cells.{same_cell, other_cell}
-use Rattle.search_run.proofs.Groups.{Reached-none, Reached-skip, Reached-other, Reached-added, Reached-all, neighbour-lt-count, around_neighbour}
+use Rattle.search_run.proofs.Fills.{Reached-none, Reached-skip, Reached-other, Reached-added, Reached-all}
+use Rattle.search_run.proofs.Neighbours.{neighbour-lt-count, around_neighbour}
 use Rattle.search_run.proofs.board.groups.add_neighbours.Goals as goal
 use Rattle.search_run.proofs.board.groups.add_neighbours.Goals.{in-Some+else-eq+then-eq-2, in-Some+else-eq+else-eq-2, in_default}
 

@@ -1,4 +1,4 @@
-use Rattle.search_run.proofs.Groups.{Reached}
+use Rattle.search_run.proofs.Fills.{Reached}
 use Rattle.search_run.proofs.board.groups.add_neighbours.Given as goal
 
 abbrev pub invariant-loop-next : goal.invariant-loop-next

@@ -6,7 +6,8 @@ use Rattle.kb_geometry.specs.Capture.{cell_at}
 use Rattle.kb_geometry.specs.declared.stone.Cell.TheVariants as cell
 use Rattle.search_run.specs.PointSet.{IsWithPoint}
 use Rattle.search_run.proofs.Boards.{point_count-le-room}
-use Rattle.search_run.proofs.Groups.{Filled-start, Filled-member, Filled-liberty, Filled-more, Filled-group, Filled-surrounded, walk-lt-count}
+use Rattle.search_run.proofs.Fills.{Filled-start, Filled-member, Filled-liberty, Filled-more, Filled-group, Filled-surrounded}
+use Rattle.search_run.proofs.Walks.{walk-lt-count}
 use Rattle.search_run.proofs.board.groups.surrounded_group.Goals as goal
 
 pub loop-visited-init : goal.loop-visited-init
@@ -17,8 +18,8 @@ add_neighbours-requires-clause-on_board c =
     let w = Filled-member c.args.shape c.args.cells.now c.args.start c.loop-visited.group c.loop-visited.visited c.loop-visited.invariant (omega arith) in
     rw c.at-point.ensures.value (walk-lt-count c.args.shape c.args.cells.now (cell_at c.args.cells.now c.args.start) w c.requires.on_board)
 
-pub returns-then-add_neighbours : goal.returns-then-add_neighbours
-returns-then-add_neighbours c =
+pub returns-then-add_neighbours-clause-liberty : goal.returns-then-add_neighbours-clause-liberty
+returns-then-add_neighbours-clause-liberty c =
     let free = (c.add_neighbours.ensures.liberty).0 c.if-add_neighbours.true in
     Filled-liberty c.args.shape c.args.cells.now c.args.start c.loop-visited.group c.loop-visited.visited c.loop-visited.invariant (omega arith) free.0 (rw c.at-point.ensures.value at free.1) free.2
 
@@ -28,9 +29,8 @@ loop-visited-preserved c =
     let more = Filled-more c.args.shape c.args.cells.now c.args.start c.loop-visited.group c.loop-visited.visited c.loop-visited.invariant (omega arith) in
     more c.add_neighbours.new.group c.add_neighbours.ensures.extends (λ q h. rw (c.at-point.ensures.value, c.from.ensures) at (c.add_neighbours.ensures.only q h)) none (λ q near e. c.add_neighbours.ensures.added (λ t. false≢true (sym c.if-add_neighbours.false ∙ t)) q (rw c.at-point.ensures.value near) (rw c.from.ensures e))
 
-pub returns : goal.returns
-returns c =
-    let all : length c.loop-visited.group ≤ c.loop-visited.visited = omega arith in (
-      Filled-surrounded c.args.shape c.args.cells.now c.args.start c.loop-visited.group c.loop-visited.visited c.loop-visited.invariant all,
-      Filled-group c.args.shape c.args.cells.now c.args.start c.loop-visited.group c.loop-visited.visited c.loop-visited.invariant all,
-    )
+pub returns-clause-surrounded : goal.returns-clause-surrounded
+returns-clause-surrounded c = Filled-surrounded c.args.shape c.args.cells.now c.args.start c.loop-visited.group c.loop-visited.visited c.loop-visited.invariant (omega arith)
+
+pub returns-clause-members : goal.returns-clause-members
+returns-clause-members c = Filled-group c.args.shape c.args.cells.now c.args.start c.loop-visited.group c.loop-visited.visited c.loop-visited.invariant (omega arith)

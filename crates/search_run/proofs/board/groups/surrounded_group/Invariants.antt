@@ -1,7 +1,7 @@
 use Rattle.std.proofs.Common.{◌≡◌, ◌-◌}
 use Rattle.kb_geometry.specs.Capture.{cell_at}
 use Rattle.search_run.specs.declared.board.TheConstants.{ROOM}
-use Rattle.search_run.proofs.Groups.{Filled}
+use Rattle.search_run.proofs.Fills.{Filled}
 use Rattle.search_run.proofs.board.groups.surrounded_group.Given as goal
 
 abbrev pub invariant-loop-visited : goal.invariant-loop-visited

@@ -1,45 +1,16 @@
--- Walks, groups and liberties, and a list of points that grows to be a group.
-use Rattle.std.proofs.Common.{◌≡◌, ◌≢◌, ℕ, suc, ◌+◌, ◌-◌, ◌*◌, ◌<◌, ◌≤◌, ◌⊎◌, ◌↔◌, inl, inr, List, [], ◌∷◌, length, get_or, Option, Some, None, refl, sym, ap, ◌∙◌, subst, arith, below_more}
+-- A list of points that grows from a start over neighbours until it is the group.
+use Rattle.std.proofs.Common.{◌≡◌, ◌≢◌, ℕ, ◌+◌, ◌<◌, ◌≤◌, ◌⊎◌, ◌↔◌, inl, inr, List, [], ◌∷◌, length, get_or, Option, Some, None, refl, sym, ◌∙◌, arith, below_more}
 use Rattle.std.specs.Prelude.{Contains}
-use Rattle.std.proofs.lemmas.List.{get_or_default, get_or_past}
-use Rattle.std.proofs.lemmas.Bool.{cases_lt}
+use Rattle.std.proofs.lemmas.List.{get_or_default}
 use Rattle.std.proofs.lemmas.List.Elements.{Contains-get_or}
-use Rattle.std.proofs.lemmas.Nat.{mul-add-lt}
 use Rattle.kb_geometry.specs.declared.shape.Shape.{Shape}
-use Rattle.kb_geometry.specs.declared.shape.Point.{Point}
 use Rattle.kb_geometry.specs.declared.stone.Cell.{Cell}
 use Rattle.kb_geometry.specs.declared.stone.Cell.TheVariants as cell
-use Rattle.kb_geometry.specs.Board.{AreNeighbours, IsOnBoard, number_of, cols_of, rows_of, point_count}
-use Rattle.kb_geometry.specs.Capture.{Position, Walk, stay, go, IsInGroup, HasLiberty, cell_at}
+use Rattle.kb_geometry.specs.Board.{AreNeighbours}
+use Rattle.kb_geometry.specs.Capture.{Position, stay, go, IsInGroup, HasLiberty, cell_at}
 use Rattle.search_run.specs.PointSet.{Extends, IsWithPoint}
 use Rattle.search_run.proofs.PointSets.{IsWithPoint-has, IsWithPoint-only, IsWithPoint-keeps, IsWithPoint-extends, Extends-refl, Extends-trans, Extends-keeps}
-
--- the number of a point of the board is below the count
-pub number_of-lt-count : (shape : Shape) (p : Point) → IsOnBoard shape p → number_of shape p < point_count shape
-number_of-lt-count shape p on = mul-add-lt p.y (cols_of shape) p.x (rows_of shape) on.1 on.0
-
-pub neighbour-lt-count : (shape : Shape) (p q : ℕ) → AreNeighbours shape p q → q < point_count shape
-neighbour-lt-count shape p q h = rw (← h.to_number) (number_of-lt-count shape h.to h.to_on_board)
-
--- what holds of the start and passes to each neighbour with the cell holds along a walk
-pub walk_keeps : (shape : Shape) (position : Position) (stone : Cell) (P : ℕ → Type 0) → ((q r : ℕ) → P q → AreNeighbours shape q r → cell_at position r ≡ stone → P r) → {p q : ℕ} → Walk shape position stone p q → P p → P q
-walk_keeps shape position stone P step (stay e) here = here
-walk_keeps shape position stone P step (go w n e) here = step _ _ (walk_keeps shape position stone P step w here) n e
-
--- a walk ends on a point with the cell
-pub walk_cell : (shape : Shape) (position : Position) (stone : Cell) {p q : ℕ} → Walk shape position stone p q → cell_at position q ≡ stone
-walk_cell shape position stone (stay e) = e
-walk_cell shape position stone (go w n e) = e
-
--- a walk from a point of the board stays on the board
-pub walk-lt-count : (shape : Shape) (position : Position) (stone : Cell) {p q : ℕ} → Walk shape position stone p q → p < point_count shape → q < point_count shape
-walk-lt-count shape position stone w here = walk_keeps shape position stone (λ r. r < point_count shape) (λ q r on n e. neighbour-lt-count shape q r n) w here
-
-none_not_some : (q : ℕ) → ◌≡◌ {A = Option ℕ} None (Some q) → ⊥
-none_not_some q e = cc
-
-some_entry : (around : List (Option ℕ)) (k q : ℕ) → get_or around k None ≡ Some q → Contains around (Some q)
-some_entry around k q e = elim (cases_lt k (length around)) [ inl lt ↦ (k, lt, get_or_default around k (Some q) None lt ∙ e) | inr le ↦ absurd (none_not_some q (sym (get_or_past around k None le) ∙ e)) ]
+use Rattle.search_run.proofs.Walks.{group_from_closed, surrounded_from_closed}
 
 -- after holds before and, of the first count entries of around, the points with the cell, none of which is empty
 pub record Reached (shape : Shape) (position : Position) (stone : Cell) (point : ℕ) (around : List (Option ℕ)) (before after : List ℕ) (count : ℕ) : Type 0 where
@@ -139,21 +110,19 @@ module _ (shape : Shape) (position : Position) (start : ℕ) where
       added = below_more _ _ (λ k below q near e. Extends-keeps group grown extends q (so_far.added k below q (rw (extends.same k (omega arith)) at near) e)) (λ q near e. added q (rw (extends.same n lt) at near) e);
     }
 
-    closed : length group ≤ n → (p q : ℕ) → Contains group p → AreNeighbours shape p q → cell_at position q ≡ cell_at position start → Contains group q
-    closed all p q m near e =
+    neighbour_in : length group ≤ n → (p q : ℕ) → Contains group p → AreNeighbours shape p q → cell_at position q ≡ cell_at position start → Contains group q
+    neighbour_in all p q m near e =
         let here : get_or group m.0 0 ≡ p = get_or_default group m.0 0 p m.1 ∙ m.2 in
         so_far.added m.0 (omega (arith, m.1)) q (rw here near) e
 
+    neighbour_solid : length group ≤ n → (p q : ℕ) → Contains group p → AreNeighbours shape p q → cell_at position q ≢ cell.Empty
+    neighbour_solid all p q m near =
+        let here : get_or group m.0 0 ≡ p = get_or_default group m.0 0 p m.1 ∙ m.2 in
+        so_far.solid m.0 (omega (arith, m.1)) q (rw here near)
+
     -- each member's neighbours have been looked at: the list is the group, which has no liberty
     pub Filled-group : length group ≤ n → (q : ℕ) → Contains group q ↔ IsInGroup shape position start q
-    Filled-group all q = (so_far.within q, λ w. walk_keeps shape position (cell_at position start) (Contains group) (closed all) w so_far.has_start)
+    Filled-group all = group_from_closed shape position start (Contains group) so_far.has_start so_far.within (neighbour_in all)
 
     pub Filled-surrounded : length group ≤ n → ¬ HasLiberty shape position start
-    Filled-surrounded all free =
-        let m = (Filled-group all free.member).1 free.in_group in
-        let here : get_or group m.0 0 ≡ free.member = get_or_default group m.0 0 free.member m.1 ∙ m.2 in
-        so_far.solid m.0 (omega (arith, m.1)) free.liberty (rw here free.neighbour) free.empty
-
--- an entry of the list of neighbours is a neighbour
-pub around_neighbour : (shape : Shape) (point : ℕ) (around : List (Option ℕ)) → ((q : ℕ) → Contains around (Some q) ↔ AreNeighbours shape point q) → (k q : ℕ) → get_or around k None ≡ Some q → AreNeighbours shape point q
-around_neighbour shape point around are k q e = (are q).0 (some_entry around k q e)
+    Filled-surrounded all = surrounded_from_closed shape position start (Contains group) so_far.has_start so_far.within (neighbour_in all) (neighbour_solid all)
