@@ -1,2 +1,9 @@
+pub mod Boards
+pub mod Captures
+pub mod Cells
+pub mod Fills
 mod LineLemmas
+pub mod Neighbours
+pub mod PointSets
 mod ScriptLemmas
+pub mod Walks

@@ -1,3 +1,9 @@
+pub mod Board
+pub mod Course
+pub mod Hits
 pub mod Lines
 pub mod NextLine
+pub mod PointSet
 pub mod Script
+pub mod Session
+pub mod Texts

@@ -1,7 +1,11 @@
 //! The top call: a script, a folder of games and a sink become a status and the printed answers.
 #![tactic(auto)]
 
+mod board;
+mod hit;
+mod import;
 mod script;
 mod statement;
 
+pub use board::Board;
 pub use statement::{Placed, ScriptError, Statement};

@@ -1,0 +1,58 @@
+-- What an import finds in a folder that tells its files, and what was lost to faults on the way.
+use Rattle.std.specs.Prelude.{◌≡◌, ◌⊎◌, ◌+◌, ◌<◌, ◌≤◌, ℕ, List, [], ◌∷◌, ◌++◌, length, map, take, Some, AllPairs, Contains, cond, sum_by, Bool, true, false, ◌↔◌}
+use Rattle.std.specs.Cmp.Lexicographic.{slice_cmp}
+use Rattle.std.specs.Ordering.{nat_cmp}
+use Rattle.std.specs.declared.cmp.Ordering.TheVariants.{Less}
+use Rattle.kb_edges.specs.Files.{File, HasFile, HasPath, IsSgfName, content_of}
+use Rattle.game_tree.specs.Plain.{SpellsPlain}
+use Rattle.game_tree.specs.Tree.{Tree}
+use Rattle.search_run.specs.declared.import.FileOutcome.{FileOutcome}
+use Rattle.search_run.specs.declared.import.FileOutcome.TheVariants as file
+use Rattle.search_run.specs.declared.import.TheConstants.{MAX_FILE, MAX_NAMES}
+
+-- a file of an import, and what became of it
+pub record FileLine : Type 0 where
+  pub name : List ℕ
+  pub outcome : FileOutcome
+
+-- what an import found: no listing, too many names, or files with the trees of the accepted ones in order
+pub data Found : Type 0 where
+  Unlisted : Found
+  TooMany : ℕ → Found
+  Files : List FileLine → List Tree → Found
+
+-- What the course says of one import: whether a fault left it unlisted, and which of its files faults left unread.
+pub record ImportCourse : Type 0 where
+  pub unlisted : Bool
+  pub unread : List (List ℕ)
+
+-- nothing was lost
+abbrev pub whole_course : ImportCourse
+whole_course = record { unlisted = false; unread = [] }
+
+-- how much the course says was lost: unlisted imports and unread files
+abbrev pub losses_of : List ImportCourse → ℕ
+losses_of course = sum_by (λ (c : ImportCourse). cond c.unlisted 1 0 + length c.unread) course
+
+-- These are the names of an import: those of the files under the path that end in `.sgf`, each once, in byte order.
+pub record AreNames (files : List File) (path : List ℕ) (names : List (List ℕ)) : Type 0 where
+  pub each : (name : List ℕ) → Contains names name ↔ (HasFile files path name × IsSgfName name)
+  pub ascending : AllPairs (λ x y. slice_cmp nat_cmp x y ≡ Less) names
+
+-- the bytes of a file that count: the first file of this path and name, and at most one byte past the limit of a file
+abbrev pub IsContent : List File → List ℕ → List ℕ → List ℕ → Type 0
+IsContent files path name bytes = (whole : List ℕ) × (content_of files path name ≡ Some whole) × (bytes ≡ take (MAX_FILE + 1) whole)
+
+-- What became of the files of an import, one after another: the lines of the report, the trees of the accepted files,
+-- and the names of the files that were not read. A file that was read is accepted exactly if its bytes are plain.
+pub data AreRead (files : List File) (path : List ℕ) : List FileLine → List Tree → List (List ℕ) → Type 0 where
+  nothing : AreRead files path [] [] []
+  accepted : {lines : List FileLine} {trees : List Tree} {unread : List (List ℕ)} (name bytes : List ℕ) (tree : Tree) → AreRead files path lines trees unread → IsContent files path name bytes → SpellsPlain bytes tree → AreRead files path (lines ++ record { name = name; outcome = file.Accepted } ∷ []) (trees ++ tree ∷ []) unread
+  refused : {lines : List FileLine} {trees : List Tree} {unread : List (List ℕ)} (name bytes : List ℕ) → AreRead files path lines trees unread → IsContent files path name bytes → ((tree : Tree) → ¬ SpellsPlain bytes tree) → AreRead files path (lines ++ record { name = name; outcome = file.Refused } ∷ []) trees unread
+  not_read : {lines : List FileLine} {trees : List Tree} {unread : List (List ℕ)} (name : List ℕ) → AreRead files path lines trees unread → AreRead files path (lines ++ record { name = name; outcome = file.Unread } ∷ []) trees (unread ++ name ∷ [])
+
+-- what an import of this path finds in these files, by this course
+abbrev pub IsImported : List File → List ℕ → ImportCourse → Found → Type 0
+IsImported files path course Unlisted = ((course.unlisted ≡ true) ⊎ ((course.unlisted ≡ false) × (¬ HasPath files path))) × (course.unread ≡ [])
+IsImported files path course (TooMany count) = (names : List (List ℕ)) × HasPath files path × AreNames files path names × (count ≡ length names) × (MAX_NAMES < count) × (course ≡ whole_course)
+IsImported files path course (Files lines trees) = HasPath files path × AreNames files path (map (λ (f : FileLine). f.name) lines) × (length lines ≤ MAX_NAMES) × AreRead files path lines trees course.unread × (course.unlisted ≡ false)

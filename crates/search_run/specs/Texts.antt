@@ -1,0 +1,110 @@
+-- The printed texts. Numbers are decimal, and each line ends with a line feed.
+use Rattle.std.specs.Prelude.{ℕ, ◌-◌, Bool, true, false, List, [], ◌∷◌, ◌++◌, length, codes, count_by}
+use Rattle.std.specs.Fmt.{decimal}
+use Rattle.std.specs.List.{flat_map}
+use Rattle.kb_geometry.specs.declared.stone.Outcome.{Outcome}
+use Rattle.kb_geometry.specs.declared.stone.Outcome.TheVariants as outcome
+use Rattle.search_run.specs.Course.{FileLine, Found, Files, TooMany, Unlisted}
+use Rattle.search_run.specs.declared.hit.Hit.{Hit}
+use Rattle.search_run.specs.declared.import.FileOutcome.{FileOutcome}
+use Rattle.search_run.specs.declared.import.FileOutcome.TheVariants as file
+
+-- a line: these bytes and a line feed
+abbrev pub line_text : List ℕ → List ℕ
+line_text bytes = bytes ++ 10 ∷ []
+
+-- a space and a number
+abbrev pub number_text : ℕ → List ℕ
+number_text n = 32 ∷ decimal n
+
+-- `LINE import PATH`
+abbrev pub import_text : ℕ → List ℕ → List ℕ
+import_text line path = line_text (decimal line ++ codes " import " ++ path)
+
+-- `LINE wait version V`
+abbrev pub wait_text : ℕ → ℕ → List ℕ
+wait_text line version = line_text (decimal line ++ codes " wait version" ++ number_text version)
+
+-- the line of a file that was not accepted; an accepted one has none
+abbrev pub file_text : FileLine → List ℕ
+file_text f = text f.outcome
+  where
+    text : FileOutcome → List ℕ
+    text file.Accepted = []
+    text file.Refused = line_text (codes "refused NotYet 0 " ++ f.name)
+    text file.Unread = line_text (codes "unread " ++ f.name)
+
+abbrev pub is_accepted : FileLine → Bool
+is_accepted f = test f.outcome
+  where
+    test : FileOutcome → Bool
+    test file.Accepted = true
+    test file.Refused = false
+    test file.Unread = false
+
+abbrev pub is_refused : FileLine → Bool
+is_refused f = test f.outcome
+  where
+    test : FileOutcome → Bool
+    test file.Accepted = false
+    test file.Refused = true
+    test file.Unread = false
+
+abbrev pub is_unread : FileLine → Bool
+is_unread f = test f.outcome
+  where
+    test : FileOutcome → Bool
+    test file.Accepted = false
+    test file.Refused = false
+    test file.Unread = true
+
+-- the report of an import: its line, what was found, and the version after it
+abbrev pub report_text : ℕ → Found → ℕ → List ℕ
+report_text line Unlisted version = line_text (decimal line ++ codes " imported unlisted")
+report_text line (TooMany names) version = line_text (decimal line ++ codes " imported too many files" ++ number_text names)
+report_text line (Files lines trees) version =
+    line_text (decimal line ++ codes " imported files" ++ number_text (length lines)
+    ++ codes " accepted" ++ number_text (count_by is_accepted lines)
+    ++ codes " refused" ++ number_text (count_by is_refused lines)
+    ++ codes " full 0 unread" ++ number_text (count_by is_unread lines)
+    ++ codes " games" ++ number_text (length trees)
+    ++ codes " version" ++ number_text version)
+    ++ flat_map file_text lines
+
+-- a hit: its game, node, column and row, the label 0, and no continuation
+abbrev pub hit_text : Hit → List ℕ
+hit_text hit = line_text (codes "hit" ++ number_text hit.game ++ number_text hit.node ++ number_text hit.point.x ++ number_text hit.point.y ++ codes " 0 -")
+
+abbrev pub is_black_win : Outcome → Bool
+is_black_win outcome.Black = true
+is_black_win outcome.White = false
+is_black_win outcome.Draw = false
+is_black_win outcome.Void = false
+is_black_win outcome.Unknown = false
+is_black_win outcome.Other = false
+
+abbrev pub is_white_win : Outcome → Bool
+is_white_win outcome.Black = false
+is_white_win outcome.White = true
+is_white_win outcome.Draw = false
+is_white_win outcome.Void = false
+is_white_win outcome.Unknown = false
+is_white_win outcome.Other = false
+
+-- hits in games that Black won
+abbrev pub black_wins : List Hit → ℕ
+black_wins hits = count_by (λ (hit : Hit). is_black_win hit.outcome) hits
+
+-- hits in games that White won
+abbrev pub white_wins : List Hit → ℕ
+white_wins hits = count_by (λ (hit : Hit). is_white_win hit.outcome) hits
+
+-- all hits, those with a continuation at once and later, of which there are none, and the hits by who won
+abbrev pub totals_text : List Hit → List ℕ
+totals_text hits = line_text (codes "total" ++ number_text (length hits) ++ codes " 0 0" ++ number_text (black_wins hits) ++ number_text (white_wins hits) ++ number_text (length hits - black_wins hits - white_wins hits))
+
+-- `LINE search version V games G hits H`, the hits, the totals
+abbrev pub search_text : ℕ → ℕ → ℕ → List Hit → List ℕ
+search_text line version games hits =
+    line_text (decimal line ++ codes " search version" ++ number_text version ++ codes " games" ++ number_text games ++ codes " hits" ++ number_text (length hits))
+    ++ flat_map hit_text hits ++ totals_text hits

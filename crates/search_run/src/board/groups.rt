@@ -1,0 +1,66 @@
+// The group of a point, by a walk over neighbours that stops at the first liberty.
+ghost use Rattle.std.specs.Prelude.{◌≡◌, ℕ, ◌<◌, ◌≤◌, ◌↔◌, ◌⊎◌, length, slice_index, IfNone, OnSome, IfSome, IsTrue, Contains};
+ghost use Rattle.kb_geometry.specs.Board.{point_count, AreNeighbours};
+ghost use Rattle.kb_geometry.specs.Capture.{cell_at, IsInGroup, HasLiberty};
+ghost use Rattle.kb_geometry.specs.declared.stone.Cell.TheVariants as cell;
+ghost use Rattle.search_run.specs.PointSet.{Extends};
+
+use super::adjacent::neighbours;
+use super::point_set::PointSet;
+use kb_geometry::{Cell, Shape};
+
+/// The group of a point if it has no liberty, and `None` if it has one.
+pub fn surrounded_group(shape: Shape, cells: &[Cell], start: u16) -> Option<PointSet>
+    requires whole { length cells.now ≡ point_count shape }
+    requires on_board { start < point_count shape }
+    ensures liberty { IfNone result (HasLiberty shape cells.now start) }
+    ensures surrounded { OnSome result (¬ HasLiberty shape cells.now start) }
+    ensures members { IfSome result (λ group.
+        (q : ℕ) → Contains group q ↔ IsInGroup shape cells.now start q) }
+{
+    let stone = cells[usize::from(start)];
+    let mut group = PointSet::new();
+    group.insert(start);
+    let mut visited = 0;
+    while visited < group.len() {
+        let point = group.at(visited);
+        if add_neighbours(shape, cells, point, stone, &mut group) {
+            return None;
+        }
+        visited += 1;
+    }
+    Some(group)
+}
+
+/// Adds the neighbours of a point that have this cell, up to the first empty neighbour. Answers whether there is one.
+fn add_neighbours(
+    shape: Shape,
+    cells: &[Cell],
+    point: u16,
+    stone: Cell,
+    group: &mut PointSet,
+) -> bool
+    requires whole { length cells.now ≡ point_count shape }
+    requires on_board { point < point_count shape }
+    ensures liberty { IsTrue result
+        ↔ ((q : ℕ) × AreNeighbours shape point q × (cell_at cells.now q ≡ cell.Empty)) }
+    ensures added { ¬ IsTrue result
+        → (q : ℕ) → AreNeighbours shape point q → cell_at cells.now q ≡ stone → Contains group.new q }
+    ensures only { (q : ℕ) → Contains group.new q
+        → Contains group.old q ⊎ (AreNeighbours shape point q × (cell_at cells.now q ≡ stone)) }
+    ensures extends { Extends group.old group.new }
+{
+    let around = neighbours(shape, point);
+    for next in around {
+        if let Some(q) = next {
+            let found = cells[usize::from(q)];
+            if found == Cell::Empty {
+                return true;
+            }
+            if found == stone {
+                group.insert(q);
+            }
+        }
+    }
+    false
+}
