@@ -1,7 +1,8 @@
 -- A listing: the names that a folder's files have under a path, sorted and without repeats.
-use Rattle.std.proofs.Common.{◌≡◌, ◌≢◌, ℕ, ◌+◌, ◌<◌, ◌++◌, take, Bool, true, false, cond, List, [], ◌∷◌, length, get_or, map, refl, sym, subst, ◌∙◌, ap}
+use Rattle.std.proofs.Common.{◌≡◌, ◌≢◌, ℕ, ◌+◌, ◌<◌, ◌++◌, take, Bool, true, false, cond, List, [], ◌∷◌, length, get_or, map, refl, sym, subst, arith, ◌∙◌, ap}
 use Rattle.std.specs.Prelude.{◌&&◌, ◌||◌, String, Any, All, AllPairs, Contains, IsPermutation, filter, nat_eq, string_bytes}
 use Rattle.std.specs.Bool.{Decides}
+use Rattle.std.specs.declared.cmp.Ordering.TheVariants.{Less}
 use Rattle.std.specs.Cmp.Lexicographic.{nat_list_eq_equiv, slice_cmp, texts_ties}
 use Rattle.std.specs.List.{list_any, dedup, dedup_from, IsDistinct, AllByRecursion}
 use Rattle.std.specs.List.Sorted.{IsSorted, IsStrictlySortedBy}
@@ -12,10 +13,10 @@ use Rattle.std.specs.String.{string_cmp, string_cmp_total, string_eq}
 use Rattle.std.specs.declared.alloc.Global.{Global}
 use Rattle.std.proofs.lemmas.Bool.{and_parts, and_from}
 use Rattle.std.proofs.lemmas.List.{append-nil, get_or-map, length-map, map-append, map_more, map_push}
-use Rattle.std.proofs.lemmas.List.Elements.{All-contains, All-contains_itself, All-filter, All-map, All-push, Contains-get_or, filter-append, filter_passes}
+use Rattle.std.proofs.lemmas.List.Elements.{All-from_recursion, All-contains, All-contains_itself, All-filter, All-map, All-push, Contains-get_or, filter-append, filter_passes}
 use Rattle.std.proofs.lemmas.List.Filters.{dedup_is}
 use Rattle.std.proofs.lemmas.List.Folds.{Any-from_list_any}
-use Rattle.std.proofs.lemmas.List.Kept.{Contains-dedup, Contains-from_dedup, IsStrictlySortedBy-dedup}
+use Rattle.std.proofs.lemmas.List.Kept.{AllPairs-cons, Contains-dedup, Contains-from_dedup, IsStrictlySortedBy-dedup}
 use Rattle.std.proofs.lemmas.List.Sorted.{Contains-permutation, IsPermutation-map, IsPermutation-sym}
 use Rattle.std.proofs.lemmas.Map.Keys.{IsDistinct-from_sorted}
 use Rattle.std.proofs.lemmas.Map.Made.{AllPairs-from_IsDistinct}
@@ -139,6 +140,25 @@ module _ (names sorted kept : List (String Global)) (moved : IsPermutation names
       (IsDistinct-texts kept (subst (IsDistinct (eq_by_cmp string_cmp)) (sym (dedup_is string_eq sorted kept filtered))
       (IsDistinct-from_sorted string_cmp (dedup string_eq sorted)
       (IsStrictlySortedBy-dedup string_cmp_total (λ x y. texts_ties (string_bytes x) (string_bytes y)) sorted rises))))
+
+-- what is above a name is above its text
+below-texts : (name : String Global) (names : List (String Global)) → AllByRecursion (λ other. string_cmp name other ≡ Less) names → AllByRecursion (λ other. slice_cmp nat_cmp (string_bytes name) other ≡ Less) (map string_bytes names)
+below-texts name [] above = tt
+below-texts name (other ∷ names) above = (above.0, below-texts name names above.1)
+
+-- names in strict order are texts in strict order
+ascending-texts : (names : List (String Global)) → IsStrictlySortedBy string_cmp names → AllPairs (λ x y. slice_cmp nat_cmp x y ≡ Less) (map string_bytes names)
+unfolding IsStrictlySortedBy
+ascending-texts [] sorted = λ i j d below within. absurd (omega arith)
+ascending-texts (name ∷ names) sorted =
+    AllPairs-cons (λ x y. slice_cmp nat_cmp x y ≡ Less) (string_bytes name) (map string_bytes names)
+    (All-from_recursion (λ y. slice_cmp nat_cmp (string_bytes name) y ≡ Less) (map string_bytes names) (below-texts name names sorted.0))
+    (ascending-texts names sorted.1)
+
+-- `sort_unstable` and `dedup` leave strict order
+pub sorted-ascending : (names sorted kept : List (String Global)) → IsPermutation names sorted → IsFiltered (DiffersFromLast string_eq) [] sorted kept → IsSorted string_cmp sorted → AllPairs (λ x y. slice_cmp nat_cmp x y ≡ Less) (map string_bytes kept)
+sorted-ascending names sorted kept moved filtered rises = ascending-texts kept (subst (IsStrictlySortedBy string_cmp) (sym (dedup_is string_eq sorted kept filtered))
+    (IsStrictlySortedBy-dedup string_cmp_total (λ x y. texts_ties (string_bytes x) (string_bytes y)) sorted rises))
 
 -- names with the same members, each once, are a listing
 pub IsListing-from : (files : List File) (path : List ℕ) (taken names : List (List ℕ)) → taken ≡ sgf_names_of files path →

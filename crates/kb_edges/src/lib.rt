@@ -25,6 +25,7 @@ pub use memory_source::MemorySource;
 pub use real_folder::RealFolder;
 pub use real_sink::RealSink;
 pub use real_source::RealSource;
+pub use search::sort_names;
 pub use traits::{Folder, MAX_LIMIT, Sink, Source};
 
 #[cfg(test)]

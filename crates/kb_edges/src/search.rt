@@ -1,8 +1,11 @@
 // What a folder in memory finds among its files.
 ghost use Rattle.std.specs.Prelude.{◌≡◌, ◌≢◌, ◌&&◌, ℕ, List, AllPairs, Contains, map, find, string_bytes, IfOk};
+ghost use Rattle.std.specs.Cmp.Lexicographic.{slice_cmp};
 ghost use Rattle.std.specs.List.{list_any};
 ghost use Rattle.std.specs.Option.{option_copied};
+ghost use Rattle.std.specs.Ordering.{nat_cmp};
 ghost use Rattle.std.specs.Str.{bytes_eq};
+ghost use Rattle.std.specs.declared.cmp.Ordering.TheVariants.{Less};
 ghost use Rattle.kb_edges.specs.Entries.{files_of};
 ghost use Rattle.kb_edges.specs.Files.{IsListing, is_sgf_name, sgf_names_of};
 
@@ -37,8 +40,9 @@ pub fn sgf_names(alloc: Global, files: &[FileEntry], path: &str) -> Result<Vec<S
     Ok(names)
 }
 
-/// Sorts names, and drops repeats.
+/// Sorts names by their bytes, and drops repeats.
 pub fn sort_names(names: &mut Vec<String>)
+    ensures ascending { AllPairs (λ x y. slice_cmp nat_cmp x y ≡ Less) (map string_bytes names.new.items) }
     ensures distinct { AllPairs (λ x y. x ≢ y) (map string_bytes names.new.items) }
     ensures kept { (name : List ℕ) → Contains (map string_bytes names.old.items) name → Contains (map string_bytes names.new.items) name }
     ensures none_added { (name : List ℕ) → Contains (map string_bytes names.new.items) name → Contains (map string_bytes names.old.items) name }
