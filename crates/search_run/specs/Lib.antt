@@ -1,6 +1,7 @@
 pub mod Board
 pub mod Course
 pub mod Hits
+pub mod Imported
 pub mod Lines
 pub mod NextLine
 pub mod PointSet
