@@ -1,19 +1,20 @@
 -- A plain text and the tree that it spells, by the parts of the text.
 use Prim.Native.Nat.{zero}
 use Rattle.std.proofs.Common.{◌≡◌, ◌≢◌, ℕ, ◌+◌, ◌<◌, ◌≤◌, suc, List, [], ◌∷◌, ◌++◌, length, get_or, map, Some, None, IfSome, refl, sym, ◌∙◌, ap, subst, arith, inl, inr, append_assoc, codes}
-use Rattle.std.proofs.lemmas.List.{length-map}
+use Rattle.std.proofs.lemmas.List.{length-map, append-nil}
+use Rattle.std.proofs.Math.Bridge.{le_prop}
 use Rattle.std.specs.List.{flat_map}
 use Rattle.std.specs.Fmt.{decimal}
 use Rattle.kb_geometry.specs.declared.shape.Shape.{Shape}
 use Rattle.kb_geometry.specs.Board.{IsOnBoard, cols_of, rows_of}
 use Rattle.kb_geometry.specs.Side.{IsSide}
 use Rattle.game_tree.specs.declared.node.Move.{Move}
-use Rattle.game_tree.specs.Information.{no_information}
+use Rattle.game_tree.specs.Information.{Information, no_information, HasNoControls}
 use Rattle.game_tree.specs.Line.{nodes_below, line_of, FitsTree}
 use Rattle.game_tree.specs.Tree.{Tree}
 use Rattle.game_tree.specs.Plain.{Stone, stone_text, plain_text, line_from, SpellsPlain}
-use Rattle.game_tree.specs.PlainParts.{head_text, move_of, AreStones}
-use Rattle.game_tree.proofs.PlainParts.{head_text-only}
+use Rattle.game_tree.specs.PlainParts.{head_text, move_of, IsEnd, AreStones}
+use Rattle.game_tree.proofs.PlainParts.{head_text-only, moves_are_first, IsEnd-no_stone}
 
 -- ---- the text, from left to right
 
@@ -40,13 +41,18 @@ moves_on_board shape [] on k d h = absurd (omega arith)
 moves_on_board shape (s ∷ ss) on zero d h = on 0 s (omega arith)
 moves_on_board shape (s ∷ ss) on (suc k) d h = moves_on_board shape ss (λ j e l. on (suc j) e (omega arith)) k d (omega arith)
 
-pub fits_tree : (shape : Shape) (text : List ℕ) (moves : List Move) (stones : List Stone) → moves ≡ map move_of stones → length stones ≤ 361 → AreStones shape text stones → FitsTree shape moves
-fits_tree shape text moves stones is most are =
-    subst (λ (ms : List Move). FitsTree shape ms) (sym is)
+nothing_simple : HasNoControls []
+nothing_simple k d h = absurd (omega arith)
+
+pub fits_tree : (shape : Shape) (text : List ℕ) (info : Information) (moves : List Move) (stones : List Stone) → info ≡ no_information → moves ≡ map move_of stones → length stones ≤ 361 → AreStones shape text stones → FitsTree shape info moves
+fits_tree shape text info moves stones told is most are =
+    subst (λ (i : Information). FitsTree shape i moves) (sym told)
+    (subst (λ (ms : List Move). FitsTree shape no_information ms) (sym is)
     (record {
       most = omega (arith, length-map stones move_of);
       on_board = moves_on_board shape stones are.on_board;
-    })
+      texts = record { black = nothing_simple; white = nothing_simple; event = nothing_simple; place = nothing_simple; date = nothing_simple; outcome_text = nothing_simple }
+    }))
 
 -- ---- from the parts to the tree, and back
 
@@ -106,3 +112,38 @@ no_stones shape text rest square is none tree spelled =
       on_board = λ k d h. (omega (arith, parts.are.on_board k d h, same.0), omega (arith, parts.are.on_board k d h, rows));
       no_point_twice = parts.are.no_point_twice;
     })
+
+-- ---- a text spells one tree only
+
+same_shape_at : (c r : ℕ) (h k : IsSide c × IsSide r) → h ≡ k
+same_shape_at c r h k = let one : IsProp (IsSide c × IsSide r) = hlevel (le_prop) in one h k
+
+same_shape : (s t : Shape) → cols_of s ≡ cols_of t → rows_of s ≡ rows_of t → s ≡ t
+same_shape s t c r =
+    subst (λ (d : ℕ). (k : IsSide d × IsSide t.rows) → s ≡ record { cols = d; rows = t.rows; in_range = k }) c
+    (subst (λ (u : ℕ). (k : IsSide s.cols × IsSide u) → s ≡ record { cols = s.cols; rows = u; in_range = k }) r
+    (λ k. ap (λ (i : IsSide s.cols × IsSide s.rows). record { cols = s.cols; rows = s.rows; in_range = i }) (same_shape_at s.cols s.rows s.in_range k)))
+    t.in_range
+
+-- the moves of a text are these alone
+same_stones : (a b : List Stone) (d e : List ℕ) → flat_map stone_text a ++ d ≡ flat_map stone_text b ++ e → IsEnd d → IsEnd e → a ≡ b
+same_stones a b d e is hd he =
+    let first = moves_are_first a b d e is he in
+    more first.0 first.1 first.2 where
+  more : (others : List Stone) → b ≡ a ++ others → d ≡ flat_map stone_text others ++ e → a ≡ b
+  more [] f g = sym (f ∙ append-nil a)
+  more (t ∷ ts) f g = absurd (IsEnd-no_stone t (flat_map stone_text ts ++ e) d hd (sym g))
+
+pub one_tree : (text : List ℕ) (s t : Tree) → SpellsPlain text s → SpellsPlain text t → s ≡ t
+one_tree text s t hs ht =
+    let ps = has_parts text s hs in
+    let pt = has_parts text t ht in
+    let heads = head_text-only (cols_of s.shape) (cols_of t.shape) ps.rest pt.rest s.shape.in_range.0 t.shape.in_range.0 (sym ps.text_is ∙ pt.text_is) in
+    let shapes : s.shape ≡ t.shape = same_shape s.shape t.shape heads.0 (sym hs.square ∙ heads.0 ∙ ht.square) in
+    let stones : hs.stones ≡ ht.stones =
+        same_stones hs.stones ht.stones ps.are.end pt.are.end (sym ps.are.text_is ∙ heads.1 ∙ pt.are.text_is) ps.are.ends pt.are.ends in
+    let infos : s.info ≡ t.info = hs.line.nothing_told ∙ sym ht.line.nothing_told in
+    let nodes : s.nodes ≡ t.nodes =
+        hs.line.nodes ∙ ap (λ ss. record { parent = None; setups = []; played = None } ∷ line_from 0 ss) stones ∙ sym ht.line.nodes in
+    let trees : record { shape = s.shape; info = s.info; nodes = s.nodes } ≡ record { shape = t.shape; info = t.info; nodes = t.nodes } = cc (shapes, infos, nodes) in
+    trees

@@ -16,5 +16,5 @@ pub use bytes::Bytes;
 pub use children::Children;
 pub use info::Info;
 pub use node::{Move, Setup};
-pub use plain_text::{PlainError, plain};
+pub use plain_text::{PlainError, plain, plain_spells_one_tree};
 pub use tree::GameTree;

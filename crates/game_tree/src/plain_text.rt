@@ -67,6 +67,12 @@ pub fn plain(alloc: Global, text: &[u8]) -> Result<GameTree, PlainError>
     Ok(GameTree::line(shape, Info::empty(alloc), moves))
 }
 
+/// A plain text spells one tree only.
+pub fn plain_spells_one_tree()
+    ensures { (text : List ℕ) (s t : Tree) → SpellsPlain text s → SpellsPlain text t → s ≡ t }
+{
+}
+
 // The board, and what stands behind `SZ[N]`.
 fn head_of(text: &[u8]) -> Option<(Shape, &[u8])>
     ensures found { IfSome result (λ r. (cols_of r.0 ≡ rows_of r.0) × (text.now ≡ head_text (cols_of r.0) r.1.now)) }

@@ -20,7 +20,7 @@ returns-in_err-moves-clause-not_yet c =
     no_stones c.in-Some.shape _ c.in-Some.rest.now c.in-Some.ensures.found.0 c.in-Some.ensures.found.1 (c.in_err-moves.ensures.not_yet (ap (λ (e : PlainError). Err e) same)) tree
 
 pub line-requires : goal.line-requires
-line-requires c = fits_tree _ _ _ _ c.in_ok-moves.ensures.ok.1 c.in_ok-moves.ensures.ok.2 c.in_ok-moves.ensures.ok.3
+line-requires c = fits_tree _ _ _ _ _ c.empty.ensures c.in_ok-moves.ensures.ok.1 c.in_ok-moves.ensures.ok.2 c.in_ok-moves.ensures.ok.3
 
 pub returns-clause-ok : goal.returns-clause-ok
 returns-clause-ok c =
