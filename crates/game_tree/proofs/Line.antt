@@ -11,7 +11,7 @@ use Rattle.kb_geometry.specs.Board.{IsOnBoard}
 use Rattle.game_tree.specs.declared.node.Move.{Move}
 use Rattle.game_tree.specs.declared.node.Setup.{Setup}
 use Rattle.game_tree.specs.Information.{Information}
-use Rattle.game_tree.specs.Tree.{Tree, Node, IsTree, IsAbove, IsNodeOnBoard, IsRectOnBoard, node_count, node_at, parent_of, is_child_of, children_of, first_of, first_child_of, next_sibling_of, path_within, move_number_of}
+use Rattle.game_tree.specs.Tree.{Tree, Node, IsTree, IsAbove, IsNodeOnBoard, IsRectOnBoard, node_count, node_at, parent_of, is_child_of, children_of, first_of, first_child_of, next_sibling_of, path_within, path_to, move_number_of}
 use Rattle.game_tree.specs.Line.{nodes_below, line_of, FitsTree}
 use Rattle.game_tree.specs.MainLine.{IsOnMainLine}
 
@@ -68,6 +68,12 @@ filter_one p c a (suc n) low high here others_fail =
           let pa : p a ≡ false = others_fail a (omega arith) (omega arith) ne in
           rw pa (filter_one p c (a + 1) n (omega arith) (omega arith) here (λ k l h o. others_fail k (omega arith) (omega arith) o))
     ]
+
+count_none : (p : ℕ → Bool) → ((k : ℕ) → p k ≡ false) → (xs : List ℕ) → count_by p xs ≡ 0
+count_none p none [] = refl
+count_none p none (x ∷ xs) =
+    let here : ◌≡◌ {A = ℕ} (cond (p x) 1 0) 0 = ap (λ b. cond b 1 0) (none x) in
+    sum_by-cons (λ k. cond (p k) 1 0) x xs ∙ omega (arith, here, count_none p none xs)
 
 -- ---- what is true of an option is true of each element of its list
 
@@ -165,7 +171,7 @@ module _ (shape : Shape) (info : Information) (moves : List Move) where
   is_main-line zero h = IsOnMainLine.root
   is_main-line (suc k) h = IsOnMainLine.first_child (is_main-line k (omega arith)) (first_child_of-line k (omega arith))
 
-  pub is_on_board-line : FitsTree shape moves → (n : ℕ) → n < node_count (line_of shape info moves) → IsNodeOnBoard shape (node_at (line_of shape info moves) n)
+  pub is_on_board-line : FitsTree shape info moves → (n : ℕ) → n < node_count (line_of shape info moves) → IsNodeOnBoard shape (node_at (line_of shape info moves) n)
   is_on_board-line fits zero h = record { setups = λ k d l. absurd (omega arith); played = tt }
   is_on_board-line fits (suc k) h =
       let within : k < length moves = omega (arith, node_count-line) in
@@ -180,13 +186,22 @@ module _ (shape : Shape) (info : Information) (moves : List Move) where
       let before : k ≡ suc k - 1 = omega arith in
       (k, parent_of-line k (omega (arith, node_count-line)), omega arith, subst (λ (j : ℕ). IsAbove (line_of shape info moves) k j) before IsAbove.itself)
 
-  pub is_tree-line : FitsTree shape moves → IsTree (line_of shape info moves)
+  no_branching : (m : ℕ) → ltb 1 (length (children_of (line_of shape info moves) m)) ≡ false
+  no_branching m =
+      elim (cases_lt m (length moves)) [
+          inl h ↦ le-ltb 1 (length (children_of (line_of shape info moves) m)) (omega (arith, ap length (children_of-line m h)))
+          | inr h ↦ le-ltb 1 (length (children_of (line_of shape info moves) m)) (omega (arith, ap length (children_of-last m h)))
+      ]
+
+  pub is_tree-line : FitsTree shape info moves → IsTree (line_of shape info moves)
   is_tree-line fits = record {
     some = omega (arith, node_count-line);
     most = omega (arith, node_count-line);
     root = refl;
     parents = parents-line;
     on_board = is_on_board-line fits;
+    depth = λ n h. omega (arith, count_none (λ m. ltb 1 (length (children_of (line_of shape info moves) m))) no_branching (path_to (line_of shape info moves) n));
+    texts = fits.texts;
   }
 
 -- ---- a tree that shows a line
@@ -246,5 +261,5 @@ module _ (shape : Shape) (info : Information) (moves : List Move) (tree : Tree) 
   pub is_main-shown : (n : ℕ) → n < node_count tree → IsOnMainLine tree n
   is_main-shown n h = subst (λ (t : Tree). IsOnMainLine t n) shown (is_main-line shape info moves n (is_within-shown n h))
 
-  pub is_tree-shown : FitsTree shape moves → IsTree tree
+  pub is_tree-shown : FitsTree shape info moves → IsTree tree
   is_tree-shown fits = subst (λ (t : Tree). IsTree t) shown (is_tree-line shape info moves fits)

@@ -3,7 +3,7 @@ use Rattle.std.specs.Prelude.{ℕ, ◌+◌, ◌<◌, ◌≤◌, List, [], ◌∷
 use Rattle.kb_geometry.specs.declared.shape.Shape.{Shape}
 use Rattle.kb_geometry.specs.Board.{IsOnBoard}
 use Rattle.game_tree.specs.declared.node.Move.{Move}
-use Rattle.game_tree.specs.Information.{Information}
+use Rattle.game_tree.specs.Information.{Information, HasSimpleTexts}
 use Rattle.game_tree.specs.Tree.{Tree, Node}
 
 -- the nodes that play these moves, each the child of the node before it; the parent of the first has this number
@@ -15,7 +15,8 @@ nodes_below n (m ∷ ms) = record { parent = Some n; setups = []; played = Some 
 abbrev pub line_of : Shape → Information → List Move → Tree
 line_of shape info moves = record { shape = shape; info = info; nodes = record { parent = None; setups = []; played = None } ∷ nodes_below 0 moves }
 
--- a tree has room for the moves, and their points lie on the board
-pub record FitsTree (shape : Shape) (moves : List Move) : Type 0 where
+-- the line of these moves is a tree: there is room for the moves, their points lie on the board, and the texts are simple
+pub record FitsTree (shape : Shape) (info : Information) (moves : List Move) : Type 0 where
   pub most : length moves ≤ 65535
   pub on_board : (k : ℕ) (d : Move) → k < length moves → IfSome (slice_index_or moves k d).point (IsOnBoard shape)
+  pub texts : HasSimpleTexts info

@@ -9,7 +9,7 @@ use Rattle.kb_geometry.specs.declared.shape.Point.{Point}
 use Rattle.kb_geometry.specs.Board.{IsOnBoard, cols_of, rows_of}
 use Rattle.game_tree.specs.declared.node.Setup.{Setup}
 use Rattle.game_tree.specs.declared.node.Move.{Move}
-use Rattle.game_tree.specs.Information.{Information}
+use Rattle.game_tree.specs.Information.{Information, HasSimpleTexts}
 
 -- a node: the number of its parent, what it sets up, and what it plays
 pub record Node : Type 0 where
@@ -47,14 +47,6 @@ pub record IsNodeOnBoard (shape : Shape) (node : Node) : Type 0 where
   pub setups : All (λ (s : Setup). IsRectOnBoard shape s.rect) node.setups
   pub played : IfSome node.played (λ (m : Move). IfSome m.point (λ (p : Point). IsOnBoard shape p))
 
--- There is a root, which has no parent. The parent of each other node is the node before it, or an ancestor of that.
-pub record IsTree (tree : Tree) : Type 0 where
-  pub some : 1 ≤ node_count tree
-  pub most : node_count tree ≤ 65536
-  pub root : parent_of tree 0 ≡ None
-  pub parents : (n : ℕ) → 1 ≤ n → n < node_count tree → (m : ℕ) × (parent_of tree n ≡ Some m) × (m < n) × IsAbove tree m (n - 1)
-  pub on_board : (n : ℕ) → n < node_count tree → IsNodeOnBoard tree.shape (node_at tree n)
-
 -- the node's parent is m
 abbrev pub is_child_of : Tree → ℕ → ℕ → Bool
 is_child_of tree m n = option_map_or (λ p. p == m) (parent_of tree n) false
@@ -85,6 +77,22 @@ path_within tree (suc most) n = n ∷ option_map_or (path_within tree most) (par
 abbrev pub path_to : Tree → ℕ → List ℕ
 path_to tree n = path_within tree (n + 1) n
 
+-- how many nodes on the path from the root to the node, both ends among them, have more than one child
+abbrev pub branchings_to : Tree → ℕ → ℕ
+branchings_to tree n = count_by (λ m. nat_lt 1 (length (children_of tree m))) (path_to tree n)
+
 -- the number of moves and passes on the path from the root to the node, both ends among them
 abbrev pub move_number_of : Tree → ℕ → ℕ
 move_number_of tree n = count_by (λ m. is_some (node_at tree m).played) (path_to tree n)
+
+-- There is a root, which has no parent. The parent of each other node is the node before it, or an ancestor of that.
+-- Behind a node with more than one child each child's text stands in brackets, so of the brackets of the written text
+-- at most 1,024 are open at one time, that of the whole tree among them.
+pub record IsTree (tree : Tree) : Type 0 where
+  pub some : 1 ≤ node_count tree
+  pub most : node_count tree ≤ 65536
+  pub root : parent_of tree 0 ≡ None
+  pub parents : (n : ℕ) → 1 ≤ n → n < node_count tree → (m : ℕ) × (parent_of tree n ≡ Some m) × (m < n) × IsAbove tree m (n - 1)
+  pub on_board : (n : ℕ) → n < node_count tree → IsNodeOnBoard tree.shape (node_at tree n)
+  pub depth : (n : ℕ) → n < node_count tree → branchings_to tree n < 1024
+  pub texts : HasSimpleTexts tree.info

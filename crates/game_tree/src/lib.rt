@@ -9,10 +9,12 @@ mod bytes;
 mod children;
 mod info;
 mod node;
+mod plain_text;
 mod tree;
 
 pub use bytes::Bytes;
 pub use children::Children;
 pub use info::Info;
 pub use node::{Move, Setup};
+pub use plain_text::{PlainError, plain, plain_spells_one_tree};
 pub use tree::GameTree;

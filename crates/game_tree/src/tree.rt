@@ -26,7 +26,7 @@ impl Model for GameTree {
 
     ghost view = { λ t. line_of t.shape t.info t.moves.items };
 
-    ghost invariant = { λ t. FitsTree t.shape t.moves.items };
+    ghost invariant = { λ t. FitsTree t.shape t.info t.moves.items };
 }
 
 impl GameTree {
@@ -41,7 +41,7 @@ impl GameTree {
 
     // The line of these moves.
     pub(crate) fn line(shape: Shape, info: Info, moves: Vec<Move>) -> Self
-        requires { FitsTree shape moves.items }
+        requires { FitsTree shape info moves.items }
         ensures { result ≡ line_of shape info moves.items }
     {
         GameTree { shape, info, moves }
