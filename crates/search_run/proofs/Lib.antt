@@ -2,6 +2,7 @@ pub mod Boards
 pub mod Captures
 pub mod Cells
 pub mod Fills
+mod ImportLemmas
 mod LineLemmas
 pub mod Neighbours
 pub mod PointSets

@@ -10,8 +10,8 @@ use Rattle.search_run.specs.declared.import.FileOutcome.{FileOutcome}
 use Rattle.search_run.specs.declared.import.FileOutcome.TheVariants as file
 use Rattle.search_run.specs.declared.import.TheConstants.{MAX_FILE, MAX_NAMES}
 
--- a file of an import, and what became of it
-pub record FileLine : Type 0 where
+-- what the report says of a file of an import: its name, and what became of it
+pub record FileReport : Type 0 where
   pub name : List ℕ
   pub outcome : FileOutcome
 
@@ -19,16 +19,17 @@ pub record FileLine : Type 0 where
 pub data Found : Type 0 where
   Unlisted : Found
   TooMany : ℕ → Found
-  Files : List FileLine → List Tree → Found
+  Files : List FileReport → List Tree → Found
 
--- What the course says of one import: whether a fault left it unlisted, and which of its files faults left unread.
+-- What the course says of one import: whether it is unlisted although its path is there, and which of its files are
+-- unread. A fault of the folder pays for each.
 pub record ImportCourse : Type 0 where
   pub unlisted : Bool
   pub unread : List (List ℕ)
 
 -- nothing was lost
-abbrev pub whole_course : ImportCourse
-whole_course = record { unlisted = false; unread = [] }
+abbrev pub nothing_lost : ImportCourse
+nothing_lost = record { unlisted = false; unread = [] }
 
 -- how much the course says was lost: unlisted imports and unread files
 abbrev pub losses_of : List ImportCourse → ℕ
@@ -43,16 +44,16 @@ pub record AreNames (files : List File) (path : List ℕ) (names : List (List �
 abbrev pub IsContent : List File → List ℕ → List ℕ → List ℕ → Type 0
 IsContent files path name bytes = (whole : List ℕ) × (content_of files path name ≡ Some whole) × (bytes ≡ take (MAX_FILE + 1) whole)
 
--- What became of the files of an import, one after another: the lines of the report, the trees of the accepted files,
+-- What became of the files of an import, one after another: the reports, the trees of the accepted files,
 -- and the names of the files that were not read. A file that was read is accepted exactly if its bytes are plain.
-pub data AreRead (files : List File) (path : List ℕ) : List FileLine → List Tree → List (List ℕ) → Type 0 where
+pub data AreRead (files : List File) (path : List ℕ) : List FileReport → List Tree → List (List ℕ) → Type 0 where
   nothing : AreRead files path [] [] []
-  accepted : {lines : List FileLine} {trees : List Tree} {unread : List (List ℕ)} (name bytes : List ℕ) (tree : Tree) → AreRead files path lines trees unread → IsContent files path name bytes → SpellsPlain bytes tree → AreRead files path (lines ++ record { name = name; outcome = file.Accepted } ∷ []) (trees ++ tree ∷ []) unread
-  refused : {lines : List FileLine} {trees : List Tree} {unread : List (List ℕ)} (name bytes : List ℕ) → AreRead files path lines trees unread → IsContent files path name bytes → ((tree : Tree) → ¬ SpellsPlain bytes tree) → AreRead files path (lines ++ record { name = name; outcome = file.Refused } ∷ []) trees unread
-  not_read : {lines : List FileLine} {trees : List Tree} {unread : List (List ℕ)} (name : List ℕ) → AreRead files path lines trees unread → AreRead files path (lines ++ record { name = name; outcome = file.Unread } ∷ []) trees (unread ++ name ∷ [])
+  accepted : {reports : List FileReport} {trees : List Tree} {unread : List (List ℕ)} (name bytes : List ℕ) (tree : Tree) → AreRead files path reports trees unread → IsContent files path name bytes → SpellsPlain bytes tree → AreRead files path (reports ++ record { name = name; outcome = file.Accepted } ∷ []) (trees ++ tree ∷ []) unread
+  refused : {reports : List FileReport} {trees : List Tree} {unread : List (List ℕ)} (name bytes : List ℕ) → AreRead files path reports trees unread → IsContent files path name bytes → ((tree : Tree) → ¬ SpellsPlain bytes tree) → AreRead files path (reports ++ record { name = name; outcome = file.Refused } ∷ []) trees unread
+  not_read : {reports : List FileReport} {trees : List Tree} {unread : List (List ℕ)} (name : List ℕ) → AreRead files path reports trees unread → AreRead files path (reports ++ record { name = name; outcome = file.Unread } ∷ []) trees (unread ++ name ∷ [])
 
--- what an import of this path finds in these files, by this course
+-- what an import of this path finds in these files, by this entry of the course
 abbrev pub IsImported : List File → List ℕ → ImportCourse → Found → Type 0
-IsImported files path course Unlisted = ((course.unlisted ≡ true) ⊎ ((course.unlisted ≡ false) × (¬ HasPath files path))) × (course.unread ≡ [])
-IsImported files path course (TooMany count) = (names : List (List ℕ)) × HasPath files path × AreNames files path names × (count ≡ length names) × (MAX_NAMES < count) × (course ≡ whole_course)
-IsImported files path course (Files lines trees) = HasPath files path × AreNames files path (map (λ (f : FileLine). f.name) lines) × (length lines ≤ MAX_NAMES) × AreRead files path lines trees course.unread × (course.unlisted ≡ false)
+IsImported files path entry Unlisted = ((entry.unlisted ≡ true) ⊎ ((entry.unlisted ≡ false) × (¬ HasPath files path))) × (entry.unread ≡ [])
+IsImported files path entry (TooMany count) = (names : List (List ℕ)) × HasPath files path × AreNames files path names × (count ≡ length names) × (MAX_NAMES < count) × (entry ≡ nothing_lost)
+IsImported files path entry (Files reports trees) = HasPath files path × AreNames files path (map (λ (f : FileReport). f.name) reports) × (length reports ≤ MAX_NAMES) × AreRead files path reports trees entry.unread × (entry.unlisted ≡ false)

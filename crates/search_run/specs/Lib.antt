@@ -5,6 +5,7 @@ pub mod Imported
 pub mod Lines
 pub mod NextLine
 pub mod PointSet
+pub mod Reads
 pub mod Script
 pub mod Session
 pub mod Texts

@@ -20,5 +20,5 @@ abbrev pub IsPath : List ℕ → Type 0
 IsPath path = (1 ≤ length path) × All IsLetter path
 
 -- none of the first n bytes is a line feed
-abbrev pub HasNoFeed : List ℕ → ℕ → Type 0
-HasNoFeed text n = (k : ℕ) → k < n → slice_index text k ≢ 10
+abbrev pub HasNoLineFeed : List ℕ → ℕ → Type 0
+HasNoLineFeed text n = (k : ℕ) → k < n → slice_index text k ≢ 10

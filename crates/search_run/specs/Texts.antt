@@ -4,7 +4,7 @@ use Rattle.std.specs.Fmt.{decimal}
 use Rattle.std.specs.List.{flat_map}
 use Rattle.kb_geometry.specs.declared.stone.Outcome.{Outcome}
 use Rattle.kb_geometry.specs.declared.stone.Outcome.TheVariants as outcome
-use Rattle.search_run.specs.Course.{FileLine, Found, Files, TooMany, Unlisted}
+use Rattle.search_run.specs.Course.{FileReport, Found, Files, TooMany, Unlisted}
 use Rattle.search_run.specs.declared.hit.Hit.{Hit}
 use Rattle.search_run.specs.declared.import.FileOutcome.{FileOutcome}
 use Rattle.search_run.specs.declared.import.FileOutcome.TheVariants as file
@@ -26,7 +26,7 @@ abbrev pub wait_text : ℕ → ℕ → List ℕ
 wait_text line version = line_text (decimal line ++ codes " wait version" ++ number_text version)
 
 -- the line of a file that was not accepted; an accepted one has none
-abbrev pub file_text : FileLine → List ℕ
+abbrev pub file_text : FileReport → List ℕ
 file_text f = text f.outcome
   where
     text : FileOutcome → List ℕ
@@ -34,7 +34,7 @@ file_text f = text f.outcome
     text file.Refused = line_text (codes "refused NotYet 0 " ++ f.name)
     text file.Unread = line_text (codes "unread " ++ f.name)
 
-abbrev pub is_accepted : FileLine → Bool
+abbrev pub is_accepted : FileReport → Bool
 is_accepted f = test f.outcome
   where
     test : FileOutcome → Bool
@@ -42,7 +42,7 @@ is_accepted f = test f.outcome
     test file.Refused = false
     test file.Unread = false
 
-abbrev pub is_refused : FileLine → Bool
+abbrev pub is_refused : FileReport → Bool
 is_refused f = test f.outcome
   where
     test : FileOutcome → Bool
@@ -50,7 +50,7 @@ is_refused f = test f.outcome
     test file.Refused = true
     test file.Unread = false
 
-abbrev pub is_unread : FileLine → Bool
+abbrev pub is_unread : FileReport → Bool
 is_unread f = test f.outcome
   where
     test : FileOutcome → Bool
@@ -62,14 +62,14 @@ is_unread f = test f.outcome
 abbrev pub report_text : ℕ → Found → ℕ → List ℕ
 report_text line Unlisted version = line_text (decimal line ++ codes " imported unlisted")
 report_text line (TooMany names) version = line_text (decimal line ++ codes " imported too many files" ++ number_text names)
-report_text line (Files lines trees) version =
-    line_text (decimal line ++ codes " imported files" ++ number_text (length lines)
-    ++ codes " accepted" ++ number_text (count_by is_accepted lines)
-    ++ codes " refused" ++ number_text (count_by is_refused lines)
-    ++ codes " full 0 unread" ++ number_text (count_by is_unread lines)
+report_text line (Files reports trees) version =
+    line_text (decimal line ++ codes " imported files" ++ number_text (length reports)
+    ++ codes " accepted" ++ number_text (count_by is_accepted reports)
+    ++ codes " refused" ++ number_text (count_by is_refused reports)
+    ++ codes " full 0 unread" ++ number_text (count_by is_unread reports)
     ++ codes " games" ++ number_text (length trees)
     ++ codes " version" ++ number_text version)
-    ++ flat_map file_text lines
+    ++ flat_map file_text reports
 
 -- a hit: its game, node, column and row, the label 0, and no continuation
 abbrev pub hit_text : Hit → List ℕ

@@ -1,10 +1,11 @@
 // The import of a folder: which files it has, and what becomes of each.
-ghost use Rattle.std.specs.Prelude.{◌≡◌, ◌≤◌, ◌<◌, ◌∷◌, [], ◌++◌, List, ℕ, map, length, IfOk, string_bytes, vec_len};
+ghost use Rattle.std.specs.Prelude.{◌≡◌, ◌≤◌, ◌∷◌, [], map, All, IfOk, OnOk, string_bytes};
 ghost use Rattle.kb_edges.specs.Faults.{RoseBy};
-ghost use Rattle.kb_edges.specs.Files.{File, HasFile};
+ghost use Rattle.kb_edges.specs.Files.{HasFile};
 ghost use Rattle.kb_edges.specs.Told.{IfTold};
-ghost use Rattle.search_run.specs.Course.{AreRead, ImportCourse, IsImported, losses_of};
-ghost use Rattle.search_run.specs.Imported.{file_lines, found_of};
+ghost use Rattle.search_run.specs.Course.{ImportCourse, IsImported, losses_of};
+ghost use Rattle.search_run.specs.Imported.{found_of};
+ghost use Rattle.search_run.specs.Reads.{file_reports, HasReadAll, IsFileRead, IsOneMoreRead};
 
 use game_tree::{GameTree, PlainError, plain};
 use kb_edges::{Folder, FolderError, sort_names};
@@ -38,7 +39,9 @@ pub(crate) enum Imported {
     /// The folder could not be listed, or isn't there.
     Unlisted,
     /// There are more names than an import may have.
-    TooMany { listed: usize },
+    TooMany {
+        listed: usize,
+    },
     /// The files in order of their names, and the games of the accepted ones.
     Files {
         files: Vec<ImportedFile>,
@@ -61,7 +64,8 @@ pub(crate) fn import<F: Folder>(
     let mut names = match folder.list(alloc, path) {
         Ok(names) => names,
         Err(FolderError::NoMemory) => return Err(NoMemory),
-        Err(FolderError::Failed | FolderError::Missing) => return Ok(Imported::Unlisted),
+        Err(FolderError::Failed) => return Ok(Imported::Unlisted),
+        Err(FolderError::Missing) => return Ok(Imported::Unlisted),
     };
     sort_names(&mut names);
     if names.len() > MAX_NAMES {
@@ -69,5 +73,91 @@ pub(crate) fn import<F: Folder>(
             listed: names.len(),
         });
     }
-    read_files(alloc, folder, path, names)
+    let (files, trees) = read_files(alloc, folder, path, &names)?;
+    Ok(Imported::Files { files, trees })
+}
+
+// What reading one file gave.
+#[derive(Debug, Drop)]
+enum FileRead {
+    Plain(GameTree),
+    NotPlain,
+    Failed,
+}
+
+// Reads one file.
+fn read_file<F: Folder>(
+    alloc: Global,
+    folder: &mut F,
+    path: &str,
+    name: &str,
+) -> Result<FileRead, NoMemory>
+    ensures found { IfTold (F.files folder.old) (λ files. HasFile files path.now name.now → IfOk result
+        (IsFileRead files path.now name.now (F.faults folder.old) (F.faults folder.new))) }
+    ensures same { F.files folder.new ≡ F.files folder.old }
+    ensures later { F.faults folder.old ≤ F.faults folder.new }
+{
+    let bytes = match folder.read(alloc, path, name, MAX_FILE) {
+        Ok(bytes) => bytes,
+        Err(FolderError::NoMemory) => return Err(NoMemory),
+        Err(FolderError::Failed) => return Ok(FileRead::Failed),
+        Err(FolderError::Missing) => return Ok(FileRead::Failed),
+    };
+    match plain(alloc, &bytes) {
+        Ok(tree) => Ok(FileRead::Plain(tree)),
+        Err(PlainError::NotYet) => Ok(FileRead::NotPlain),
+        Err(PlainError::NoMemory) => Err(NoMemory),
+    }
+}
+
+// Reads one file after others, and adds what became of it.
+fn read_next<F: Folder>(
+    alloc: Global,
+    folder: &mut F,
+    path: &str,
+    name: &str,
+    files: &mut Vec<ImportedFile>,
+    trees: &mut Vec<GameTree>,
+) -> Result<(), NoMemory>
+    ensures found { IfTold (F.files folder.old) (λ all. HasFile all path.now name.now → OnOk result
+        (IsOneMoreRead all path.now name.now (F.faults folder.old) (F.faults folder.new)
+        (file_reports files.old.items) trees.old.items (file_reports files.new.items) trees.new.items)) }
+    ensures same { F.files folder.new ≡ F.files folder.old }
+    ensures later { F.faults folder.old ≤ F.faults folder.new }
+{
+    let own_name = String::from_str(alloc, name)?;
+    let outcome = match read_file(alloc, folder, path, name)? {
+        FileRead::Plain(tree) => {
+            trees.push(tree)?;
+            FileOutcome::Accepted
+        }
+        FileRead::NotPlain => FileOutcome::Refused,
+        FileRead::Failed => FileOutcome::Unread,
+    };
+    files.push(ImportedFile {
+        name: own_name,
+        outcome,
+    })?;
+    Ok(())
+}
+
+// Reads the files of these names, in order.
+fn read_files<F: Folder>(
+    alloc: Global,
+    folder: &mut F,
+    path: &str,
+    names: &[String],
+) -> Result<(Vec<ImportedFile>, Vec<GameTree>), NoMemory>
+    ensures found { IfTold (F.files folder.old) (λ all. All (HasFile all path.now) (map string_bytes names.now) →
+        IfOk result (λ read. HasReadAll all path.now (map string_bytes names.now)
+        (F.faults folder.old) (F.faults folder.new) (file_reports read.0.items) read.1.items)) }
+    ensures same { F.files folder.new ≡ F.files folder.old }
+    ensures later { F.faults folder.old ≤ F.faults folder.new }
+{
+    let mut files = Vec::new(alloc);
+    let mut trees = Vec::new(alloc);
+    for name in names {
+        read_next(alloc, folder, path, name.as_str(), &mut files, &mut trees)?;
+    }
+    Ok((files, trees))
 }

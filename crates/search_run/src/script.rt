@@ -1,6 +1,6 @@
 // Reads a script: its lines, one statement each.
 ghost use Rattle.std.specs.Prelude.{◌≡◌, ◌≤◌, ◌<◌, ◌+◌, [], ◌∷◌, ◌↔◌, ℕ, length, IfOk, IfSome, IfNone, IsErrOf, IsTrue, slice_index};
-ghost use Rattle.search_run.specs.Lines.{HasNoFeed, IsPath, lines_of};
+ghost use Rattle.search_run.specs.Lines.{HasNoLineFeed, IsPath, lines_of};
 ghost use Rattle.search_run.specs.Script.{Spells, IsScript, IsLeastBadLine};
 ghost use Rattle.search_run.specs.NextLine.{IsNext, IsRejected};
 ghost use Rattle.search_run.specs.declared.statement.Statement.{Statement};
@@ -12,7 +12,7 @@ use std::alloc::Global;
 // Where the first line ends: at its line feed, or with the text.
 fn line_end(text: &[u8]) -> usize
     ensures within { result ≤ length text.now }
-    ensures before { HasNoFeed text.now result }
+    ensures before { HasNoLineFeed text.now result }
     ensures found { result < length text.now → slice_index text.now result ≡ 10 }
 {
     for (i, c) in text.iter().enumerate() {

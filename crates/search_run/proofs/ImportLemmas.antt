@@ -1,0 +1,129 @@
+-- Reading the files of an import.
+use Rattle.std.proofs.Common.{◌≡◌, ℕ, Bool, true, false, cond, ◌||◌, List, [], ◌∷◌, ◌++◌, Option, Some, None, refl, sym, ◌∙◌, ap, subst, arith, take, map, length, length-append, get_or, ◌<◌, ◌+◌, ◌≤◌}
+use Rattle.std.specs.Prelude.{All, AllPairs, Contains, IsSome, String, find, string_bytes}
+use Rattle.std.specs.declared.alloc.Global.{Global}
+use Rattle.std.specs.List.{list_any}
+use Rattle.std.specs.Option.{option_map}
+use Rattle.std.proofs.lemmas.Bool.{false≢true}
+use Rattle.std.proofs.lemmas.List.{append-nil, get_or-map, length-map, map_more, map_push}
+use Rattle.std.specs.Cmp.Lexicographic.{slice_cmp}
+use Rattle.std.specs.Ordering.{nat_cmp}
+use Rattle.std.specs.declared.cmp.Ordering.TheVariants.{Less}
+use Rattle.std.proofs.lemmas.List.Elements.{Contains-get_or}
+use Rattle.kb_edges.specs.Files.{File, HasFile, HasPath, IsListing, content_of}
+use Rattle.kb_edges.specs.Told.{IfTold}
+use Rattle.kb_edges.specs.Faults.{Rose, RoseBy}
+use Rattle.game_tree.specs.Tree.{Tree}
+use Rattle.search_run.specs.Course.{AreNames, AreRead, FileReport, Files, ImportCourse, IsContent, IsImported, losses_of, accepted, not_read, nothing, refused}
+use Rattle.search_run.specs.Reads.{HasReadAll, IsFileRead, IsOneMoreRead, file_reports}
+use Rattle.search_run.specs.declared.import.ImportedFile.{ImportedFile}
+use Rattle.search_run.specs.declared.import.TheConstants.{MAX_NAMES}
+use Rattle.search_run.specs.declared.import.FileOutcome.{FileOutcome}
+use Rattle.search_run.specs.declared.import.FileOutcome.TheVariants as file
+use Rattle.search_run.specs.declared.import.FileRead.TheVariants as read
+use Rattle.kb_edges.proofs.Places.{HasFile-any, has_place}
+
+-- what passes a test is found
+find-some : {X Y : Type 0} (f : X → Y) (test : X → Bool) (xs : List X) → list_any test xs ≡ true → option_map f (find test xs) ≡ None → ⊥
+find-some f test [] any none = false≢true any
+find-some f test (x ∷ xs) any none =
+    (elim (test x) as (λ b. (b || list_any test xs) ≡ true → option_map f (cond b (Some x) (find test xs)) ≡ None → ⊥)
+    [ true ↦ λ any none. cc | false ↦ λ any none. find-some f test xs any none ]) any none
+
+-- a file that is there has a content
+pub content_of-there : (files : List File) (path name : List ℕ) → HasFile files path name → content_of files path name ≡ None → ⊥
+content_of-there files path name there none = find-some (λ (file : File). file.bytes) (has_place path name) files (HasFile-any files path name there) none
+
+-- what was read of a content that is there
+read_of : (content : Option (List ℕ)) (read : List ℕ) → IsSome content → IfTold content (λ bytes. read ≡ take 16777217 bytes) → (whole : List ℕ) × (content ≡ Some whole) × (read ≡ take 16777217 whole)
+read_of None read there is = absurd (false≢true there)
+read_of (Some whole) read there is = (whole, refl, is whole refl)
+
+-- the bytes that were read are those that count
+pub IsContent-read : (files : List File) (path name read bytes : List ℕ) → bytes ≡ read → IsSome (content_of files path name) → IfTold (content_of files path name) (λ whole. read ≡ take 16777217 whole) → IsContent files path name bytes
+IsContent-read files path name read bytes same there is =
+    let h = read_of (content_of files path name) read there is in
+    (h.0, h.1, same ∙ h.2)
+
+-- a count that has not fallen rose by nothing
+pub rose_by_none : (before now : ℕ) → before ≤ now → RoseBy 0 before now
+rose_by_none before now later = omega arith
+
+-- a count that rose twice
+pub RoseBy-then : (m n before between now : ℕ) → RoseBy m before between → RoseBy n between now → RoseBy (m + n) before now
+RoseBy-then m n before between now first second = omega arith
+
+-- a line more has its name
+names_push : (lines : List FileReport) (name : List ℕ) (outcome : FileOutcome) → map (λ (f : FileReport). f.name) (lines ++ record { name = name; outcome = outcome } ∷ []) ≡ map (λ (f : FileReport). f.name) lines ++ name ∷ []
+names_push lines name outcome = map_push (λ (f : FileReport). f.name) lines (record { name = name; outcome = outcome })
+
+-- one more file has one more report
+pub reports_push : (all more : List ImportedFile) (f : ImportedFile) (name : List ℕ) → more ≡ all ++ f ∷ [] → string_bytes f.name ≡ name → file_reports more ≡ file_reports all ++ record { name = name; outcome = f.outcome } ∷ []
+reports_push all more f name pushed named =
+    ap file_reports pushed ∙ map_push _ all f ∙ ap (λ n. file_reports all ++ record { name = n; outcome = f.outcome } ∷ []) named
+
+module _ (files : List File) (path name : List ℕ) (before now : ℕ) (reports : List FileReport) (trees : List Tree) (outcome : FileOutcome) (more_trees : List Tree) where
+  -- a file more is accepted
+  pub one_more-accepted : (tree : Tree) → IsFileRead files path name before now (read.Plain tree) → before ≤ now → outcome ≡ file.Accepted → more_trees ≡ trees ++ tree ∷ [] → IsOneMoreRead files path name before now reports trees (reports ++ record { name = name; outcome = outcome } ∷ []) more_trees
+  one_more-accepted tree h later is pushed = λ unread so_far.
+      rw (is, pushed) ([], rw append-nil (accepted name h.0 tree so_far h.1 h.2), rose_by_none before now later, names_push reports name file.Accepted)
+
+  -- a file more is refused
+  pub one_more-refused : IsFileRead files path name before now read.NotPlain → before ≤ now → outcome ≡ file.Refused → more_trees ≡ trees → IsOneMoreRead files path name before now reports trees (reports ++ record { name = name; outcome = outcome } ∷ []) more_trees
+  one_more-refused h later is same = λ unread so_far.
+      rw (is, same) ([], rw append-nil (refused name h.0 so_far h.1 h.2), rose_by_none before now later, names_push reports name file.Refused)
+
+  -- a file more was not read
+  pub one_more-not_read : Rose before now → outcome ≡ file.Unread → more_trees ≡ trees → IsOneMoreRead files path name before now reports trees (reports ++ record { name = name; outcome = outcome } ∷ []) more_trees
+  one_more-not_read rose is same = λ unread so_far.
+      rw (is, same) (name ∷ [], not_read name so_far, rose, names_push reports name file.Unread)
+
+-- nothing is read yet
+pub HasReadAll-start : (files : List File) (path : List ℕ) (count : ℕ) → HasReadAll files path [] count count [] []
+HasReadAll-start files path count = record { unread = []; read = nothing; named = refl; lost = omega arith }
+
+-- one file more is read
+pub HasReadAll-more : (files : List File) (path : List ℕ) (names : List (List ℕ)) (name : List ℕ) (before between now : ℕ) (reports more_reports : List FileReport) (trees more_trees : List Tree) → HasReadAll files path names before between reports trees → IsOneMoreRead files path name between now reports trees more_reports more_trees → HasReadAll files path (names ++ name ∷ []) before now more_reports more_trees
+HasReadAll-more files path names name before between now reports more_reports trees more_trees h more =
+    let next = more h.unread h.read in
+    record {
+      unread = h.unread ++ next.0;
+      read = next.1;
+      named = next.3 ∙ ap (λ ns. ns ++ name ∷ []) h.named;
+      lost = rw length-append (RoseBy-then (length h.unread) (length next.0) before between now h.lost next.2);
+    }
+
+-- the name of each place is a file's
+pub name_there : (files : List File) (path : List ℕ) (names : List (String Global)) (i : ℕ) (name : String Global) → All (HasFile files path) (map string_bytes names) → i < length names → name ≡ get_or names i name → HasFile files path (string_bytes name)
+name_there files path names i name there below is =
+    let at : get_or (map string_bytes names) i (string_bytes name) ≡ string_bytes name = get_or-map string_bytes names i name (string_bytes name) below ∙ ap string_bytes (sym is) in
+    subst (HasFile files path) at (there i (string_bytes name) (rw length-map below))
+
+-- one name more
+pub names_more : (names : List (String Global)) (i : ℕ) (name : String Global) → i < length names → name ≡ get_or names i name → map string_bytes (take (i + 1) names) ≡ map string_bytes (take i names) ++ string_bytes name ∷ []
+names_more names i name below is = map_more string_bytes names i name below ∙ ap (λ n. map string_bytes (take i names) ++ string_bytes n ∷ []) (sym is)
+
+-- sorted names of a listing, without repeats, are the names of an import
+pub AreNames-from_listing : (files : List File) (path : List ℕ) (listed names : List (List ℕ)) → IsListing files path listed → ((name : List ℕ) → Contains listed name → Contains names name) → ((name : List ℕ) → Contains names name → Contains listed name) → AllPairs (λ x y. slice_cmp nat_cmp x y ≡ Less) names → AreNames files path names
+AreNames-from_listing files path listed names h kept none_added ascending = record {
+  each = λ name. ((λ has. let was = none_added name has in (h.there name was, h.sgf name was)), λ is. kept name (h.complete name is.0 is.1));
+  ascending = ascending;
+}
+
+-- the names of an import are names of files
+pub AreNames-there : (files : List File) (path : List ℕ) (names : List (List ℕ)) → AreNames files path names → All (HasFile files path) names
+AreNames-there files path names h k d below = ((h.each (get_or names k d)).0 (Contains-get_or names k d below)).0
+
+-- the losses of one entry
+one_loss : (n before now : ℕ) → RoseBy n before now → RoseBy (0 + (0 + n)) before now
+one_loss n before now h = omega arith
+
+-- a count that stood lower before rose by as much
+RoseBy-earlier : (n before between now : ℕ) → before ≤ between → RoseBy n between now → RoseBy n before now
+RoseBy-earlier n before between now later rose = omega arith
+
+-- an import of these names, whose files are read
+pub IsImported-read : (files : List File) (path : List ℕ) (names : List (String Global)) (before between now : ℕ) (reports : List FileReport) (trees : List Tree) → before ≤ between → HasPath files path → AreNames files path (map string_bytes names) → length names ≤ MAX_NAMES → HasReadAll files path (map string_bytes names) between now reports trees → (entry : ImportCourse) × IsImported files path entry (Files reports trees) × RoseBy (losses_of (entry ∷ [])) before now
+IsImported-read files path names before between now reports trees later there are few h =
+    let counted : length reports ≡ length names = sym (length-map reports (λ (f : FileReport). f.name)) ∙ ap length h.named ∙ length-map names string_bytes in
+    (record { unlisted = false; unread = h.unread }, (there, rw h.named are, rw counted few, h.read, refl), one_loss (length h.unread) before now (RoseBy-earlier (length h.unread) before between now later h.lost))
