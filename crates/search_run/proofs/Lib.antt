@@ -6,5 +6,6 @@ mod ImportLemmas
 mod LineLemmas
 pub mod Neighbours
 pub mod PointSets
+mod PrintLemmas
 mod ScriptLemmas
 pub mod Walks

@@ -25,14 +25,22 @@ import_text line path = line_text (decimal line ++ codes " import " ++ path)
 abbrev pub wait_text : ℕ → ℕ → List ℕ
 wait_text line version = line_text (decimal line ++ codes " wait version" ++ number_text version)
 
+-- `refused NotYet 0 NAME`
+abbrev pub refused_text : List ℕ → List ℕ
+refused_text name = line_text (codes "refused NotYet 0 " ++ name)
+
+-- `unread NAME`
+abbrev pub unread_text : List ℕ → List ℕ
+unread_text name = line_text (codes "unread " ++ name)
+
 -- the line of a file that was not accepted; an accepted one has none
 abbrev pub file_text : FileReport → List ℕ
 file_text f = text f.outcome
   where
     text : FileOutcome → List ℕ
     text file.Accepted = []
-    text file.Refused = line_text (codes "refused NotYet 0 " ++ f.name)
-    text file.Unread = line_text (codes "unread " ++ f.name)
+    text file.Refused = refused_text f.name
+    text file.Unread = unread_text f.name
 
 abbrev pub is_accepted : FileReport → Bool
 is_accepted f = test f.outcome
@@ -58,18 +66,29 @@ is_unread f = test f.outcome
     test file.Refused = false
     test file.Unread = true
 
--- the report of an import: its line, what was found, and the version after it
-abbrev pub report_text : ℕ → Found → ℕ → List ℕ
-report_text line Unlisted version = line_text (decimal line ++ codes " imported unlisted")
-report_text line (TooMany names) version = line_text (decimal line ++ codes " imported too many files" ++ number_text names)
-report_text line (Files reports trees) version =
+-- the counts of an import: files, what became of them, games added, and the version after it
+abbrev pub counts_text : ℕ → List FileReport → ℕ → ℕ → List ℕ
+counts_text line reports games version =
     line_text (decimal line ++ codes " imported files" ++ number_text (length reports)
     ++ codes " accepted" ++ number_text (count_by is_accepted reports)
     ++ codes " refused" ++ number_text (count_by is_refused reports)
     ++ codes " full 0 unread" ++ number_text (count_by is_unread reports)
-    ++ codes " games" ++ number_text (length trees)
+    ++ codes " games" ++ number_text games
     ++ codes " version" ++ number_text version)
-    ++ flat_map file_text reports
+
+-- `LINE imported unlisted`
+abbrev pub unlisted_text : ℕ → List ℕ
+unlisted_text line = line_text (decimal line ++ codes " imported unlisted")
+
+-- `LINE imported too many files N`
+abbrev pub too_many_text : ℕ → ℕ → List ℕ
+too_many_text line names = line_text (decimal line ++ codes " imported too many files" ++ number_text names)
+
+-- the report of an import: what was found, and the version after it
+abbrev pub report_text : ℕ → Found → ℕ → List ℕ
+report_text line Unlisted version = unlisted_text line
+report_text line (TooMany names) version = too_many_text line names
+report_text line (Files reports trees) version = counts_text line reports (length trees) version ++ flat_map file_text reports
 
 -- a hit: its game, node, column and row, the label 0, and no continuation
 abbrev pub hit_text : Hit → List ℕ

@@ -33,6 +33,32 @@ pub(crate) struct ImportedFile {
     pub outcome: FileOutcome,
 }
 
+impl ImportedFile {
+    ghost use Rattle.search_run.specs.Reads.{file_report};
+    ghost use Rattle.search_run.specs.Texts.{is_accepted, is_refused, is_unread};
+
+    /// Whether it was accepted.
+    pub fn is_accepted(&self) -> bool
+        ensures { result ≡ is_accepted (file_report self.now) }
+    {
+        matches!(self.outcome, FileOutcome::Accepted)
+    }
+
+    /// Whether it was refused.
+    pub fn is_refused(&self) -> bool
+        ensures { result ≡ is_refused (file_report self.now) }
+    {
+        matches!(self.outcome, FileOutcome::Refused)
+    }
+
+    /// Whether it was not read.
+    pub fn is_unread(&self) -> bool
+        ensures { result ≡ is_unread (file_report self.now) }
+    {
+        matches!(self.outcome, FileOutcome::Unread)
+    }
+}
+
 /// What an import found.
 #[derive(Debug, Drop)]
 pub(crate) enum Imported {

@@ -4,6 +4,7 @@
 mod board;
 mod hit;
 mod import;
+mod print;
 mod script;
 mod statement;
 

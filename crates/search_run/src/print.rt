@@ -1,0 +1,145 @@
+// The printed texts.
+ghost use Rattle.std.specs.Prelude.{◌≡◌, ◌++◌, OnOk, count_by, string_bytes};
+ghost use Rattle.search_run.specs.Imported.{found_of};
+ghost use Rattle.search_run.specs.Reads.{file_report, file_reports};
+ghost use Rattle.search_run.specs.Texts.{counts_text, file_text, import_text, is_accepted, is_refused, is_unread, refused_text, report_text, too_many_text, unlisted_text, unread_text, wait_text};
+ghost use Rattle.std.specs.List.{flat_map};
+
+use crate::import::{FileOutcome, Imported, ImportedFile};
+use kb_geometry::NoMemory;
+use std::fmt::Write;
+
+/// Prints the line of an import.
+pub(crate) fn print_import(out: &mut String, line: u32, path: &str) -> Result<(), NoMemory>
+    ensures { OnOk result (string_bytes out.new ≡ string_bytes out.old ++ import_text line path.now) }
+{
+    writeln!(out, "{line} import {path}")?;
+    Ok(())
+}
+
+/// Prints the line of a wait.
+pub(crate) fn print_wait(out: &mut String, line: u32, version: u64) -> Result<(), NoMemory>
+    ensures { OnOk result (string_bytes out.new ≡ string_bytes out.old ++ wait_text line version) }
+{
+    writeln!(out, "{line} wait version {version}")?;
+    Ok(())
+}
+
+// How many files were accepted, refused and not read.
+fn accepted_count(files: &[ImportedFile]) -> usize
+    ensures { result ≡ count_by (λ f. is_accepted (file_report f)) files.now }
+{
+    files.iter().filter(|f| f.is_accepted()).count()
+}
+
+fn refused_count(files: &[ImportedFile]) -> usize
+    ensures { result ≡ count_by (λ f. is_refused (file_report f)) files.now }
+{
+    files.iter().filter(|f| f.is_refused()).count()
+}
+
+fn unread_count(files: &[ImportedFile]) -> usize
+    ensures { result ≡ count_by (λ f. is_unread (file_report f)) files.now }
+{
+    files.iter().filter(|f| f.is_unread()).count()
+}
+
+// Prints the line of a file that was refused.
+fn print_refused(out: &mut String, name: &str) -> Result<(), NoMemory>
+    ensures { OnOk result (string_bytes out.new ≡ string_bytes out.old ++ refused_text name.now) }
+{
+    writeln!(out, "refused NotYet 0 {name}")?;
+    Ok(())
+}
+
+// Prints the line of a file that was not read.
+fn print_unread(out: &mut String, name: &str) -> Result<(), NoMemory>
+    ensures { OnOk result (string_bytes out.new ≡ string_bytes out.old ++ unread_text name.now) }
+{
+    writeln!(out, "unread {name}")?;
+    Ok(())
+}
+
+// Prints the line of a file that was not accepted.
+fn print_file(out: &mut String, file: &ImportedFile) -> Result<(), NoMemory>
+    ensures { OnOk result (string_bytes out.new ≡ string_bytes out.old ++ file_text (file_report file.now)) }
+{
+    let name = file.name.as_str();
+    match file.outcome {
+        FileOutcome::Accepted => {}
+        FileOutcome::Refused => print_refused(out, name)?,
+        FileOutcome::Unread => print_unread(out, name)?,
+    }
+    Ok(())
+}
+
+// Prints the lines of the files that were not accepted, in order.
+fn print_files(out: &mut String, files: &[ImportedFile]) -> Result<(), NoMemory>
+    ensures { OnOk result (string_bytes out.new ≡ string_bytes out.old ++ flat_map file_text (file_reports files.now)) }
+{
+    for file in files {
+        print_file(out, file)?;
+    }
+    Ok(())
+}
+
+// Prints the counts of an import.
+fn print_counts(
+    out: &mut String,
+    line: u32,
+    files: &[ImportedFile],
+    games: usize,
+    version: u64,
+) -> Result<(), NoMemory>
+    ensures { OnOk result (string_bytes out.new ≡ string_bytes out.old ++ counts_text line (file_reports files.now) games version) }
+{
+    let count = files.len();
+    let accepted = accepted_count(files);
+    let refused = refused_count(files);
+    let unread = unread_count(files);
+    write!(
+        out,
+        "{line} imported files {count} accepted {accepted} refused {refused}"
+    )?;
+    writeln!(
+        out,
+        " full 0 unread {unread} games {games} version {version}"
+    )?;
+    Ok(())
+}
+
+// Prints the report of an import without a listing.
+fn print_unlisted(out: &mut String, line: u32) -> Result<(), NoMemory>
+    ensures { OnOk result (string_bytes out.new ≡ string_bytes out.old ++ unlisted_text line) }
+{
+    writeln!(out, "{line} imported unlisted")?;
+    Ok(())
+}
+
+// Prints the report of an import of too many names.
+fn print_too_many(out: &mut String, line: u32, names: usize) -> Result<(), NoMemory>
+    ensures { OnOk result (string_bytes out.new ≡ string_bytes out.old ++ too_many_text line names) }
+{
+    writeln!(out, "{line} imported too many files {names}")?;
+    Ok(())
+}
+
+/// Prints the report of an import.
+pub(crate) fn print_report(
+    out: &mut String,
+    line: u32,
+    imported: &Imported,
+    version: u64,
+) -> Result<(), NoMemory>
+    ensures { OnOk result (string_bytes out.new ≡ string_bytes out.old ++ report_text line (found_of imported.now) version) }
+{
+    match imported {
+        Imported::Unlisted => print_unlisted(out, line)?,
+        Imported::TooMany { listed } => print_too_many(out, line, *listed)?,
+        Imported::Files { files, trees } => {
+            print_counts(out, line, files, trees.len(), version)?;
+            print_files(out, files)?;
+        }
+    }
+    Ok(())
+}
