@@ -1,7 +1,7 @@
 -- Captured stones, stones taken off, and a move by the capture rule.
 use Rattle.std.proofs.Common.{◌≡◌, ◌≢◌, ℕ, ◌+◌, ◌<◌, ◌≤◌, ◌⊎◌, ◌↔◌, inl, inr, List, [], length, get_or, set, Option, Some, None, refl, sym, ◌∙◌, arith, below_more}
-use Rattle.std.specs.Prelude.{Contains, All}
-use Rattle.std.proofs.lemmas.List.{get_or-set_same, get_or-set_other, get_or_default, length-set, ext_get_or}
+use Rattle.std.specs.Prelude.{Contains}
+use Rattle.std.proofs.lemmas.List.{get_or-set_same, get_or-set_other, get_or_default, ext_get_or}
 use Rattle.search_run.proofs.Cells.{cases_cell}
 use Rattle.std.proofs.lemmas.List.Elements.{Contains-get_or}
 use Rattle.std.proofs.lemmas.Bool.{cases_eq}
@@ -10,7 +10,7 @@ use Rattle.kb_geometry.specs.declared.stone.Cell.{Cell}
 use Rattle.kb_geometry.specs.declared.stone.Cell.TheVariants as cell
 use Rattle.kb_geometry.specs.declared.stone.Colour.{Colour}
 use Rattle.kb_geometry.specs.Board.{AreNeighbours, point_count}
-use Rattle.kb_geometry.specs.Capture.{Position, Walk, IsInGroup, HasLiberty, IsWithout, IsCaptured, IsSuicide, IsPlayed, cell_at, stone_of, other_side}
+use Rattle.kb_geometry.specs.Capture.{Position, IsInGroup, HasLiberty, IsWithout, IsCaptured, IsSuicide, IsPlayed, cell_at, stone_of, other_side}
 use Rattle.search_run.proofs.Neighbours.{neighbour-lt-count}
 use Rattle.search_run.proofs.Walks.{walk-lt-count}
 

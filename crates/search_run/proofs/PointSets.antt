@@ -1,8 +1,7 @@
 -- A set of points by a list of its members and a mark for each point: its start, its room and one more point.
-use Rattle.std.proofs.Common.{◌≡◌, ◌≢◌, ℕ, suc, ◌+◌, ◌*◌, ◌<◌, ◌≤◌, ◌⊎◌, ◌↔◌, inl, inr, Bool, true, false, cond, List, [], ◌∷◌, ◌++◌, length, get_or, set, take, replicate, refl, sym, ap, ◌∙◌, subst, arith, below_more}
+use Rattle.std.proofs.Common.{◌≡◌, ◌≢◌, ℕ, ◌+◌, ◌<◌, ◌≤◌, ◌⊎◌, ◌↔◌, inl, inr, Bool, true, false, cond, List, [], ◌∷◌, ◌++◌, length, get_or, set, take, replicate, refl, sym, ◌∙◌, arith, below_more}
 use Rattle.std.specs.Prelude.{count_by, All, Contains}
-use Rattle.std.specs.List.{sum_by}
-use Rattle.std.proofs.lemmas.List.{take_more_set, get_or-replicate, length-replicate, get_or_past, take-set, get_or-set_same, get_or-set_other, length-set, get_or_append_left, length_push, get_or_default, length-take, get_or-take}
+use Rattle.std.proofs.lemmas.List.{take_more_set, get_or-replicate, length-replicate, get_or_past, get_or-set_same, get_or-set_other, length-set, get_or_append_left, length_push, get_or_default, length-take, get_or-take}
 use Rattle.std.proofs.lemmas.List.Folds.{sum_by-replicate}
 use Rattle.std.proofs.lemmas.List.Sums.{sum_by-set, count_by-le-length}
 use Rattle.std.proofs.lemmas.List.Elements.{Contains-get_or, Contains-append_left, Contains-push, Contains-push_cases}

@@ -1,7 +1,7 @@
-use Rattle.std.proofs.Common.{◌≡◌, ◌<◌, ℕ, length, set, arith}
+use Rattle.std.proofs.Common.{◌<◌, length, set, arith}
 use Rattle.std.specs.Prelude.{Contains}
 use Rattle.std.proofs.lemmas.List.{length-set}
-use Rattle.kb_geometry.specs.Capture.{IsWithout, IsCaptured, IsSuicide, cell_at, stone_of, other_side}
+use Rattle.kb_geometry.specs.Capture.{IsCaptured, IsSuicide, cell_at}
 use Rattle.search_run.proofs.PointSets.{All-from_contains}
 use Rattle.search_run.proofs.Walks.{walk-lt-count}
 use Rattle.search_run.proofs.Captures.{IsWithout-same, IsWithout-none, captured-lt-count, no_suicide, suicide_is}

@@ -1,4 +1,3 @@
-use Rattle.std.proofs.Common.{replicate}
 use Rattle.std.proofs.lemmas.List.{take-replicate}
 use Rattle.kb_geometry.specs.Board.{point_count}
 use Rattle.kb_geometry.specs.declared.stone.Cell.TheVariants as cell

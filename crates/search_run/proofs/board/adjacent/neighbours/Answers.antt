@@ -1,4 +1,4 @@
-use Rattle.std.proofs.Common.{◌≡◌, ◌<◌, ◌+◌, ◌-◌, arith}
+use Rattle.std.proofs.Common.{◌<◌, ◌+◌, ◌-◌, arith}
 use Rattle.std.specs.Option.{SomeIff}
 use Rattle.kb_geometry.specs.Board.{cols_of, rows_of}
 use Rattle.search_run.proofs.Neighbours.{number_at, neighbours_are_four}

@@ -1,4 +1,4 @@
-use Rattle.std.proofs.Common.{◌≡◌, ◌⊎◌, inl, inr, ℕ, sym, ◌∙◌}
+use Rattle.std.proofs.Common.{◌≡◌, ◌⊎◌, inl, inr, sym, ◌∙◌}
 use Rattle.std.specs.Prelude.{Contains}
 use Rattle.kb_geometry.specs.Capture.{cell_at}
 use Rattle.search_run.proofs.Cells.{same_cell}

@@ -1,6 +1,6 @@
-use Rattle.std.proofs.Common.{◌≡◌, ◌<◌, arith}
+use Rattle.std.proofs.Common.{arith}
 use Rattle.search_run.proofs.Neighbours.{around_neighbour, neighbour-lt-count}
-use Rattle.search_run.proofs.Captures.{IsTaken-none, IsTaken-skip, IsTaken-more, IsTaken-all}
+use Rattle.search_run.proofs.Captures.{IsTaken-skip, IsTaken-more, IsTaken-all}
 use Rattle.search_run.proofs.board.captures.captured.Goals as goal
 use Rattle.search_run.proofs.board.captures.captured.Goals.{in-Some, in_default}
 

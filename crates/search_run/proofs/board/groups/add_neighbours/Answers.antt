@@ -1,8 +1,5 @@
-use Rattle.std.proofs.Common.{◌≡◌, ◌≢◌, ◌<◌, ◌≤◌, ◌+◌, ℕ, true, false, Some, None, get_or, refl, sym, ◌∙◌, arith}
-use Rattle.std.specs.Prelude.{Contains}
+use Rattle.std.proofs.Common.{◌≡◌, ◌≢◌, refl, sym, ◌∙◌, arith}
 use Rattle.std.proofs.lemmas.Bool.{false≢true}
-use Rattle.std.proofs.lemmas.List.{get_or_default}
-use Rattle.kb_geometry.specs.Board.{point_count, AreNeighbours}
 use Rattle.kb_geometry.specs.Capture.{cell_at}
 use Rattle.kb_geometry.specs.declared.stone.Cell.TheVariants as cell
 use Rattle.search_run.proofs.Cells.{same_cell, other_cell}

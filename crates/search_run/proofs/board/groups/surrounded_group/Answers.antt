@@ -1,11 +1,8 @@
-use Rattle.std.proofs.Common.{◌≡◌, ◌≢◌, ◌<◌, ◌≤◌, ◌+◌, ℕ, List, [], length, true, false, get_or, refl, sym, ◌∙◌, arith}
-use Rattle.std.specs.Prelude.{Contains}
+use Rattle.std.proofs.Common.{◌≢◌, ℕ, get_or, sym, ◌∙◌, arith}
 use Rattle.std.proofs.lemmas.Bool.{false≢true}
-use Rattle.kb_geometry.specs.Board.{point_count, AreNeighbours}
+use Rattle.kb_geometry.specs.Board.{AreNeighbours}
 use Rattle.kb_geometry.specs.Capture.{cell_at}
 use Rattle.kb_geometry.specs.declared.stone.Cell.TheVariants as cell
-use Rattle.search_run.specs.PointSet.{IsWithPoint}
-use Rattle.search_run.proofs.Boards.{point_count-le-room}
 use Rattle.search_run.proofs.Fills.{Filled-start, Filled-member, Filled-liberty, Filled-more, Filled-group, Filled-surrounded}
 use Rattle.search_run.proofs.Walks.{walk-lt-count}
 use Rattle.search_run.proofs.board.groups.surrounded_group.Goals as goal

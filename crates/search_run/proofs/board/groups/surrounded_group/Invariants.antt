@@ -1,5 +1,4 @@
-use Rattle.std.proofs.Common.{◌≡◌, ◌-◌}
-use Rattle.kb_geometry.specs.Capture.{cell_at}
+use Rattle.std.proofs.Common.{◌-◌}
 use Rattle.search_run.specs.declared.board.TheConstants.{ROOM}
 use Rattle.search_run.proofs.Fills.{Filled}
 use Rattle.search_run.proofs.board.groups.surrounded_group.Given as goal

@@ -1,4 +1,4 @@
-use Rattle.std.proofs.Common.{arith, ◌<◌, length}
+use Rattle.std.proofs.Common.{arith}
 use Rattle.search_run.proofs.PointSets.{IsPointSet-below}
 use Rattle.search_run.proofs.board.point_set.PointSet.at.Goals as goal
 

@@ -1,4 +1,4 @@
-use Rattle.std.proofs.Common.{arith, ◌∙◌, ◌≡◌, ◌<◌, length, get_or, false}
+use Rattle.std.proofs.Common.{arith}
 use Rattle.search_run.proofs.PointSets.{IsPointSet-room, IsPointSet-more, IsWithPoint-more}
 use Rattle.search_run.proofs.board.point_set.PointSet.insert.Goals as goal
 

@@ -1,4 +1,4 @@
-use Rattle.std.proofs.Common.{arith, ◌<◌, ◌≤◌, length}
+use Rattle.std.proofs.Common.{arith}
 use Rattle.search_run.proofs.PointSets.{IsJoined-more, IsJoined-all}
 use Rattle.search_run.proofs.board.point_set.PointSet.insert_all.Goals as goal
 
