@@ -2,6 +2,7 @@ pub mod Boards
 pub mod Captures
 pub mod Cells
 pub mod Fills
+pub mod GroupLaws
 mod ImportLemmas
 mod LineLemmas
 pub mod Neighbours
