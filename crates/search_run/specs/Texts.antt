@@ -6,32 +6,30 @@ use Rattle.kb_geometry.specs.declared.stone.Outcome.{Outcome}
 use Rattle.kb_geometry.specs.declared.stone.Outcome.TheVariants as outcome
 use Rattle.search_run.specs.Course.{FileReport, Found, Files, TooMany, Unlisted}
 use Rattle.search_run.specs.declared.hit.Hit.{Hit}
+use Rattle.search_run.specs.declared.print.Counts.{Counts}
 use Rattle.search_run.specs.declared.import.FileOutcome.{FileOutcome}
 use Rattle.search_run.specs.declared.import.FileOutcome.TheVariants as file
 
--- a line: these bytes and a line feed
-abbrev pub line_text : List ℕ → List ℕ
-line_text bytes = bytes ++ 10 ∷ []
-
--- a space and a number
-abbrev pub number_text : ℕ → List ℕ
-number_text n = 32 ∷ decimal n
+-- a line: these pieces and a line feed
+abbrev pub line_text : List (List ℕ) → List ℕ
+line_text [] = 10 ∷ []
+line_text (piece ∷ pieces) = piece ++ line_text pieces
 
 -- `LINE import PATH`
 abbrev pub import_text : ℕ → List ℕ → List ℕ
-import_text line path = line_text (decimal line ++ codes " import " ++ path)
+import_text line path = line_text (decimal line ∷ codes " import " ∷ path ∷ [])
 
 -- `LINE wait version V`
 abbrev pub wait_text : ℕ → ℕ → List ℕ
-wait_text line version = line_text (decimal line ++ codes " wait version" ++ number_text version)
+wait_text line version = line_text (decimal line ∷ codes " wait version " ∷ decimal version ∷ [])
 
 -- `refused NotYet 0 NAME`
 abbrev pub refused_text : List ℕ → List ℕ
-refused_text name = line_text (codes "refused NotYet 0 " ++ name)
+refused_text name = line_text (codes "refused NotYet 0 " ∷ name ∷ [])
 
 -- `unread NAME`
 abbrev pub unread_text : List ℕ → List ℕ
-unread_text name = line_text (codes "unread " ++ name)
+unread_text name = line_text (codes "unread " ∷ name ∷ [])
 
 -- the line of a file that was not accepted; an accepted one has none
 abbrev pub file_text : FileReport → List ℕ
@@ -66,33 +64,48 @@ is_unread f = test f.outcome
     test file.Refused = false
     test file.Unread = true
 
--- the counts of an import: files, what became of them, games added, and the version after it
-abbrev pub counts_text : ℕ → List FileReport → ℕ → ℕ → List ℕ
-counts_text line reports games version =
-    line_text (decimal line ++ codes " imported files" ++ number_text (length reports)
-    ++ codes " accepted" ++ number_text (count_by is_accepted reports)
-    ++ codes " refused" ++ number_text (count_by is_refused reports)
-    ++ codes " full 0 unread" ++ number_text (count_by is_unread reports)
-    ++ codes " games" ++ number_text games
-    ++ codes " version" ++ number_text version)
+-- how many files an import has, and how many were accepted and refused
+abbrev pub counts_head : ℕ → Counts → List ℕ
+counts_head line counts = decimal line ++ (codes " imported files " ++ (decimal counts.files ++ (codes " accepted " ++ (decimal counts.accepted ++ (codes " refused " ++ decimal counts.refused)))))
+
+-- how many were not read, the games that were added, and the version after it
+abbrev pub counts_tail : Counts → ℕ → ℕ → List ℕ
+counts_tail counts games version = line_text (codes " full 0 unread " ∷ decimal counts.unread ∷ codes " games " ∷ decimal games ∷ codes " version " ∷ decimal version ∷ [])
+
+-- the counts of an import
+abbrev pub counts_text : ℕ → Counts → ℕ → ℕ → List ℕ
+counts_text line counts games version = counts_head line counts ++ counts_tail counts games version
+
+-- how many files there are, and how many were accepted, refused and not read
+abbrev pub counts_of : List FileReport → Counts
+counts_of reports = record {
+  files = length reports;
+  accepted = count_by is_accepted reports;
+  refused = count_by is_refused reports;
+  unread = count_by is_unread reports;
+}
+
+-- the counts of an import, and the lines of the files that were not accepted
+abbrev pub listed_text : ℕ → List FileReport → ℕ → ℕ → List ℕ
+listed_text line reports games version = counts_text line (counts_of reports) games version ++ flat_map file_text reports
 
 -- `LINE imported unlisted`
 abbrev pub unlisted_text : ℕ → List ℕ
-unlisted_text line = line_text (decimal line ++ codes " imported unlisted")
+unlisted_text line = line_text (decimal line ∷ codes " imported unlisted" ∷ [])
 
 -- `LINE imported too many files N`
 abbrev pub too_many_text : ℕ → ℕ → List ℕ
-too_many_text line names = line_text (decimal line ++ codes " imported too many files" ++ number_text names)
+too_many_text line names = line_text (decimal line ∷ codes " imported too many files " ∷ decimal names ∷ [])
 
 -- the report of an import: what was found, and the version after it
 abbrev pub report_text : ℕ → Found → ℕ → List ℕ
 report_text line Unlisted version = unlisted_text line
 report_text line (TooMany names) version = too_many_text line names
-report_text line (Files reports trees) version = counts_text line reports (length trees) version ++ flat_map file_text reports
+report_text line (Files reports trees) version = listed_text line reports (length trees) version
 
 -- a hit: its game, node, column and row, the label 0, and no continuation
 abbrev pub hit_text : Hit → List ℕ
-hit_text hit = line_text (codes "hit" ++ number_text hit.game ++ number_text hit.node ++ number_text hit.point.x ++ number_text hit.point.y ++ codes " 0 -")
+hit_text hit = line_text (codes "hit " ∷ decimal hit.game ∷ codes " " ∷ decimal hit.node ∷ codes " " ∷ decimal hit.point.x ∷ codes " " ∷ decimal hit.point.y ∷ codes " 0 -" ∷ [])
 
 abbrev pub is_black_win : Outcome → Bool
 is_black_win outcome.Black = true
@@ -120,10 +133,12 @@ white_wins hits = count_by (λ (hit : Hit). is_white_win hit.outcome) hits
 
 -- all hits, those with a continuation at once and later, of which there are none, and the hits by who won
 abbrev pub totals_text : List Hit → List ℕ
-totals_text hits = line_text (codes "total" ++ number_text (length hits) ++ codes " 0 0" ++ number_text (black_wins hits) ++ number_text (white_wins hits) ++ number_text (length hits - black_wins hits - white_wins hits))
+totals_text hits = line_text (codes "total " ∷ decimal (length hits) ∷ codes " 0 0 " ∷ decimal (black_wins hits) ∷ codes " " ∷ decimal (white_wins hits) ∷ codes " " ∷ decimal (length hits - black_wins hits - white_wins hits) ∷ [])
 
--- `LINE search version V games G hits H`, the hits, the totals
+-- `LINE search version V games G hits H`
+abbrev pub search_head : ℕ → ℕ → ℕ → List Hit → List ℕ
+search_head line version games hits = line_text (decimal line ∷ codes " search version " ∷ decimal version ∷ codes " games " ∷ decimal games ∷ codes " hits " ∷ decimal (length hits) ∷ [])
+
+-- the head of a search, the hits, the totals
 abbrev pub search_text : ℕ → ℕ → ℕ → List Hit → List ℕ
-search_text line version games hits =
-    line_text (decimal line ++ codes " search version" ++ number_text version ++ codes " games" ++ number_text games ++ codes " hits" ++ number_text (length hits))
-    ++ flat_map hit_text hits ++ totals_text hits
+search_text line version games hits = search_head line version games hits ++ flat_map hit_text hits ++ totals_text hits

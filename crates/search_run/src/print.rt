@@ -2,7 +2,7 @@
 ghost use Rattle.std.specs.Prelude.{◌≡◌, ◌++◌, OnOk, count_by, string_bytes};
 ghost use Rattle.search_run.specs.Imported.{found_of};
 ghost use Rattle.search_run.specs.Reads.{file_report, file_reports};
-ghost use Rattle.search_run.specs.Texts.{counts_text, file_text, import_text, is_accepted, is_refused, is_unread, refused_text, report_text, too_many_text, unlisted_text, unread_text, wait_text};
+ghost use Rattle.search_run.specs.Texts.{counts_head, counts_of, counts_tail, counts_text, file_text, import_text, is_accepted, is_refused, is_unread, listed_text, refused_text, report_text, too_many_text, unlisted_text, unread_text, wait_text};
 ghost use Rattle.std.specs.List.{flat_map};
 
 use crate::import::{FileOutcome, Imported, ImportedFile};
@@ -25,23 +25,42 @@ pub(crate) fn print_wait(out: &mut String, line: u32, version: u64) -> Result<()
     Ok(())
 }
 
-// How many files were accepted, refused and not read.
+// How many files an import has, and how many were accepted, refused and not read.
+#[derive(Clone, Copy, Debug, PartialEq, Eq)]
+struct Counts {
+    files: usize,
+    accepted: usize,
+    refused: usize,
+    unread: usize,
+}
+
 fn accepted_count(files: &[ImportedFile]) -> usize
-    ensures { result ≡ count_by (λ f. is_accepted (file_report f)) files.now }
+    ensures { result ≡ count_by is_accepted (file_reports files.now) }
 {
     files.iter().filter(|f| f.is_accepted()).count()
 }
 
 fn refused_count(files: &[ImportedFile]) -> usize
-    ensures { result ≡ count_by (λ f. is_refused (file_report f)) files.now }
+    ensures { result ≡ count_by is_refused (file_reports files.now) }
 {
     files.iter().filter(|f| f.is_refused()).count()
 }
 
 fn unread_count(files: &[ImportedFile]) -> usize
-    ensures { result ≡ count_by (λ f. is_unread (file_report f)) files.now }
+    ensures { result ≡ count_by is_unread (file_reports files.now) }
 {
     files.iter().filter(|f| f.is_unread()).count()
+}
+
+fn counts_of(files: &[ImportedFile]) -> Counts
+    ensures { result ≡ counts_of (file_reports files.now) }
+{
+    Counts {
+        files: files.len(),
+        accepted: accepted_count(files),
+        refused: refused_count(files),
+        unread: unread_count(files),
+    }
 }
 
 // Prints the line of a file that was refused.
@@ -83,28 +102,66 @@ fn print_files(out: &mut String, files: &[ImportedFile]) -> Result<(), NoMemory>
     Ok(())
 }
 
+// Prints how many files an import has, and how many were accepted and refused.
+fn print_counts_head(out: &mut String, line: u32, counts: Counts) -> Result<(), NoMemory>
+    ensures { OnOk result (string_bytes out.new ≡ string_bytes out.old ++ counts_head line counts) }
+{
+    let Counts {
+        files,
+        accepted,
+        refused,
+        ..
+    } = counts;
+    write!(
+        out,
+        "{line} imported files {files} accepted {accepted} refused {refused}"
+    )?;
+    Ok(())
+}
+
+// Prints how many files were not read, the games that were added, and the version after it.
+fn print_counts_tail(
+    out: &mut String,
+    counts: Counts,
+    games: usize,
+    version: u64,
+) -> Result<(), NoMemory>
+    ensures { OnOk result (string_bytes out.new ≡ string_bytes out.old ++ counts_tail counts games version) }
+{
+    let unread = counts.unread;
+    writeln!(
+        out,
+        " full 0 unread {unread} games {games} version {version}"
+    )?;
+    Ok(())
+}
+
 // Prints the counts of an import.
 fn print_counts(
+    out: &mut String,
+    line: u32,
+    counts: Counts,
+    games: usize,
+    version: u64,
+) -> Result<(), NoMemory>
+    ensures { OnOk result (string_bytes out.new ≡ string_bytes out.old ++ counts_text line counts games version) }
+{
+    print_counts_head(out, line, counts)?;
+    print_counts_tail(out, counts, games, version)
+}
+
+// Prints the report of an import whose files were read.
+fn print_listed(
     out: &mut String,
     line: u32,
     files: &[ImportedFile],
     games: usize,
     version: u64,
 ) -> Result<(), NoMemory>
-    ensures { OnOk result (string_bytes out.new ≡ string_bytes out.old ++ counts_text line (file_reports files.now) games version) }
+    ensures { OnOk result (string_bytes out.new ≡ string_bytes out.old ++ listed_text line (file_reports files.now) games version) }
 {
-    let count = files.len();
-    let accepted = accepted_count(files);
-    let refused = refused_count(files);
-    let unread = unread_count(files);
-    write!(
-        out,
-        "{line} imported files {count} accepted {accepted} refused {refused}"
-    )?;
-    writeln!(
-        out,
-        " full 0 unread {unread} games {games} version {version}"
-    )?;
+    print_counts(out, line, counts_of(files), games, version)?;
+    print_files(out, files)?;
     Ok(())
 }
 
@@ -137,8 +194,7 @@ pub(crate) fn print_report(
         Imported::Unlisted => print_unlisted(out, line)?,
         Imported::TooMany { listed } => print_too_many(out, line, *listed)?,
         Imported::Files { files, trees } => {
-            print_counts(out, line, files, trees.len(), version)?;
-            print_files(out, files)?;
+            print_listed(out, line, files, trees.len(), version)?;
         }
     }
     Ok(())
