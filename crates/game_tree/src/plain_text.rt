@@ -70,8 +70,7 @@ pub fn plain(alloc: Global, text: &[u8]) -> Result<GameTree, PlainError>
 /// A plain text spells one tree only.
 pub fn plain_spells_one_tree()
     ensures { (text : List ℕ) (s t : Tree) → SpellsPlain text s → SpellsPlain text t → s ≡ t }
-{
-}
+{}
 
 // The board, and what stands behind `SZ[N]`.
 fn head_of(text: &[u8]) -> Option<(Shape, &[u8])>
