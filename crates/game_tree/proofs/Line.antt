@@ -189,8 +189,8 @@ module _ (shape : Shape) (info : Information) (moves : List Move) where
   no_branching : (m : ℕ) → ltb 1 (length (children_of (line_of shape info moves) m)) ≡ false
   no_branching m =
       elim (cases_lt m (length moves)) [
-          inl h ↦ le-ltb 1 (length (children_of (line_of shape info moves) m)) (omega (arith, ap length (children_of-line m h)))
-          | inr h ↦ le-ltb 1 (length (children_of (line_of shape info moves) m)) (omega (arith, ap length (children_of-last m h)))
+        | inl h ↦ le-ltb 1 (length (children_of (line_of shape info moves) m)) (omega (arith, ap length (children_of-line m h)))
+        | inr h ↦ le-ltb 1 (length (children_of (line_of shape info moves) m)) (omega (arith, ap length (children_of-last m h)))
       ]
 
   pub is_tree-line : FitsTree shape info moves → IsTree (line_of shape info moves)

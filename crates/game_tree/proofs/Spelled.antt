@@ -51,7 +51,7 @@ fits_tree shape text info moves stones told is most are =
     (record {
       most = omega (arith, length-map stones move_of);
       on_board = moves_on_board shape stones are.on_board;
-      texts = record { black = nothing_simple; white = nothing_simple; event = nothing_simple; place = nothing_simple; date = nothing_simple; outcome_text = nothing_simple }
+      texts = record { black = nothing_simple; white = nothing_simple; event = nothing_simple; place = nothing_simple; date = nothing_simple; outcome_text = nothing_simple };
     }))
 
 -- ---- from the parts to the tree, and back
@@ -130,9 +130,9 @@ same_stones : (a b : List Stone) (d e : List ℕ) → flat_map stone_text a ++ d
 same_stones a b d e is hd he =
     let first = moves_are_first a b d e is he in
     more first.0 first.1 first.2 where
-  more : (others : List Stone) → b ≡ a ++ others → d ≡ flat_map stone_text others ++ e → a ≡ b
-  more [] f g = sym (f ∙ append-nil a)
-  more (t ∷ ts) f g = absurd (IsEnd-no_stone t (flat_map stone_text ts ++ e) d hd (sym g))
+      more : (others : List Stone) → b ≡ a ++ others → d ≡ flat_map stone_text others ++ e → a ≡ b
+      more [] f g = sym (f ∙ append-nil a)
+      more (t ∷ ts) f g = absurd (IsEnd-no_stone t (flat_map stone_text ts ++ e) d hd (sym g))
 
 pub one_tree : (text : List ℕ) (s t : Tree) → SpellsPlain text s → SpellsPlain text t → s ≡ t
 one_tree text s t hs ht =
@@ -141,9 +141,9 @@ one_tree text s t hs ht =
     let heads = head_text-only (cols_of s.shape) (cols_of t.shape) ps.rest pt.rest s.shape.in_range.0 t.shape.in_range.0 (sym ps.text_is ∙ pt.text_is) in
     let shapes : s.shape ≡ t.shape = same_shape s.shape t.shape heads.0 (sym hs.square ∙ heads.0 ∙ ht.square) in
     let stones : hs.stones ≡ ht.stones =
-        same_stones hs.stones ht.stones ps.are.end pt.are.end (sym ps.are.text_is ∙ heads.1 ∙ pt.are.text_is) ps.are.ends pt.are.ends in
+    same_stones hs.stones ht.stones ps.are.end pt.are.end (sym ps.are.text_is ∙ heads.1 ∙ pt.are.text_is) ps.are.ends pt.are.ends in
     let infos : s.info ≡ t.info = hs.line.nothing_told ∙ sym ht.line.nothing_told in
     let nodes : s.nodes ≡ t.nodes =
-        hs.line.nodes ∙ ap (λ ss. record { parent = None; setups = []; played = None } ∷ line_from 0 ss) stones ∙ sym ht.line.nodes in
+    hs.line.nodes ∙ ap (λ ss. record { parent = None; setups = []; played = None } ∷ line_from 0 ss) stones ∙ sym ht.line.nodes in
     let trees : record { shape = s.shape; info = s.info; nodes = s.nodes } ≡ record { shape = t.shape; info = t.info; nodes = t.nodes } = cc (shapes, infos, nodes) in
     trees

@@ -135,3 +135,66 @@ fn class_of(text: &[u8]) -> Outcome
         Outcome::Other
     }
 }
+
+#[cfg(test)]
+mod tests {
+    use super::*;
+    use std::test::Fail;
+
+    const RESULTS: [(&str, Outcome); 14] = [
+        ("B+R", Outcome::Black),
+        ("B+", Outcome::Black),
+        ("W+0.5", Outcome::White),
+        ("0", Outcome::Draw),
+        ("Draw", Outcome::Draw),
+        ("Void", Outcome::Void),
+        ("?", Outcome::Unknown),
+        ("", Outcome::Other),
+        ("B", Outcome::Other),
+        ("b+R", Outcome::Other),
+        ("00", Outcome::Other),
+        ("draw", Outcome::Other),
+        ("Voided", Outcome::Other),
+        ("??", Outcome::Other),
+    ];
+
+    #[test]
+    fn classes_of_results(rt: HostRuntime) {
+        for (text, class) in RESULTS {
+            assert_eq!(rt; class_of(text.as_bytes()), class, "{text}");
+        }
+    }
+
+    fn text(alloc: Global, text: &str) -> Result<Bytes, NoMemory> {
+        Ok(Bytes::new(text.as_bytes().to_vec(alloc)?))
+    }
+
+    fn ten_game_match(alloc: Global) -> Result<Info, NoMemory> {
+        Ok(Info {
+            black: text(alloc, "Go Seigen")?,
+            white: text(alloc, "Kitani")?,
+            event: text(alloc, "Jubango")?,
+            place: text(alloc, "Kamakura")?,
+            date: text(alloc, "1939-09-28")?,
+            result: text(alloc, "B+2")?,
+        })
+    }
+
+    #[test]
+    fn an_information_is_copied(rt: HostRuntime) -> Result<(), Fail> {
+        let info = ten_game_match(rt.alloc())?.copy(rt.alloc())?;
+        let texts = [
+            (info.black(), "Go Seigen"),
+            (info.white(), "Kitani"),
+            (info.event(), "Jubango"),
+            (info.place(), "Kamakura"),
+            (info.date(), "1939-09-28"),
+            (info.result(), "B+2"),
+        ];
+        for (shown, text) in texts {
+            assert_eq!(rt; shown, text.as_bytes());
+        }
+        assert_eq!(rt; info.outcome(), Outcome::Black);
+        Ok(())
+    }
+}

@@ -18,3 +18,6 @@ pub use info::Info;
 pub use node::{Move, Setup};
 pub use plain_text::{PlainError, plain, plain_spells_one_tree};
 pub use tree::GameTree;
+
+#[cfg(test)]
+mod tests;

@@ -10,7 +10,8 @@ use std::marker::Model;
 ///
 /// Nodes are numbered from 0, the root, in order of the text. Each node has setups and at most one
 /// move. Contracts see it as a shape, an information and a list of nodes.
-// It holds a line: the root does nothing, and node n plays the move n - 1.
+// It holds a line: the root does nothing, and node n plays the move n - 1. A reader whose answer needs
+// no field still borrows `moves`, since the check learns there that the tree is a line.
 #[derive(Debug, Drop)]
 pub struct GameTree {
     shape: Shape,
@@ -124,7 +125,8 @@ impl GameTree {
     pub fn played(&self, n: u32) -> Option<Move>
         requires { n < node_count self.now }
         ensures value { result ≡ (node_at self.now n).played }
-        ensures on_board { IfSome result (λ (m : Move). IfSome m.point (λ (p : Point). IsOnBoard self.now.shape p)) }
+        ensures on_board { IfSome result (λ (m : Move).
+            IfSome m.point (λ (p : Point). IsOnBoard self.now.shape p)) }
     {
         let moves = self.moves.as_slice();
         if n == 0 {

@@ -13,7 +13,7 @@ returns-then-stands-number-clause-not_yet c = λ _ all.
     let stone : Stone = record { colour = c.in-Some.colour; point = c.in-Some.point } in
     let number : c.from-number.result ≡ number_of c.args.shape c.in-Some.point = c.from-number.ensures ∙ c.number.ensures.value in
     let small : number_of c.args.shape c.in-Some.point < 361 = omega (arith, c.number.ensures.value, c.number.ensures.in_range, point_count-le c.args.shape) in
-    HasRead-twice _ _ _ _ _ c.loop-colour.invariant stone c.in-Some.others.now c.in-Some.ensures.found.0 small c.in-Some.ensures.found.1
+    HasRead-twice _ _ _ _ _ c.loop-colour.invariant stone c.in-Some.others.now c.in-Some.ensures.on_board small c.in-Some.ensures.found
     (ap (λ n. get_or c.loop-colour.stands n false) (sym number) ∙ c.if-stands-number.true) all
 
 pub loop-colour-preserved : goal.loop-colour-preserved
@@ -22,7 +22,7 @@ loop-colour-preserved c =
     let number : c.from-number.result ≡ number_of c.args.shape c.in-Some.point = c.from-number.ensures ∙ c.number.ensures.value in
     let small : number_of c.args.shape c.in-Some.point < 361 = omega (arith, c.number.ensures.value, c.number.ensures.in_range, point_count-le c.args.shape) in
     rw (c.in_ok-push.ensures.items, number)
-    (HasRead-more _ _ _ _ _ c.loop-colour.invariant stone c.in-Some.others.now c.in-Some.ensures.found.0 small c.in-Some.ensures.found.1
+    (HasRead-more _ _ _ _ _ c.loop-colour.invariant stone c.in-Some.others.now c.in-Some.ensures.on_board small c.in-Some.ensures.found
     (ap (λ n. get_or c.loop-colour.stands n false) (sym number) ∙ c.if-stands-number.false))
 
 pub returns-else-is_end-clause-not_yet : goal.returns-else-is_end-clause-not_yet

@@ -17,7 +17,7 @@ returns-in_err-moves-clause-not_yet c =
     let p = err_from_is_err_and c.from_residual.result c.from_residual.ensures.1 in
     λ is tree.
     let same : c.in_err-moves.field-0.0 ≡ NotYet = cc (p.1, p.2, is) in
-    no_stones c.in-Some.shape _ c.in-Some.rest.now c.in-Some.ensures.found.0 c.in-Some.ensures.found.1 (c.in_err-moves.ensures.not_yet (ap (λ (e : PlainError). Err e) same)) tree
+    no_stones c.in-Some.shape _ c.in-Some.rest.now c.in-Some.ensures.square c.in-Some.ensures.found (c.in_err-moves.ensures.not_yet (ap (λ (e : PlainError). Err e) same)) tree
 
 pub line-requires : goal.line-requires
 line-requires c = fits_tree _ _ _ _ _ c.empty.ensures c.in_ok-moves.ensures.ok.1 c.in_ok-moves.ensures.ok.2 c.in_ok-moves.ensures.ok.3
@@ -29,4 +29,4 @@ returns-clause-ok c =
     ∙ ap (λ i. line_of c.in-Some.shape i c.in_ok-moves.moves.items) (sym c.empty.ensures)
     ∙ sym c.line.ensures in
     subst (λ (t : Tree). SpellsPlain c.args.text.now t) is
-    (spells c.in-Some.shape _ c.in-Some.rest.now c.in_ok-moves.ensures.ok.0 c.in-Some.ensures.found.0 c.in-Some.ensures.found.1 c.in_ok-moves.ensures.ok.3)
+    (spells c.in-Some.shape _ c.in-Some.rest.now c.in_ok-moves.ensures.ok.0 c.in-Some.ensures.square c.in-Some.ensures.found c.in_ok-moves.ensures.ok.3)
