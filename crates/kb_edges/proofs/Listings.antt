@@ -1,12 +1,11 @@
 -- A listing: the names that a folder's files have under a path, sorted and without repeats.
 use Rattle.std.proofs.Common.{◌≡◌, ◌≢◌, ℕ, ◌+◌, ◌<◌, ◌++◌, take, Bool, true, false, cond, List, [], ◌∷◌, length, get_or, map, refl, sym, subst, ◌∙◌, ap}
-use Rattle.std.specs.Prelude.{◌&&◌, ◌||◌, String, Any, All, AllPairs, Contains, IsPermutation, filter, nat_eq, string_bytes}
-use Rattle.std.specs.Bool.{Decides}
-use Rattle.std.specs.Cmp.Lexicographic.{nat_list_eq_equiv, slice_cmp, texts_ties}
+use Rattle.std.specs.Prelude.{◌&&◌, String, All, AllPairs, Contains, IsPermutation, filter, string_bytes}
+use Rattle.std.specs.Cmp.Lexicographic.{nat_list_eq_equiv, texts_ties}
 use Rattle.std.specs.List.{list_any, dedup, dedup_from, IsDistinct, AllByRecursion}
-use Rattle.std.specs.List.Sorted.{IsSorted, IsStrictlySortedBy}
+use Rattle.std.specs.List.Sorted.{IsSorted}
 use Rattle.std.specs.List.Retain.{IsFiltered, DiffersFromLast}
-use Rattle.std.specs.Ordering.{eq_by_cmp, nat_cmp}
+use Rattle.std.specs.Ordering.{eq_by_cmp}
 use Rattle.std.specs.Str.{bytes_eq}
 use Rattle.std.specs.String.{string_cmp, string_cmp_total, string_eq}
 use Rattle.std.specs.declared.alloc.Global.{Global}

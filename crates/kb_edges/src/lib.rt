@@ -7,6 +7,7 @@
 
 mod errors;
 mod file_entry;
+mod lookup;
 mod memory_folder;
 mod memory_sink;
 mod memory_source;
@@ -14,7 +15,6 @@ mod plan;
 mod real_folder;
 mod real_sink;
 mod real_source;
-mod search;
 mod traits;
 
 pub use errors::{FolderError, ReadFailed, SinkError};

@@ -4,8 +4,8 @@ ghost use Rattle.kb_edges.specs.Faults.{next_count};
 ghost use Rattle.kb_edges.specs.Files.{HasPath, IsListing, content_of};
 ghost use Rattle.kb_edges.specs.Told.{IfTold};
 
+use crate::lookup::{first_file, has_path, sgf_names};
 use crate::plan::FailurePlan;
-use crate::search::{first_file, has_path, sgf_names};
 use crate::{FileEntry, Folder, FolderError, MAX_LIMIT};
 use std::alloc::Global;
 

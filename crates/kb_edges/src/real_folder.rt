@@ -3,7 +3,7 @@ ghost use Rattle.std.specs.Prelude.{◌≡◌, ◌≢◌, ◌⊎◌, ◌+◌, �
 ghost use Rattle.kb_edges.specs.Faults.{next_count};
 ghost use Rattle.kb_edges.specs.Files.{IsSgfName};
 
-use crate::search::{is_sgf_name, sort_names};
+use crate::lookup::{is_sgf_name, sort_names};
 use crate::{Folder, FolderError, MAX_LIMIT};
 use std::alloc::Global;
 use std::io::{ErrorKind, Read};
