@@ -1,7 +1,6 @@
 -- A listing: the names that a folder's files have under a path, sorted and without repeats.
 use Rattle.std.proofs.Common.{◌≡◌, ◌≢◌, ℕ, ◌+◌, ◌<◌, ◌++◌, take, Bool, true, false, cond, List, [], ◌∷◌, length, get_or, map, refl, sym, subst, arith, ◌∙◌, ap}
-use Rattle.std.specs.Prelude.{◌&&◌, ◌||◌, String, Any, All, AllPairs, Contains, IsPermutation, filter, nat_eq, string_bytes}
-use Rattle.std.specs.Bool.{Decides}
+use Rattle.std.specs.Prelude.{◌&&◌, String, All, AllPairs, Contains, IsPermutation, filter, string_bytes}
 use Rattle.std.specs.declared.cmp.Ordering.TheVariants.{Less}
 use Rattle.std.specs.Cmp.Lexicographic.{nat_list_eq_equiv, slice_cmp, texts_ties}
 use Rattle.std.specs.List.{list_any, dedup, dedup_from, IsDistinct, AllByRecursion}

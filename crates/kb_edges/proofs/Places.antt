@@ -1,8 +1,8 @@
 -- Which files a folder has, as tests and as facts.
-use Rattle.std.proofs.Common.{◌≡◌, ℕ, ◌<◌, Bool, true, false, cond, List, [], ◌∷◌, ◌++◌, ◌-◌, length, take, get_or, map, refl, sym, ◌∙◌, ap, rules, arith}
-use Rattle.std.specs.Prelude.{◌↔◌, ◌&&◌, ◌||◌, IsTrue, IsSome, Any, Contains, find, nat_eq, codes}
+use Rattle.std.proofs.Common.{◌≡◌, ℕ, Bool, true, false, cond, List, [], ◌∷◌, ◌-◌, length, take, refl, sym, ◌∙◌, ap}
+use Rattle.std.specs.Prelude.{◌↔◌, ◌&&◌, ◌||◌, IsTrue, IsSome, is_some, Any, find, codes}
 use Rattle.std.specs.Bool.{Decides}
-use Rattle.std.specs.List.{list_any, ends_with}
+use Rattle.std.specs.List.{list_any}
 use Rattle.std.specs.Option.{option_map, option_copied}
 use denote.Ref.{Bor}
 use Rattle.std.specs.Str.{bytes_eq}
@@ -10,7 +10,6 @@ use Rattle.std.specs.declared.option.Option.{Option}
 use Rattle.std.specs.declared.option.Option.TheVariants.{None, Some}
 use Rattle.std.proofs.lemmas.Bool.{and_parts, and_from}
 use Rattle.std.proofs.lemmas.Bool.Decides.{Decides-eqb}
-use Rattle.std.proofs.lemmas.Grind.{common_steps}
 use Rattle.std.proofs.lemmas.List.Folds.{Any-from_list_any, list_any-from_Any}
 use Rattle.std.proofs.lemmas.Slice.Eq.{bytes_eq-Decides, ends_is}
 use Rattle.std.specs.String.{string_bytes}
@@ -42,6 +41,19 @@ HasFile-any files path name has =
 pub any-HasFile : (files : List File) (path name : List ℕ) → list_any (has_place path name) files ≡ true → HasFile files path name
 any-HasFile files path name any =
     Any-weaker _ _ (has_place-same path name) files (Any-from_list_any (has_place path name) files any)
+
+-- a file has this path and this name exactly if there is a content
+is_some-find : (test : File → Bool) (files : List File) → is_some (option_map (λ file. file.bytes) (find test files)) ≡ list_any test files
+is_some-find test [] = refl
+is_some-find test (file ∷ files) =
+    elim (test file) as (λ b. is_some (option_map (λ f. f.bytes) (cond b (Some file) (find test files))) ≡ (b || list_any test files))
+    [ true ↦ refl | false ↦ is_some-find test files ]
+
+pub content_of-there : (files : List File) (path name : List ℕ) → IsSome (content_of files path name) ↔ HasFile files path name
+content_of-there files path name = (
+  λ some. any-HasFile files path name (sym (is_some-find (has_place path name) files) ∙ some),
+  λ has. is_some-find (has_place path name) files ∙ HasFile-any files path name has,
+)
 
 -- a test on entries is one on their files
 pub list_any-files : (test : File → Bool) (entries : List FileEntry) → list_any (λ entry. test (file_of entry)) entries ≡ list_any test (files_of entries)

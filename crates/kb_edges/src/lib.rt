@@ -7,6 +7,7 @@
 
 mod errors;
 mod file_entry;
+mod lookup;
 mod memory_folder;
 mod memory_sink;
 mod memory_source;
@@ -14,18 +15,17 @@ mod plan;
 mod real_folder;
 mod real_sink;
 mod real_source;
-mod search;
 mod traits;
 
 pub use errors::{FolderError, ReadFailed, SinkError};
 pub use file_entry::FileEntry;
+pub use lookup::sort_names;
 pub use memory_folder::MemoryFolder;
 pub use memory_sink::MemorySink;
 pub use memory_source::MemorySource;
 pub use real_folder::RealFolder;
 pub use real_sink::RealSink;
 pub use real_source::RealSource;
-pub use search::sort_names;
 pub use traits::{Folder, MAX_LIMIT, Sink, Source};
 
 #[cfg(test)]

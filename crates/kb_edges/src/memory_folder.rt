@@ -4,8 +4,8 @@ ghost use Rattle.kb_edges.specs.Faults.{next_count};
 ghost use Rattle.kb_edges.specs.Files.{HasPath, IsListing, content_of};
 ghost use Rattle.kb_edges.specs.Told.{IfTold};
 
+use crate::lookup::{first_file, has_path, sgf_names};
 use crate::plan::FailurePlan;
-use crate::search::{first_file, has_path, sgf_names};
 use crate::{FileEntry, Folder, FolderError, MAX_LIMIT};
 use std::alloc::Global;
 
@@ -57,15 +57,19 @@ impl Folder for MemoryFolder {
 
     fn list(&mut self, alloc: Global, path: &str) -> Result<Vec<String>, FolderError>
         ensures fails { IsErrOf result FolderError.Failed ↔ Contains (folder_fails self.old) (folder_calls self.old) }
-        ensures listing { IfOk result (λ names. IsListing (folder_files self.old) path.now (map string_bytes names.items)) }
+        ensures listing { IfOk result (λ names.
+            IsListing (folder_files self.old) path.now (map string_bytes names.items)) }
         ensures there { OnOk result (HasPath (folder_files self.old) path.now) }
-        ensures missing { IsErrOf result FolderError.Missing → ¬ HasPath (folder_files self.old) path.now }
+        ensures missing { IsErrOf result FolderError.Missing →
+            ¬ HasPath (folder_files self.old) path.now }
         ensures same { folder_files self.new ≡ folder_files self.old }
         ensures later { folder_faults self.old ≤ folder_faults self.new }
         ensures same_fails { folder_fails self.new ≡ folder_fails self.old }
         ensures calls { folder_calls self.new ≡ next_count (folder_calls self.old) }
-        ensures faults { result ≢ Err FolderError.Failed → folder_faults self.new ≡ folder_faults self.old }
-        ensures faults_rise { IsErrOf result FolderError.Failed → folder_faults self.new ≡ next_count (folder_faults self.old) }
+        ensures faults { result ≢ Err FolderError.Failed →
+            folder_faults self.new ≡ folder_faults self.old }
+        ensures faults_rise { IsErrOf result FolderError.Failed →
+            folder_faults self.new ≡ next_count (folder_faults self.old) }
     {
         if self.plan.fails_now() {
             return Err(FolderError::Failed);
@@ -86,16 +90,20 @@ impl Folder for MemoryFolder {
         requires { limit ≤ MAX_LIMIT }
         ensures fails { IsErrOf result FolderError.Failed ↔ Contains (folder_fails self.old) (folder_calls self.old) }
         ensures bound { IfOk result (λ bytes. vec_len bytes ≤ limit + 1) }
-        ensures content { IfOk result (λ read. IfTold (content_of (folder_files self.old) path.now name.now)
+        ensures content { IfOk result (λ read.
+            IfTold (content_of (folder_files self.old) path.now name.now)
             (λ bytes. read.items ≡ take (limit + 1) bytes)) }
         ensures there { OnOk result (IsSome (content_of (folder_files self.old) path.now name.now)) }
-        ensures missing { IsErrOf result FolderError.Missing → content_of (folder_files self.old) path.now name.now ≡ None }
+        ensures missing { IsErrOf result FolderError.Missing →
+            content_of (folder_files self.old) path.now name.now ≡ None }
         ensures same { folder_files self.new ≡ folder_files self.old }
         ensures later { folder_faults self.old ≤ folder_faults self.new }
         ensures same_fails { folder_fails self.new ≡ folder_fails self.old }
         ensures calls { folder_calls self.new ≡ next_count (folder_calls self.old) }
-        ensures faults { result ≢ Err FolderError.Failed → folder_faults self.new ≡ folder_faults self.old }
-        ensures faults_rise { IsErrOf result FolderError.Failed → folder_faults self.new ≡ next_count (folder_faults self.old) }
+        ensures faults { result ≢ Err FolderError.Failed →
+            folder_faults self.new ≡ folder_faults self.old }
+        ensures faults_rise { IsErrOf result FolderError.Failed →
+            folder_faults self.new ≡ next_count (folder_faults self.old) }
     {
         if self.plan.fails_now() {
             return Err(FolderError::Failed);

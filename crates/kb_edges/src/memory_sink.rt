@@ -54,13 +54,16 @@ impl Sink for MemorySink {
     fn write(&mut self, bytes: &[u8]) -> Result<usize, SinkError>
         ensures fails { IsErrOf result SinkError.Failed ↔ Contains (sink_fails self.old) (sink_calls self.old) }
         ensures whole { IfOk result (λ n. n ≡ length bytes.now) }
-        ensures appended { OnOk result (sink_written self.new ≡ sink_written self.old ++ bytes.now) }
+        ensures appended { OnOk result (sink_written self.new
+            ≡ sink_written self.old ++ bytes.now) }
         ensures kept { OnErr result (sink_written self.new ≡ sink_written self.old) }
         ensures later { sink_faults self.old ≤ sink_faults self.new }
         ensures same_fails { sink_fails self.new ≡ sink_fails self.old }
         ensures calls { sink_calls self.new ≡ next_count (sink_calls self.old) }
-        ensures faults { result ≢ Err SinkError.Failed → sink_faults self.new ≡ sink_faults self.old }
-        ensures faults_rise { IsErrOf result SinkError.Failed → sink_faults self.new ≡ next_count (sink_faults self.old) }
+        ensures faults { result ≢ Err SinkError.Failed →
+            sink_faults self.new ≡ sink_faults self.old }
+        ensures faults_rise { IsErrOf result SinkError.Failed →
+            sink_faults self.new ≡ next_count (sink_faults self.old) }
     {
         if self.plan.fails_now() {
             return Err(SinkError::Failed);

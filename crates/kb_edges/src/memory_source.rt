@@ -56,7 +56,8 @@ impl Source for MemorySource {
     /// Gives as many bytes as fit or are left.
     fn read(&mut self, into: &mut [u8]) -> Result<usize, ReadFailed>
         ensures fails { IsErr result ↔ Contains (source_fails self.old) (source_calls self.old) }
-        ensures count { IfOk result (λ n. n ≡ min (length into.new) (length (source_left self.old))) }
+        ensures count { IfOk result (λ n.
+            n ≡ min (length into.new) (length (source_left self.old))) }
         ensures given { IfOk result (λ n. take n into.new ≡ take n (source_left self.old)) }
         ensures taken { IfOk result (λ n. source_left self.new ≡ drop n (source_left self.old)) }
         ensures kept { OnErr result (source_left self.new ≡ source_left self.old) }
@@ -64,7 +65,8 @@ impl Source for MemorySource {
         ensures same_fails { source_fails self.new ≡ source_fails self.old }
         ensures calls { source_calls self.new ≡ next_count (source_calls self.old) }
         ensures faults { OnOk result (source_faults self.new ≡ source_faults self.old) }
-        ensures faults_rise { OnErr result (source_faults self.new ≡ next_count (source_faults self.old)) }
+        ensures faults_rise { OnErr result (source_faults self.new
+            ≡ next_count (source_faults self.old)) }
     {
         if self.plan.fails_now() {
             return Err(ReadFailed);

@@ -29,7 +29,8 @@ impl FailurePlan {
         ensures fails { self.new.fails ≡ self.old.fails }
         ensures calls { self.new.calls ≡ next_count self.old.calls }
         ensures later { self.old.faults ≤ self.new.faults }
-        ensures faults { self.new.faults ≡ (if result then next_count self.old.faults else self.old.faults) }
+        ensures faults { self.new.faults
+            ≡ (if result then next_count self.old.faults else self.old.faults) }
     {
         let call = self.calls;
         self.calls = call.saturating_add(1);

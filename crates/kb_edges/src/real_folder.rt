@@ -3,7 +3,7 @@ ghost use Rattle.std.specs.Prelude.{◌≡◌, ◌≢◌, ◌⊎◌, ◌+◌, �
 ghost use Rattle.kb_edges.specs.Faults.{next_count};
 ghost use Rattle.kb_edges.specs.Files.{IsSgfName};
 
-use crate::search::{is_sgf_name, sort_names};
+use crate::lookup::{is_sgf_name, sort_names};
 use crate::{Folder, FolderError, MAX_LIMIT};
 use std::alloc::Global;
 use std::io::{ErrorKind, Read};
@@ -32,8 +32,10 @@ impl<R: Files + AllocGlobal + Clone + Drop> RealFolder<R> {
     fn refusal(&mut self, error: io::Error) -> FolderError
         ensures answer { (result ≡ FolderError.NoMemory) ⊎ (result ≡ FolderError.Failed) }
         ensures later { folder_faults self.old ≤ folder_faults self.new }
-        ensures faults { result ≡ FolderError.NoMemory → folder_faults self.new ≡ folder_faults self.old }
-        ensures faults_rise { result ≡ FolderError.Failed → folder_faults self.new ≡ next_count (folder_faults self.old) }
+        ensures faults { result ≡ FolderError.NoMemory →
+            folder_faults self.new ≡ folder_faults self.old }
+        ensures faults_rise { result ≡ FolderError.Failed →
+            folder_faults self.new ≡ next_count (folder_faults self.old) }
     {
         if error.kind() == ErrorKind::OutOfMemory {
             return FolderError::NoMemory;
@@ -50,7 +52,8 @@ fn names_in<R: Files + AllocGlobal + Clone + Drop>(
     path: &str,
 ) -> io::Result<Vec<String>>
     ensures sgf { IfOk result (λ names. All IsSgfName (map string_bytes names.items)) }
-    ensures distinct { IfOk result (λ names. AllPairs (λ x y. x ≢ y) (map string_bytes names.items)) }
+    ensures distinct { IfOk result (λ names.
+        AllPairs (λ x y. x ≢ y) (map string_bytes names.items)) }
 {
     let mut names = Vec::new(alloc);
     for entry in fs::read_dir(rt, path)? {
@@ -92,11 +95,14 @@ impl<R: Files + AllocGlobal + Clone + Drop> Folder for RealFolder<R> {
 
     fn list(&mut self, alloc: Global, path: &str) -> Result<Vec<String>, FolderError>
         ensures sgf { IfOk result (λ names. All IsSgfName (map string_bytes names.items)) }
-        ensures distinct { IfOk result (λ names. AllPairs (λ x y. x ≢ y) (map string_bytes names.items)) }
+        ensures distinct { IfOk result (λ names.
+            AllPairs (λ x y. x ≢ y) (map string_bytes names.items)) }
         ensures never_missing { result ≢ Err FolderError.Missing }
         ensures later { folder_faults self.old ≤ folder_faults self.new }
-        ensures faults { result ≢ Err FolderError.Failed → folder_faults self.new ≡ folder_faults self.old }
-        ensures faults_rise { IsErrOf result FolderError.Failed → folder_faults self.new ≡ next_count (folder_faults self.old) }
+        ensures faults { result ≢ Err FolderError.Failed →
+            folder_faults self.new ≡ folder_faults self.old }
+        ensures faults_rise { IsErrOf result FolderError.Failed →
+            folder_faults self.new ≡ next_count (folder_faults self.old) }
     {
         match names_in(&self.rt, alloc, path) {
             Ok(names) => Ok(names),
@@ -115,8 +121,10 @@ impl<R: Files + AllocGlobal + Clone + Drop> Folder for RealFolder<R> {
         ensures bound { IfOk result (λ bytes. vec_len bytes ≤ limit + 1) }
         ensures never_missing { result ≢ Err FolderError.Missing }
         ensures later { folder_faults self.old ≤ folder_faults self.new }
-        ensures faults { result ≢ Err FolderError.Failed → folder_faults self.new ≡ folder_faults self.old }
-        ensures faults_rise { IsErrOf result FolderError.Failed → folder_faults self.new ≡ next_count (folder_faults self.old) }
+        ensures faults { result ≢ Err FolderError.Failed →
+            folder_faults self.new ≡ folder_faults self.old }
+        ensures faults_rise { IsErrOf result FolderError.Failed →
+            folder_faults self.new ≡ next_count (folder_faults self.old) }
     {
         match read_file(&self.rt, alloc, path, name, limit) {
             Ok(bytes) => Ok(bytes),

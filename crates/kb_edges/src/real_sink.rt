@@ -31,7 +31,8 @@ impl<W: Write> RealSink<W> {
 fn write_through<W: Write>(writer: &mut W, bytes: &[u8]) -> io::Result<usize>
     ensures bound { IfOk result (λ n. n ≤ length bytes.now) }
     ensures progress { IfOk result (λ n. 0 < length bytes.now → 0 < n) }
-    ensures appended { IfOk result (λ n. Appends (W.contents writer.old) (W.contents writer.new) (take n bytes.now)) }
+    ensures appended { IfOk result (λ n.
+        Appends (W.contents writer.old) (W.contents writer.new) (take n bytes.now)) }
 {
     let count = writer.write(bytes)?;
     if count == 0 && !bytes.is_empty() {
@@ -52,11 +53,13 @@ impl<W: Write> Sink for RealSink<W> {
     fn write(&mut self, bytes: &[u8]) -> Result<usize, SinkError>
         ensures bound { IfOk result (λ n. n ≤ length bytes.now) }
         ensures progress { IfOk result (λ n. 0 < length bytes.now → 0 < n) }
-        ensures appended { IfOk result (λ n. Appends (W.contents (writer_of self.old)) (W.contents (writer_of self.new)) (take n bytes.now)) }
+        ensures appended { IfOk result (λ n.
+            Appends (W.contents (writer_of self.old)) (W.contents (writer_of self.new)) (take n bytes.now)) }
         ensures failed { OnErr result (IsErrOf result SinkError.Failed) }
         ensures later { sink_faults self.old ≤ sink_faults self.new }
         ensures faults { OnOk result (sink_faults self.new ≡ sink_faults self.old) }
-        ensures faults_rise { OnErr result (sink_faults self.new ≡ next_count (sink_faults self.old)) }
+        ensures faults_rise { OnErr result (sink_faults self.new
+            ≡ next_count (sink_faults self.old)) }
     {
         match write_through(&mut self.writer, bytes) {
             Ok(count) => Ok(count),

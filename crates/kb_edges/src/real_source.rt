@@ -39,7 +39,8 @@ impl<R: Read> Source for RealSource<R> {
         ensures bytes { ReadConsumes (R.remaining (reader_of self.old)) (R.remaining (reader_of self.new)) result into.new }
         ensures later { source_faults self.old ≤ source_faults self.new }
         ensures faults { OnOk result (source_faults self.new ≡ source_faults self.old) }
-        ensures faults_rise { OnErr result (source_faults self.new ≡ next_count (source_faults self.old)) }
+        ensures faults_rise { OnErr result (source_faults self.new
+            ≡ next_count (source_faults self.old)) }
     {
         match self.reader.read(into) {
             Ok(count) => Ok(count),

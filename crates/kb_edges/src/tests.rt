@@ -8,7 +8,7 @@ use crate::{
 use std::alloc::{Allocator, Global};
 use std::fs;
 use std::fs::{File, Metadata, OpenOptions};
-use std::io::{Error, ErrorKind, Read, Result as IoResult, Write};
+use std::io::{BufWriter, Error, ErrorKind, Read, Result as IoResult, Write};
 use std::process::Abort;
 use std::rt::Files;
 use std::test::Fail;
@@ -232,6 +232,12 @@ fn a_real_sink(rt: HostRuntime) -> Result<(), Fail> {
     let answers = write_each(alloc, &mut file, &pieces)?;
     assert_eq!(rt; answers.as_slice(), [3, 1, 1, 1].as_slice());
     assert_eq!(rt; fs::read(&rt, "written")?.as_slice(), b"abcdef".as_slice());
+
+    // What a writer of std keeps back is out after each call.
+    let mut buffered = RealSink::new(BufWriter::new(alloc, fs::create(&rt, "buffered")?)?);
+    let answers = write_each(alloc, &mut buffered, &pieces)?;
+    assert_eq!(rt; answers.as_slice(), [3, 1, 1, 1].as_slice());
+    assert_eq!(rt; fs::read(&rt, "buffered")?.as_slice(), b"abcdef".as_slice());
     Ok(())
 }
 
@@ -245,7 +251,7 @@ fn a_real_source(rt: HostRuntime) -> Result<(), Fail> {
     assert_eq!(rt; failed, 0);
 
     // A directory can be opened, and each read of it fails.
-    fs::create_dir(&rt, "directory")?;
+    fs::create_dir_all(&rt, "directory")?;
     let mut directory = RealSource::new(fs::open(&rt, "directory")?);
     let (bytes, failed) = read_all(alloc, &mut directory)?;
     assert_eq!(rt; bytes.as_slice(), b"".as_slice());
@@ -256,8 +262,7 @@ fn a_real_source(rt: HostRuntime) -> Result<(), Fail> {
 #[test]
 fn a_real_folder(rt: HostRuntime) -> Result<(), Fail> {
     let alloc = rt.alloc();
-    fs::create_dir(&rt, "d")?;
-    fs::create_dir(&rt, "d/x.sgf")?;
+    fs::create_dir_all(&rt, "d/x.sgf")?;
     fs::write(&rt, "d/b.sgf", "(;B[aa])")?;
     fs::write(&rt, "d/a.sgf", "(;)")?;
     fs::write(&rt, "d/.sgf", "")?;

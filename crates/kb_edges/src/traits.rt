@@ -25,9 +25,12 @@ pub trait Source {
         ensures bound { IfOk result (λ n. n ≤ length into.new) }
 
         // Where the bytes left are told, a read gives the first of them and takes them away.
-        ensures given { IfTold (left self.old) (λ bytes. IfOk result (λ n. take n into.new ≡ take n bytes)) }
-        ensures taken { IfTold (left self.old) (λ bytes. IfOk result (λ n. left self.new ≡ Some (drop n bytes))) }
-        ensures end { IfTold (left self.old) (λ bytes. IfOk result (λ n. n ≡ 0 → 0 < length into.new → bytes ≡ [])) }
+        ensures given { IfTold (left self.old) (λ bytes. IfOk result (λ n.
+            take n into.new ≡ take n bytes)) }
+        ensures taken { IfTold (left self.old) (λ bytes. IfOk result (λ n.
+            left self.new ≡ Some (drop n bytes))) }
+        ensures end { IfTold (left self.old) (λ bytes. IfOk result (λ n. n ≡ 0 →
+            0 < length into.new → bytes ≡ [])) }
         ensures kept { OnErr result (left self.new ≡ left self.old) }
 
         ensures later { faults self.old ≤ faults self.new }
@@ -48,11 +51,13 @@ pub trait Sink {
         ensures progress { IfOk result (λ n. 0 < length bytes.now → 0 < n) }
 
         // Where the bytes written are told, a write appends those that it took.
-        ensures appended { IfTold (written self.old) (λ before. IfOk result (λ n. written self.new ≡ Some (before ++ take n bytes.now))) }
+        ensures appended { IfTold (written self.old) (λ before. IfOk result (λ n.
+            written self.new ≡ Some (before ++ take n bytes.now))) }
         ensures kept { OnErr result (written self.new ≡ written self.old) }
 
         ensures later { faults self.old ≤ faults self.new }
-        ensures failed { IsErrOf result SinkError.Failed → Rose (faults self.old) (faults self.new) }
+        ensures failed { IsErrOf result SinkError.Failed →
+            Rose (faults self.old) (faults self.new) }
         ensures no_memory { IsErrOf result SinkError.NoMemory → faults self.new ≡ faults self.old };
 }
 
@@ -66,16 +71,20 @@ pub trait Folder: Drop {
 
     /// The names under a path that end in `.sgf`, each once, in any order.
     fn list(&mut self, alloc: Global, path: &str) -> Result<Vec<String>, FolderError>
-        ensures listing { IfTold (files self.old) (λ all. IfOk result (λ names. IsListing all path.now (map string_bytes names.items))) }
+        ensures listing { IfTold (files self.old) (λ all. IfOk result (λ names.
+            IsListing all path.now (map string_bytes names.items))) }
         ensures there { IfTold (files self.old) (λ all. OnOk result (HasPath all path.now)) }
 
         ensures missing_told { IsErrOf result FolderError.Missing → IsSome (files self.old) }
-        ensures missing { IsErrOf result FolderError.Missing → IfTold (files self.old) (λ all. ¬ HasPath all path.now) }
-        ensures missing_faults { IsErrOf result FolderError.Missing → faults self.new ≡ faults self.old }
+        ensures missing { IsErrOf result FolderError.Missing → IfTold (files self.old) (λ all.
+            ¬ HasPath all path.now) }
+        ensures missing_faults { IsErrOf result FolderError.Missing →
+            faults self.new ≡ faults self.old }
 
         ensures same { files self.new ≡ files self.old }
         ensures later { faults self.old ≤ faults self.new }
-        ensures failed { IsErrOf result FolderError.Failed → Rose (faults self.old) (faults self.new) };
+        ensures failed { IsErrOf result FolderError.Failed →
+            Rose (faults self.old) (faults self.new) };
 
     /// The first `limit + 1` bytes of a file, or all of them if there are fewer.
     fn read(
@@ -90,13 +99,17 @@ pub trait Folder: Drop {
         ensures bound { IfOk result (λ bytes. vec_len bytes ≤ limit + 1) }
         ensures content { IfTold (files self.old) (λ all. IfOk result (λ read.
             IfTold (content_of all path.now name.now) (λ bytes. read.items ≡ take (limit + 1) bytes))) }
-        ensures there { IfTold (files self.old) (λ all. OnOk result (IsSome (content_of all path.now name.now))) }
+        ensures there { IfTold (files self.old) (λ all.
+            OnOk result (IsSome (content_of all path.now name.now))) }
 
         ensures missing_told { IsErrOf result FolderError.Missing → IsSome (files self.old) }
-        ensures missing { IsErrOf result FolderError.Missing → IfTold (files self.old) (λ all. content_of all path.now name.now ≡ None) }
-        ensures missing_faults { IsErrOf result FolderError.Missing → faults self.new ≡ faults self.old }
+        ensures missing { IsErrOf result FolderError.Missing → IfTold (files self.old) (λ all.
+            content_of all path.now name.now ≡ None) }
+        ensures missing_faults { IsErrOf result FolderError.Missing →
+            faults self.new ≡ faults self.old }
 
         ensures same { files self.new ≡ files self.old }
         ensures later { faults self.old ≤ faults self.new }
-        ensures failed { IsErrOf result FolderError.Failed → Rose (faults self.old) (faults self.new) };
+        ensures failed { IsErrOf result FolderError.Failed →
+            Rose (faults self.old) (faults self.new) };
 }

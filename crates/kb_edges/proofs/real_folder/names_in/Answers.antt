@@ -1,4 +1,4 @@
-use Rattle.std.proofs.Common.{◌≡◌, ◌∷◌, [], ◌++◌, true, subst, sym, ◌∙◌, ap, rules}
+use Rattle.std.proofs.Common.{◌≡◌, ◌∷◌, [], ◌++◌, true, subst, sym, rules}
 use Rattle.std.specs.Prelude.{All, map}
 use Rattle.std.specs.String.{string_bytes}
 use Rattle.kb_edges.specs.Files.{IsSgfName, is_sgf_name}

@@ -1,9 +1,6 @@
-use Rattle.std.proofs.Common.{◌≡◌, ◌+◌, take, List, ℕ, sym, ◌∙◌, ap, rules, arith}
+use Rattle.std.proofs.Common.{◌≡◌, ◌+◌, take, ◌∙◌, ap, arith}
 use Rattle.std.proofs.lemmas.Grind.{common_steps}
-use Rattle.std.specs.Prelude.{Some, None, IsSome}
 use Rattle.std.specs.Option.{option_map}
-use Rattle.kb_edges.specs.Files.{content_of}
-use Rattle.kb_edges.specs.Memory.{folder_files}
 use Rattle.kb_edges.proofs.Places.{content_of-found}
 use Rattle.kb_edges.proofs.memory_folder.MemoryFolderFolder.read.Goals as goal
 

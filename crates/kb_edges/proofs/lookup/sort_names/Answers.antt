@@ -1,5 +1,5 @@
 use Rattle.kb_edges.proofs.Listings.{sorted-adds_none, sorted-ascending, sorted-distinct, sorted-keeps}
-use Rattle.kb_edges.proofs.search.sort_names.Goals as goal
+use Rattle.kb_edges.proofs.lookup.sort_names.Goals as goal
 
 pub returns : goal.returns
 returns c =

@@ -1,6 +1,6 @@
 use Rattle.kb_edges.specs.Entries.{files_of}
 use Rattle.kb_edges.proofs.Listings.{IsListing-from}
-use Rattle.kb_edges.proofs.search.sgf_names.Goals as goal
+use Rattle.kb_edges.proofs.lookup.sgf_names.Goals as goal
 
 pub returns : goal.returns
 returns c =

@@ -3,8 +3,8 @@ use Rattle.std.specs.Prelude.{map}
 use Rattle.std.specs.String.{string_bytes}
 use Rattle.kb_edges.specs.Entries.{file_of}
 use Rattle.kb_edges.proofs.Listings.{is_listed, listed_kept, listed_pushed}
-use Rattle.kb_edges.proofs.search.matching_names.Goals as goal
-use Rattle.kb_edges.proofs.search.matching_names.Goals.{then-is_listed+in_ok-from_str+in_ok-push, else-is_listed}
+use Rattle.kb_edges.proofs.lookup.matching_names.Goals as goal
+use Rattle.kb_edges.proofs.lookup.matching_names.Goals.{then-is_listed+in_ok-from_str+in_ok-push, else-is_listed}
 
 pub loop-file-preserved : goal.loop-file-preserved
 loop-file-preserved c =

@@ -20,7 +20,8 @@ pub fn has_path(files: &[FileEntry], path: &str) -> bool
 
 /// The first file with this path and this name.
 pub fn first_file<'a>(files: &'a [FileEntry], path: &str, name: &str) -> Option<&'a FileEntry>
-    ensures { option_copied result ≡ find (λ entry. bytes_eq (string_bytes entry.path) path.now && bytes_eq (string_bytes entry.name) name.now) files.now }
+    ensures { option_copied result ≡ find (λ entry.
+        bytes_eq (string_bytes entry.path) path.now && bytes_eq (string_bytes entry.name) name.now) files.now }
 {
     files.iter().find(|file| file.path.as_str() == path && file.name.as_str() == name)
 }
@@ -33,7 +34,8 @@ pub fn is_sgf_name(name: &str) -> bool
 
 /// The names of the files under a path that end in `.sgf`, each once.
 pub fn sgf_names(alloc: Global, files: &[FileEntry], path: &str) -> Result<Vec<String>, AllocError>
-    ensures { IfOk result (λ names. IsListing (files_of files.now) path.now (map string_bytes names.items)) }
+    ensures { IfOk result (λ names.
+        IsListing (files_of files.now) path.now (map string_bytes names.items)) }
 {
     let mut names = matching_names(alloc, files, path)?;
     sort_names(&mut names);
@@ -44,22 +46,26 @@ pub fn sgf_names(alloc: Global, files: &[FileEntry], path: &str) -> Result<Vec<S
 pub fn sort_names(names: &mut Vec<String>)
     ensures ascending { AllPairs (λ x y. slice_cmp nat_cmp x y ≡ Less) (map string_bytes names.new.items) }
     ensures distinct { AllPairs (λ x y. x ≢ y) (map string_bytes names.new.items) }
-    ensures kept { (name : List ℕ) → Contains (map string_bytes names.old.items) name → Contains (map string_bytes names.new.items) name }
-    ensures none_added { (name : List ℕ) → Contains (map string_bytes names.new.items) name → Contains (map string_bytes names.old.items) name }
+    ensures kept { (name : List ℕ) → Contains (map string_bytes names.old.items) name →
+        Contains (map string_bytes names.new.items) name }
+    ensures none_added { (name : List ℕ) → Contains (map string_bytes names.new.items) name →
+        Contains (map string_bytes names.old.items) name }
 {
     names.sort_unstable();
     names.dedup();
 }
 
 fn is_listed(file: &FileEntry, path: &str) -> bool
-    ensures { result ≡ (bytes_eq (string_bytes file.now.path) path.now && is_sgf_name (string_bytes file.now.name)) }
+    ensures { result
+        ≡ (bytes_eq (string_bytes file.now.path) path.now && is_sgf_name (string_bytes file.now.name)) }
 {
     file.path.as_str() == path && is_sgf_name(file.name.as_str())
 }
 
 // The same in the order of the files, with repeats.
 fn matching_names(alloc: Global, files: &[FileEntry], path: &str) -> Result<Vec<String>, AllocError>
-    ensures { IfOk result (λ names. map string_bytes names.items ≡ sgf_names_of (files_of files.now) path.now) }
+    ensures { IfOk result (λ names.
+        map string_bytes names.items ≡ sgf_names_of (files_of files.now) path.now) }
 {
     let mut names = Vec::new(alloc);
     for file in files {
