@@ -12,7 +12,7 @@ use Rattle.game_tree.specs.declared.node.Move.{Move}
 use Rattle.game_tree.specs.declared.node.Setup.{Setup}
 use Rattle.game_tree.specs.Information.{Information}
 use Rattle.game_tree.specs.Tree.{Tree, Node, IsTree, IsAbove, IsNodeOnBoard, IsRectOnBoard, node_count, node_at, parent_of, is_child_of, children_of, first_of, first_child_of, next_sibling_of, path_within, path_to, move_number_of}
-use Rattle.game_tree.specs.Line.{nodes_below, line_of, FitsTree}
+use Rattle.game_tree.specs.Line.{IsLine, nodes_below, line_of, FitsTree}
 use Rattle.game_tree.specs.MainLine.{IsOnMainLine}
 
 -- ---- the nodes below the root
@@ -263,3 +263,10 @@ module _ (shape : Shape) (info : Information) (moves : List Move) (tree : Tree) 
 
   pub is_tree-shown : FitsTree shape info moves → IsTree tree
   is_tree-shown fits = subst (λ (t : Tree). IsTree t) shown (is_tree-line shape info moves fits)
+
+  -- it is a line
+  pub is_line-shown : IsLine tree
+  is_line-shown = record {
+    parents = λ n h. rw add-one (sym (parent_of-shown (suc n) (Some n) (omega arith, omega arith) (omega arith)));
+    no_setups = λ n h. sym (setups-shown n h);
+  }

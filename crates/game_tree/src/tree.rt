@@ -36,7 +36,7 @@ impl GameTree {
     ghost use Rattle.kb_geometry.specs.Board.{IsOnBoard};
     ghost use Rattle.game_tree.specs.declared.node.Setup.{Setup};
     ghost use Rattle.game_tree.specs.declared.node.Move.{Move};
-    ghost use Rattle.game_tree.specs.Line.{line_of, FitsTree};
+    ghost use Rattle.game_tree.specs.Line.{line_of, FitsTree, IsLine};
     ghost use Rattle.game_tree.specs.MainLine.{IsOnMainLine};
     ghost use Rattle.game_tree.specs.Tree.{Tree, IsTree, IsRectOnBoard, node_count, node_at, parent_of, children_of, first_child_of, next_sibling_of, move_number_of};
 
@@ -63,12 +63,13 @@ impl GameTree {
         &self.info
     }
 
-    /// How many nodes there are, 1 to 65,536.
+    /// How many nodes there are, 1 to 65,536. The tree is one line.
     pub fn node_count(&self) -> u32
         ensures value { result ≡ node_count self.now }
         ensures some { 1 ≤ result }
         ensures most { result ≤ 65536 }
         ensures tree { IsTree self.now }
+        ensures line { IsLine self.now }
     {
         self.moves.len() as u32 + 1
     }
