@@ -2,6 +2,7 @@ pub mod Boards
 pub mod Captures
 pub mod Cells
 pub mod Fills
+mod GameLemmas
 pub mod GroupLaws
 mod ImportLemmas
 mod LineLemmas
@@ -9,4 +10,5 @@ pub mod Neighbours
 pub mod PointSets
 mod PrintLemmas
 mod ScriptLemmas
+mod SearchLemmas
 pub mod Walks

@@ -4,6 +4,7 @@ pub mod Hits
 pub mod Imported
 pub mod Lines
 pub mod NextLine
+pub mod NodeHits
 pub mod PointSet
 pub mod Reads
 pub mod Script

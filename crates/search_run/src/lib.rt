@@ -6,6 +6,7 @@ mod hit;
 mod import;
 mod print;
 mod script;
+mod search;
 mod statement;
 
 pub use board::Board;
