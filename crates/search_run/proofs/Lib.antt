@@ -9,6 +9,7 @@ mod LineLemmas
 pub mod Neighbours
 pub mod PointSets
 mod PrintLemmas
+mod ReadLemmas
 mod ScriptLemmas
 mod SearchLemmas
 pub mod Walks

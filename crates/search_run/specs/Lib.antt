@@ -10,3 +10,4 @@ pub mod Reads
 pub mod Script
 pub mod Session
 pub mod Texts
+pub mod Wins

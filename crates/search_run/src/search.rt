@@ -1,5 +1,5 @@
 // The occurrences of a black stone in games.
-ghost use Rattle.std.specs.Prelude.{◌≡◌, ◌<◌, ◌≤◌, ◌^◌, ◌++◌, ◌&&◌, ℕ, not, List, length, map, false, filter, slice_index_or, IfOk, IfSome, OnOk};
+ghost use Rattle.std.specs.Prelude.{◌≡◌, ◌<◌, ◌≤◌, ◌++◌, ◌&&◌, ℕ, not, List, length, map, false, filter, slice_index_or, IfOk, IfSome, OnOk};
 ghost use Rattle.std.specs.List.{range_with_len};
 ghost use Rattle.kb_geometry.specs.declared.shape.Point.{Point};
 ghost use Rattle.kb_geometry.specs.Board.{IsOnBoard, point_count};
@@ -19,7 +19,7 @@ use std::alloc::Global;
 // A node of a game.
 #[derive(Clone, Copy, Debug, PartialEq, Eq)]
 struct Place {
-    game: u32,
+    game: usize,
     node: u32,
     outcome: Outcome,
 }
@@ -85,7 +85,7 @@ fn add_hits(
 
 // Adds the hits of a game, which is played once, move by move. No black stone stood anywhere before.
 fn search_nodes(
-    game: u32,
+    game: usize,
     tree: &GameTree,
     stood: &mut [bool],
     hits: &mut Vec<Hit>,
@@ -114,7 +114,7 @@ fn search_nodes(
 const ROOM: usize = MAX_POINTS as usize;
 
 // Adds the hits of a game.
-fn search_game(game: u32, tree: &GameTree, hits: &mut Vec<Hit>) -> Result<(), NoMemory>
+fn search_game(game: usize, tree: &GameTree, hits: &mut Vec<Hit>) -> Result<(), NoMemory>
     ensures { OnOk result ((played : Game) × (played.tree ≡ tree.now) × ArePositions played.tree played.positions
         × (hits.new.items ≡ hits.old.items ++ hits_in game played)) }
 {
@@ -125,12 +125,11 @@ fn search_game(game: u32, tree: &GameTree, hits: &mut Vec<Hit>) -> Result<(), No
 
 /// The hits in games, which are numbered from 0.
 pub(crate) fn search(alloc: Global, trees: &[GameTree]) -> Result<Vec<Hit>, NoMemory>
-    requires { length trees.now < 2 ^ 32 }
     ensures { IfOk result (λ hits. (games : List Game) × AreGames trees.now games × (hits.items ≡ hits_from 0 games)) }
 {
     let mut hits = Vec::new(alloc);
     for (number, tree) in trees.iter().enumerate() {
-        search_game(number as u32, tree, &mut hits)?;
+        search_game(number, tree, &mut hits)?;
     }
     Ok(hits)
 }
