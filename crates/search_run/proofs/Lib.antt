@@ -2,11 +2,14 @@ pub mod Boards
 pub mod Captures
 pub mod Cells
 pub mod Fills
+mod GameLemmas
 pub mod GroupLaws
 mod ImportLemmas
 mod LineLemmas
 pub mod Neighbours
 pub mod PointSets
 mod PrintLemmas
+mod ReadLemmas
 mod ScriptLemmas
+mod SearchLemmas
 pub mod Walks

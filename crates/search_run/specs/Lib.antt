@@ -4,8 +4,10 @@ pub mod Hits
 pub mod Imported
 pub mod Lines
 pub mod NextLine
+pub mod NodeHits
 pub mod PointSet
 pub mod Reads
 pub mod Script
 pub mod Session
 pub mod Texts
+pub mod Wins

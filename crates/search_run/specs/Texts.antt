@@ -1,9 +1,8 @@
 -- The printed texts. Numbers are decimal, and each line ends with a line feed.
-use Rattle.std.specs.Prelude.{ℕ, ◌-◌, Bool, true, false, List, [], ◌∷◌, ◌++◌, length, codes, count_by}
+use Rattle.std.specs.Prelude.{ℕ, not, ◌&&◌, Bool, true, false, List, [], ◌∷◌, ◌++◌, length, codes, count_by}
 use Rattle.std.specs.Fmt.{decimal}
 use Rattle.std.specs.List.{flat_map}
-use Rattle.kb_geometry.specs.declared.stone.Outcome.{Outcome}
-use Rattle.kb_geometry.specs.declared.stone.Outcome.TheVariants as outcome
+use Rattle.search_run.specs.Wins.{is_black_win, is_white_win}
 use Rattle.search_run.specs.Course.{FileReport, Found, Files, TooMany, Unlisted}
 use Rattle.search_run.specs.declared.hit.Hit.{Hit}
 use Rattle.search_run.specs.declared.print.Counts.{Counts}
@@ -107,22 +106,6 @@ report_text line (Files reports trees) version = listed_text line reports (lengt
 abbrev pub hit_text : Hit → List ℕ
 hit_text hit = line_text (codes "hit " ∷ decimal hit.game ∷ codes " " ∷ decimal hit.node ∷ codes " " ∷ decimal hit.point.x ∷ codes " " ∷ decimal hit.point.y ∷ codes " 0 -" ∷ [])
 
-abbrev pub is_black_win : Outcome → Bool
-is_black_win outcome.Black = true
-is_black_win outcome.White = false
-is_black_win outcome.Draw = false
-is_black_win outcome.Void = false
-is_black_win outcome.Unknown = false
-is_black_win outcome.Other = false
-
-abbrev pub is_white_win : Outcome → Bool
-is_white_win outcome.Black = false
-is_white_win outcome.White = true
-is_white_win outcome.Draw = false
-is_white_win outcome.Void = false
-is_white_win outcome.Unknown = false
-is_white_win outcome.Other = false
-
 -- hits in games that Black won
 abbrev pub black_wins : List Hit → ℕ
 black_wins hits = count_by (λ (hit : Hit). is_black_win hit.outcome) hits
@@ -131,14 +114,21 @@ black_wins hits = count_by (λ (hit : Hit). is_black_win hit.outcome) hits
 abbrev pub white_wins : List Hit → ℕ
 white_wins hits = count_by (λ (hit : Hit). is_white_win hit.outcome) hits
 
--- all hits, those with a continuation at once and later, of which there are none, and the hits by who won
+-- hits in all other games
+abbrev pub other_games : List Hit → ℕ
+other_games hits = count_by (λ (hit : Hit). not (is_black_win hit.outcome) && not (is_white_win hit.outcome)) hits
+
+-- the line of totals: all hits, none with a continuation at once or later, and the hits by who won
+abbrev pub totals_line : ℕ → ℕ → ℕ → ℕ → List ℕ
+totals_line count black white other = line_text (codes "total " ∷ decimal count ∷ codes " 0 0 " ∷ decimal black ∷ codes " " ∷ decimal white ∷ codes " " ∷ decimal other ∷ [])
+
 abbrev pub totals_text : List Hit → List ℕ
-totals_text hits = line_text (codes "total " ∷ decimal (length hits) ∷ codes " 0 0 " ∷ decimal (black_wins hits) ∷ codes " " ∷ decimal (white_wins hits) ∷ codes " " ∷ decimal (length hits - black_wins hits - white_wins hits) ∷ [])
+totals_text hits = totals_line (length hits) (black_wins hits) (white_wins hits) (other_games hits)
 
 -- `LINE search version V games G hits H`
-abbrev pub search_head : ℕ → ℕ → ℕ → List Hit → List ℕ
-search_head line version games hits = line_text (decimal line ∷ codes " search version " ∷ decimal version ∷ codes " games " ∷ decimal games ∷ codes " hits " ∷ decimal (length hits) ∷ [])
+abbrev pub search_head : ℕ → ℕ → ℕ → ℕ → List ℕ
+search_head line version games hits = line_text (decimal line ∷ codes " search version " ∷ decimal version ∷ codes " games " ∷ decimal games ∷ codes " hits " ∷ decimal hits ∷ [])
 
 -- the head of a search, the hits, the totals
 abbrev pub search_text : ℕ → ℕ → ℕ → List Hit → List ℕ
-search_text line version games hits = search_head line version games hits ++ flat_map hit_text hits ++ totals_text hits
+search_text line version games hits = search_head line version games (length hits) ++ (flat_map hit_text hits ++ totals_text hits)

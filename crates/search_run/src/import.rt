@@ -75,6 +75,21 @@ pub(crate) enum Imported {
     },
 }
 
+impl Imported {
+    ghost use Rattle.search_run.specs.Session.{versions_of};
+
+    /// How many versions it adds: one where there is a name.
+    pub fn versions(&self) -> u64
+        ensures value { result ≡ versions_of (found_of self.now) }
+        ensures most { result ≤ 1 }
+    {
+        match self {
+            Imported::Files { files, .. } if !files.is_empty() => 1,
+            _ => 0,
+        }
+    }
+}
+
 /// Imports the files of a path whose names end in `.sgf`.
 pub(crate) fn import<F: Folder>(
     alloc: Global,

@@ -5,8 +5,14 @@ mod board;
 mod hit;
 mod import;
 mod print;
+mod read;
 mod script;
+mod search;
+mod session;
 mod statement;
+mod status;
+mod write;
 
 pub use board::Board;
 pub use statement::{Placed, ScriptError, Statement};
+pub use status::Status;

@@ -2,9 +2,10 @@
 ghost use Rattle.std.specs.Prelude.{◌≡◌, ◌++◌, OnOk, count_by, string_bytes};
 ghost use Rattle.search_run.specs.Imported.{found_of};
 ghost use Rattle.search_run.specs.Reads.{file_report, file_reports};
-ghost use Rattle.search_run.specs.Texts.{counts_head, counts_of, counts_tail, counts_text, file_text, import_text, is_accepted, is_refused, is_unread, listed_text, refused_text, report_text, too_many_text, unlisted_text, unread_text, wait_text};
+ghost use Rattle.search_run.specs.Texts.{counts_head, counts_of, counts_tail, counts_text, file_text, black_wins, hit_text, other_games, search_head, search_text, totals_line, totals_text, white_wins, import_text, is_accepted, is_refused, is_unread, listed_text, refused_text, report_text, too_many_text, unlisted_text, unread_text, wait_text};
 ghost use Rattle.std.specs.List.{flat_map};
 
+use crate::hit::Hit;
 use crate::import::{FileOutcome, Imported, ImportedFile};
 use kb_geometry::NoMemory;
 use std::fmt::Write;
@@ -197,5 +198,105 @@ pub(crate) fn print_report(
             print_listed(out, line, files, trees.len(), version)?;
         }
     }
+    Ok(())
+}
+
+// Prints the head of a search.
+fn print_search_head(
+    out: &mut String,
+    line: u32,
+    version: u64,
+    games: usize,
+    hits: usize,
+) -> Result<(), NoMemory>
+    ensures { OnOk result (string_bytes out.new ≡ string_bytes out.old ++ search_head line version games hits) }
+{
+    writeln!(
+        out,
+        "{line} search version {version} games {games} hits {hits}"
+    )?;
+    Ok(())
+}
+
+// Prints a hit.
+fn print_hit(out: &mut String, hit: &Hit) -> Result<(), NoMemory>
+    ensures { OnOk result (string_bytes out.new ≡ string_bytes out.old ++ hit_text hit.now) }
+{
+    let game = hit.game;
+    let node = hit.node;
+    let x = hit.point.x;
+    let y = hit.point.y;
+    writeln!(out, "hit {game} {node} {x} {y} 0 -")?;
+    Ok(())
+}
+
+// Prints hits, in order.
+fn print_hits(out: &mut String, hits: &[Hit]) -> Result<(), NoMemory>
+    ensures { OnOk result (string_bytes out.new ≡ string_bytes out.old ++ flat_map hit_text hits.now) }
+{
+    for hit in hits {
+        print_hit(out, hit)?;
+    }
+    Ok(())
+}
+
+// How many hits are in games that Black won, that White won, and in others.
+fn black_wins(hits: &[Hit]) -> usize
+    ensures { result ≡ black_wins hits.now }
+{
+    hits.iter().filter(|hit| hit.is_black_win()).count()
+}
+
+fn white_wins(hits: &[Hit]) -> usize
+    ensures { result ≡ white_wins hits.now }
+{
+    hits.iter().filter(|hit| hit.is_white_win()).count()
+}
+
+fn other_games(hits: &[Hit]) -> usize
+    ensures { result ≡ other_games hits.now }
+{
+    hits.iter()
+        .filter(|hit| !hit.is_black_win() && !hit.is_white_win())
+        .count()
+}
+
+// Prints the line of totals.
+fn print_totals_line(
+    out: &mut String,
+    count: usize,
+    black: usize,
+    white: usize,
+    other: usize,
+) -> Result<(), NoMemory>
+    ensures { OnOk result (string_bytes out.new ≡ string_bytes out.old ++ totals_line count black white other) }
+{
+    writeln!(out, "total {count} 0 0 {black} {white} {other}")?;
+    Ok(())
+}
+
+// Prints the totals of hits.
+fn print_totals(out: &mut String, hits: &[Hit]) -> Result<(), NoMemory>
+    ensures { OnOk result (string_bytes out.new ≡ string_bytes out.old ++ totals_text hits.now) }
+{
+    let black = black_wins(hits);
+    let white = white_wins(hits);
+    let other = other_games(hits);
+    print_totals_line(out, hits.len(), black, white, other)
+}
+
+/// Prints a search: its head, the hits, the totals.
+pub(crate) fn print_search(
+    out: &mut String,
+    line: u32,
+    version: u64,
+    games: usize,
+    hits: &[Hit],
+) -> Result<(), NoMemory>
+    ensures { OnOk result (string_bytes out.new ≡ string_bytes out.old ++ search_text line version games hits.now) }
+{
+    print_search_head(out, line, version, games, hits.len())?;
+    print_hits(out, hits)?;
+    print_totals(out, hits)?;
     Ok(())
 }

@@ -1,0 +1,21 @@
+// How a run ends.
+
+/// How a run ended.
+#[derive(Clone, Copy, Debug, PartialEq, Eq)]
+pub enum Status {
+    /// The script was read to its end, and the whole output was written.
+    Done,
+    /// The script isn't in the grammar, or it is too long. Nothing was imported or written.
+    BadScript {
+        /// The least bad line, from 1.
+        line: u32,
+    },
+    /// The words of the command line aren't lawful. Nothing was read, imported or written.
+    BadWords,
+    /// The script could not be read. Nothing was imported or written.
+    ScriptUnread,
+    /// The output could not be written. What was written is the beginning of a lawful output.
+    SinkFault,
+    /// Want of memory. What was written is the beginning of a lawful output.
+    NoMemory,
+}
