@@ -10,6 +10,7 @@ pub mod Neighbours
 pub mod PointSets
 mod PrintLemmas
 mod ReadLemmas
+mod RunLemmas
 mod ScriptLemmas
 mod SearchLemmas
 pub mod Walks

@@ -1,12 +1,12 @@
 -- Reading a script line by line.
 use Prim.Native.Nat.{zero}
-use Rattle.std.proofs.Common.{◌≡◌, ◌≢◌, codes, IsTrue, ◌↔◌, ◌⊎◌, ⊎_elim, inl, inr, ℕ, suc, ◌+◌, ◌<◌, ◌≤◌, Bool, true, false, cond, eqb, ◌||◌, List, [], ◌∷◌, ◌++◌, length, get_or, drop, refl, sym, ap, subst, ◌∙◌, arith, add-one}
+use Rattle.std.proofs.Common.{min, take, ◌≡◌, ◌≢◌, codes, IsTrue, ◌↔◌, ◌⊎◌, ⊎_elim, inl, inr, ℕ, suc, ◌+◌, ◌<◌, ◌≤◌, Bool, true, false, cond, eqb, ◌||◌, List, [], ◌∷◌, ◌++◌, length, get_or, drop, refl, sym, ap, subst, ◌∙◌, arith, add-one}
 use Rattle.std.proofs.Math.Nat.{eq-or-lt_of_le}
-use Rattle.std.proofs.lemmas.Bool.{false≢true}
-use Rattle.std.proofs.lemmas.List.{length_push, take_all, drop_all}
+use Rattle.std.proofs.lemmas.Bool.{cases_lt, false≢true}
+use Rattle.std.proofs.lemmas.List.{length_push, length-take, take_all, drop_all}
 use Rattle.search_run.specs.Lines.{lines_of, longer_first}
 use Rattle.search_run.specs.NextLine.{IsNext, IsRejected, cut, no_statement, second_import}
-use Rattle.search_run.specs.Script.{HasImportBefore, IsBadLine, IsFaulty, IsImport, IsLeastBadLine, IsScript, Spells, SpellsImport, imports_again, line_at, lines_seen, passes_length, spells_nothing}
+use Rattle.search_run.specs.Script.{HasImportBefore, IsBadLine, IsFaulty, IsImport, IsInGrammar, IsLeastBadLine, IsScript, Spells, SpellsImport, imports_again, line_at, lines_seen, passes_length, spells_nothing}
 use Rattle.search_run.specs.declared.statement.Placed.{Placed}
 use Rattle.search_run.specs.declared.statement.Statement.{Statement}
 use Rattle.search_run.specs.declared.statement.Statement.TheVariants as statement
@@ -198,3 +198,58 @@ IsScript-from_end text placed has_import short h =
       spelled = λ k d below. rw (← same, add-one) (h.spelled k d below);
       on_its_line = λ k d below. rw add-one (h.on_its_line k d below);
     }
+
+-- a text that is too long has a line
+some_line : (text : List ℕ) → MAX_SCRIPT < length text → 1 ≤ length (lines_seen text)
+some_line text long = go (lines_seen text) refl
+  where
+    go : (lines : List (List ℕ)) → lines_seen text ≡ lines → 1 ≤ length lines
+    go [] none = absurd (omega (arith, ap length (lines_of-none (take (MAX_SCRIPT + 1) text) none), length-take (MAX_SCRIPT + 1) text))
+    go (line ∷ lines) is = omega arith
+
+-- why a line is bad, in a text of which as much is seen
+same_faulty : (text other : List ℕ) (k : ℕ) → lines_seen text ≡ lines_seen other → (MAX_SCRIPT < length text → MAX_SCRIPT < length other) → IsFaulty text k → IsFaulty other k
+same_faulty text other k same long (spells_nothing h) = spells_nothing (rw same at h)
+same_faulty text other k same long (imports_again h before) = imports_again (rw same at h) (rw same at before)
+same_faulty text other k same long (passes_length h last) = passes_length (long h) (rw same at last)
+
+-- A text of which as much is seen has the same bad lines.
+same_bad_line : (text other : List ℕ) (k : ℕ) → lines_seen text ≡ lines_seen other → (MAX_SCRIPT < length text → MAX_SCRIPT < length other) → IsBadLine text k → IsBadLine other k
+same_bad_line text other k same long bad = record {
+  from_one = bad.from_one;
+  to_last = rw same at bad.to_last;
+  faulty = same_faulty text other k same long bad.faulty;
+}
+
+-- what is read of a text shows the same lines
+seen_of_read : (bytes : List ℕ) → lines_seen (take (MAX_SCRIPT + 1) bytes) ≡ lines_seen bytes
+seen_of_read bytes = ap lines_of (take_all (MAX_SCRIPT + 1) (take (MAX_SCRIPT + 1) bytes) (omega (arith, length-take (MAX_SCRIPT + 1) bytes)))
+
+-- the least bad line of what was read is that of the script
+pub least_bad_line_of_read : (bytes text : List ℕ) (k : ℕ) → text ≡ take (MAX_SCRIPT + 1) bytes → IsLeastBadLine text k → IsLeastBadLine bytes k
+least_bad_line_of_read bytes text k is h =
+    let same : lines_seen text ≡ lines_seen bytes = ap lines_seen is ∙ seen_of_read bytes in
+    let counted : length text ≡ min (MAX_SCRIPT + 1) (length bytes) = ap length is ∙ length-take (MAX_SCRIPT + 1) bytes in
+    record {
+      bad = same_bad_line text bytes k same (λ long. omega arith) h.bad;
+      least = λ j below bad. h.least j below (same_bad_line bytes text j (sym same) (λ long. omega arith) bad);
+    }
+
+-- a script in the grammar is not too long
+pub in_grammar-short : (text : List ℕ) → IsInGrammar text → length text ≤ MAX_SCRIPT
+in_grammar-short text good = ⊎_elim (λ long. absurd (good (length (lines_seen text)) (record { from_one = some_line text long; to_last = omega arith; faulty = passes_length long refl }))) (λ short. short) (cases_lt MAX_SCRIPT (length text))
+
+-- what was read of a script in the grammar is the script
+pub whole_of_read : (bytes text : List ℕ) → text ≡ take (MAX_SCRIPT + 1) bytes → IsInGrammar text → text ≡ bytes
+whole_of_read bytes text is good =
+    let counted : length text ≡ min (MAX_SCRIPT + 1) (length bytes) = ap length is ∙ length-take (MAX_SCRIPT + 1) bytes in
+    let short = in_grammar-short text good in
+    is ∙ take_all (MAX_SCRIPT + 1) bytes (omega arith)
+
+-- the statements of what was read are those of the script
+pub script_of_read : (bytes text : List ℕ) (placed : List Placed) → text ≡ take (MAX_SCRIPT + 1) bytes → IsScript text placed → IsScript bytes placed
+script_of_read bytes text placed is h = subst (λ (t : List ℕ). IsScript t placed) (whole_of_read bytes text is h.in_grammar) h
+
+-- nothing is left behind a script that is not too long
+pub nothing_left : (bytes : List ℕ) → length bytes ≤ MAX_SCRIPT → drop (MAX_SCRIPT + 1) bytes ≡ []
+nothing_left bytes short = drop_all (MAX_SCRIPT + 1) bytes (omega arith)

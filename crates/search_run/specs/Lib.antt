@@ -7,7 +7,11 @@ pub mod NextLine
 pub mod NodeHits
 pub mod PointSet
 pub mod Reads
+pub mod Run
+pub mod RunErrors
 pub mod Script
+pub mod Serial
 pub mod Session
+pub mod Steps
 pub mod Texts
 pub mod Wins

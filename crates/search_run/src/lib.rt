@@ -6,13 +6,14 @@ mod hit;
 mod import;
 mod print;
 mod read;
+mod run;
 mod script;
 mod search;
+mod serial;
 mod session;
 mod statement;
 mod status;
 mod write;
 
-pub use board::Board;
-pub use statement::{Placed, ScriptError, Statement};
+pub use serial::run_serial;
 pub use status::Status;

@@ -1,0 +1,31 @@
+-- What a run of a script leaves: its status, what it wrote, and what it lost to faults of the folder.
+use Rattle.std.specs.Prelude.{◌≡◌, ◌⊎◌, ℕ, List, ◌++◌, Option, Some}
+use Rattle.kb_edges.specs.Faults.{RoseBy}
+use Rattle.kb_edges.specs.Files.{File}
+use Rattle.search_run.specs.Course.{ImportCourse, losses_of}
+use Rattle.search_run.specs.Session.{HasPrinted, IsBegun, IsLawful, State}
+use Rattle.search_run.specs.declared.statement.Placed.{Placed}
+
+-- The text so far is what these statements print, by a course whose losses the rise of the folder's count pays for.
+pub record HasRun (files : List File) (placed : List Placed) (state : State) (before : List ℕ) (written : Option (List ℕ)) (faults_before faults_now : ℕ) : Type 0 where
+  pub course : List ImportCourse
+  pub text : List ℕ
+  pub printed : HasPrinted files course placed state text
+  pub written_is : written ≡ Some (before ++ text)
+  pub paid : RoseBy (losses_of course) faults_before faults_now
+
+-- A lawful output of these statements was written, by a course whose losses the rise of the folder's count pays for.
+pub record WritesLawful (files : List File) (placed : List Placed) (before : List ℕ) (written : Option (List ℕ)) (faults_before faults_now : ℕ) : Type 0 where
+  pub course : List ImportCourse
+  pub text : List ℕ
+  pub lawful : IsLawful files course placed text
+  pub written_is : written ≡ Some (before ++ text)
+  pub paid : RoseBy (losses_of course) faults_before faults_now
+
+-- A begun text of these statements was written, by a course whose losses the rise of the folder's count pays for.
+pub record WritesBegun (files : List File) (placed : List Placed) (before : List ℕ) (written : Option (List ℕ)) (faults_before faults_now : ℕ) : Type 0 where
+  pub course : List ImportCourse
+  pub text : List ℕ
+  pub begun : IsBegun files course placed text
+  pub written_is : written ≡ Some (before ++ text)
+  pub paid : RoseBy (losses_of course) faults_before faults_now

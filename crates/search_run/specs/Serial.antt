@@ -1,0 +1,29 @@
+-- What a whole run writes, for a script, a folder and a sink that tell their contents.
+use Rattle.std.specs.Prelude.{◌≡◌, ℕ, List, Option}
+use Rattle.kb_edges.specs.Files.{File}
+use Rattle.search_run.specs.Run.{WritesBegun, WritesLawful}
+use Rattle.search_run.specs.Script.{IsScript}
+use Rattle.search_run.specs.declared.statement.Placed.{Placed}
+use Rattle.search_run.specs.declared.status.Status.{Status}
+use Rattle.search_run.specs.declared.status.Status.TheVariants as status
+
+-- A lawful output for the script's statements was written, by a course whose losses the folder's count pays for.
+pub record Prints (script : List ℕ) (files : List File) (before : List ℕ) (written : Option (List ℕ)) (faults_before faults_now : ℕ) : Type 0 where
+  pub placed : List Placed
+  pub spelled : IsScript script placed
+  pub lawful : WritesLawful files placed before written faults_before faults_now
+
+-- A begun text for the script's statements was written, by a course whose losses the folder's count pays for.
+pub record Begins (script : List ℕ) (files : List File) (before : List ℕ) (written : Option (List ℕ)) (faults_before faults_now : ℕ) : Type 0 where
+  pub placed : List Placed
+  pub spelled : IsScript script placed
+  pub begun : WritesBegun files placed before written faults_before faults_now
+
+-- the run ended before the first statement
+abbrev pub IsEarly : Status → Type 0
+IsEarly status.BadWords = Unit {0}
+IsEarly status.ScriptUnread = Unit {0}
+IsEarly (status.BadScript line) = Unit {0}
+IsEarly status.Done = ⊥
+IsEarly status.SinkFault = ⊥
+IsEarly status.NoMemory = ⊥

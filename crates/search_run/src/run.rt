@@ -1,0 +1,93 @@
+// Running the statements of a script, one after another.
+ghost use Rattle.std.specs.Prelude.{◌≡◌, ◌≤◌, ◌<◌, ◌+◌, ◌-◌, ◌^◌, IsErrOf, OnErr, OnOk};
+ghost use Rattle.kb_edges.specs.Faults.{Rose};
+ghost use Rattle.kb_edges.specs.Told.{IfTold};
+ghost use Rattle.search_run.specs.Run.{WritesBegun, WritesLawful};
+ghost use Rattle.search_run.specs.Steps.{PassesStatement, StopsInStatement};
+
+use crate::session::Session;
+use crate::statement::Placed;
+use crate::write::write_all;
+use kb_edges::{Folder, Sink, SinkError};
+use kb_geometry::NoMemory;
+use std::alloc::Global;
+
+/// Why a run stopped.
+#[derive(Clone, Copy, Debug, PartialEq, Eq)]
+pub(crate) enum Stopped {
+    /// A write failed.
+    SinkFault,
+    /// Want of memory.
+    NoMemory,
+}
+
+impl From<NoMemory> for Stopped {
+    ghost use Rattle.search_run.specs.declared.run.Stopped.TheVariants.{NoMemory};
+
+    ghost from_gives = { λ _ e. e ≡ NoMemory };
+
+    fn from(_: NoMemory) -> Self {
+        Stopped::NoMemory
+    }
+}
+
+impl From<SinkError> for Stopped {
+    ghost use Rattle.search_run.specs.RunErrors.{stopped_of};
+
+    ghost from_gives = { λ e s. s ≡ stopped_of e };
+
+    fn from(error: SinkError) -> Self {
+        match error {
+            SinkError::Failed => Stopped::SinkFault,
+            SinkError::NoMemory => Stopped::NoMemory,
+        }
+    }
+}
+
+/// Runs statements in order, and writes the text of each.
+pub(crate) fn run_statements<F: Folder, K: Sink>(
+    alloc: Global,
+    placed: &[Placed],
+    folder: &mut F,
+    out: &mut K,
+) -> Result<(), Stopped>
+    ensures lawful { IfTold (F.files folder.old) (λ files. IfTold (K.written out.old) (λ before. OnOk result
+        (WritesLawful files placed.now before (K.written out.new) (F.faults folder.old) (F.faults folder.new)))) }
+    ensures begun { IfTold (F.files folder.old) (λ files. IfTold (K.written out.old) (λ before. OnErr result
+        (WritesBegun files placed.now before (K.written out.new) (F.faults folder.old) (F.faults folder.new)))) }
+    ensures sink_fault { IsErrOf result Stopped.SinkFault → Rose (K.faults out.old) (K.faults out.new) }
+    ensures same { F.files folder.new ≡ F.files folder.old }
+    ensures later { F.faults folder.old ≤ F.faults folder.new }
+    ensures sink_later { K.faults out.old ≤ K.faults out.new }
+{
+    let mut session = Session::new(alloc);
+    for statement in placed {
+        run_statement(alloc, &mut session, statement, folder, out)?;
+    }
+    write_all(out, session.unjoined())?;
+    Ok(())
+}
+
+// Writes the text of a statement, and goes on to the state after it.
+fn run_statement<F: Folder, K: Sink>(
+    alloc: Global,
+    session: &mut Session,
+    placed: &Placed,
+    folder: &mut F,
+    out: &mut K,
+) -> Result<(), Stopped>
+    requires { session.old.version < 2 ^ 64 - 1 }
+    ensures passed { IfTold (F.files folder.old) (λ files. IfTold (K.written out.old) (λ before. OnOk result
+        (PassesStatement files session.old placed.now session.new before (K.written out.new) (F.faults folder.old) (F.faults folder.new)))) }
+    ensures stopped { IfTold (K.written out.old) (λ before. OnErr result (StopsInStatement session.old placed.now before (K.written out.new))) }
+    ensures sink_fault { IsErrOf result Stopped.SinkFault → Rose (K.faults out.old) (K.faults out.new) }
+    ensures version { OnOk result (session.new.version ≤ session.old.version + 1) }
+    ensures same { F.files folder.new ≡ F.files folder.old }
+    ensures later { F.faults folder.old ≤ F.faults folder.new }
+    ensures sink_later { K.faults out.old ≤ K.faults out.new }
+{
+    let text = session.text_of(alloc, placed)?;
+    write_all(out, text.as_bytes())?;
+    session.pass(alloc, folder, placed)?;
+    Ok(())
+}

@@ -1,0 +1,83 @@
+// The top call on one thread.
+ghost use Rattle.std.specs.Prelude.{◌≡◌, ◌≢◌, ◌≤◌, ◌<◌, ◌↔◌, ◌⊎◌, ℕ, List, [], Some, length};
+ghost use Rattle.kb_edges.specs.Faults.{Rose, RoseBy};
+ghost use Rattle.kb_edges.specs.Files.{File};
+ghost use Rattle.search_run.specs.Script.{IsInGrammar, IsLeastBadLine};
+ghost use Rattle.search_run.specs.Serial.{Begins, IsEarly, Prints};
+ghost use Rattle.search_run.specs.declared.statement.TheConstants.{MAX_SCRIPT};
+ghost use Rattle.search_run.specs.declared.status.Status.{Status};
+
+use crate::read::{ReadScriptError, read_text};
+use crate::run::{Stopped, run_statements};
+use crate::script::read_script;
+use crate::statement::ScriptError;
+use crate::status::Status;
+use kb_edges::{Folder, Sink, Source};
+use std::alloc::Global;
+
+/// Reads a script, imports its folder, and writes its answers, on one thread.
+///
+/// The words are those of the command line without the program's name. In this stage the only lawful
+/// list of them is the empty one. The folder is handed back.
+pub fn run_serial<F: Folder, S: Source, K: Sink>(
+    alloc: Global,
+    words: &[String],
+    folder: F,
+    script: &mut S,
+    out: &mut K,
+) -> (Status, F)
+    // The words come first.
+    ensures bad_words { (result.0 ≡ Status.BadWords) ↔ (words.now ≢ []) }
+
+    // Then the script is read.
+    ensures script_unread { result.0 ≡ Status.ScriptUnread → Rose (S.faults script.old) (S.faults script.new) }
+
+    // Then its grammar: where the source tells its bytes, a bad script is told by its least bad line, and no
+    // other script is told so or run.
+    ensures bad_script { (bytes : List ℕ) → S.left script.old ≡ Some bytes → (k : ℕ) → result.0 ≡ Status.BadScript k → IsLeastBadLine bytes k }
+    ensures in_grammar { (bytes : List ℕ) → S.left script.old ≡ Some bytes → (result.0 ≡ Status.Done) ⊎ (result.0 ≡ Status.SinkFault) → IsInGrammar bytes }
+
+    // A script that was read to its end leaves nothing.
+    ensures done_left { (bytes : List ℕ) → S.left script.old ≡ Some bytes → result.0 ≡ Status.Done → S.left script.new ≡ Some [] }
+    ensures bad_script_left { (bytes : List ℕ) → S.left script.old ≡ Some bytes → length bytes ≤ MAX_SCRIPT → (k : ℕ) → result.0 ≡ Status.BadScript k → S.left script.new ≡ Some [] }
+
+    // Then the statements. The sink fails only where its count rose.
+    ensures sink_fault { result.0 ≡ Status.SinkFault → Rose (K.faults out.old) (K.faults out.new) }
+
+    // What was written, where the source, the folder and the sink tell their contents.
+    ensures done { (bytes : List ℕ) (files : List File) (before : List ℕ) → S.left script.old ≡ Some bytes → F.files folder ≡ Some files → K.written out.old ≡ Some before →
+        result.0 ≡ Status.Done → Prints bytes files before (K.written out.new) (F.faults folder) (F.faults result.1) }
+    ensures stopped { (bytes : List ℕ) (files : List File) (before : List ℕ) → S.left script.old ≡ Some bytes → F.files folder ≡ Some files → K.written out.old ≡ Some before →
+        result.0 ≡ Status.SinkFault → Begins bytes files before (K.written out.new) (F.faults folder) (F.faults result.1) }
+    ensures no_memory { (bytes : List ℕ) (files : List File) (before : List ℕ) → S.left script.old ≡ Some bytes → F.files folder ≡ Some files → K.written out.old ≡ Some before →
+        result.0 ≡ Status.NoMemory → (K.written out.new ≡ Some before) × (result.1 ≡ folder) ⊎ Begins bytes files before (K.written out.new) (F.faults folder) (F.faults result.1) }
+
+    // Where nothing fails, the run is done, or memory was wanted. Where the folder doesn't fail, nothing is lost.
+    ensures complete { (bytes : List ℕ) → S.left script.old ≡ Some bytes → words.now ≡ [] → IsInGrammar bytes →
+        ¬ Rose (S.faults script.old) (S.faults script.new) → ¬ Rose (K.faults out.old) (K.faults out.new) → (result.0 ≡ Status.Done) ⊎ (result.0 ≡ Status.NoMemory) }
+    ensures no_loss { (n : ℕ) → RoseBy n (F.faults folder) (F.faults result.1) → ¬ Rose (F.faults folder) (F.faults result.1) → n ≡ 0 }
+
+    // Before the first statement nothing is written, and the folder isn't asked.
+    ensures nothing_written { IsEarly result.0 → K.written out.new ≡ K.written out.old }
+    ensures nothing_asked { IsEarly result.0 → result.1 ≡ folder }
+{
+    if !words.is_empty() {
+        return (Status::BadWords, folder);
+    }
+    let text = match read_text(alloc, script) {
+        Ok(text) => text,
+        Err(ReadScriptError::Unread) => return (Status::ScriptUnread, folder),
+        Err(ReadScriptError::NoMemory) => return (Status::NoMemory, folder),
+    };
+    let placed = match read_script(alloc, &text) {
+        Ok(placed) => placed,
+        Err(ScriptError::BadLine { line }) => return (Status::BadScript { line }, folder),
+        Err(ScriptError::NoMemory) => return (Status::NoMemory, folder),
+    };
+    let mut folder = folder;
+    match run_statements(alloc, &placed, &mut folder, out) {
+        Ok(()) => (Status::Done, folder),
+        Err(Stopped::SinkFault) => (Status::SinkFault, folder),
+        Err(Stopped::NoMemory) => (Status::NoMemory, folder),
+    }
+}
