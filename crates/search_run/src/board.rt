@@ -1,7 +1,9 @@
 // A board of fixed room that plays moves by the capture rule.
-ghost use Rattle.std.specs.Prelude.{◌≡◌, ◌<◌, length};
+ghost use Rattle.std.specs.Prelude.{◌≡◌, ◌<◌, ℕ, length};
+ghost use Rattle.kb_geometry.specs.declared.shape.Shape.{Shape};
+ghost use Rattle.kb_geometry.specs.declared.stone.Colour.{Colour};
 ghost use Rattle.kb_geometry.specs.Board.{point_count};
-ghost use Rattle.kb_geometry.specs.Capture.{IsPlayed};
+ghost use Rattle.kb_geometry.specs.Capture.{IsPlayed, Position};
 
 use captures::{captured, clear, other_side, stone_of};
 use groups::surrounded_group;
@@ -86,3 +88,9 @@ fn play_on(shape: Shape, cells: &mut [Cell], side: Colour, point: u16)
         clear(cells, &group);
     }
 }
+
+/// A move has one outcome: the capture rule leaves nothing open.
+pub fn a_move_has_one_outcome()
+    ensures { (shape : Shape) (before : Position) (side : Colour) (point : ℕ) (one other : Position) →
+        IsPlayed shape before side point one → IsPlayed shape before side point other → one ≡ other }
+{}

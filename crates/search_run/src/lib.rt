@@ -1,4 +1,8 @@
 //! The top call: a script, a folder of games and a sink become a status and the printed answers.
+//!
+//! Stands on kb_geometry, kb_edges and game_tree. In `specs/` are the words of the script, the hits,
+//! the printed texts, the course of an import and the lawful outputs. The program uses that
+//! [`run_serial`] writes a lawful output, and tells each other end by its cause.
 #![tactic(auto)]
 
 mod board;
@@ -15,5 +19,6 @@ mod statement;
 mod status;
 mod write;
 
+pub use board::a_move_has_one_outcome;
 pub use serial::run_serial;
 pub use status::Status;
