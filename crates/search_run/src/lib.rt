@@ -17,3 +17,6 @@ mod write;
 
 pub use serial::run_serial;
 pub use status::Status;
+
+#[cfg(test)]
+mod tests;
