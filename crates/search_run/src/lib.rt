@@ -22,3 +22,6 @@ mod write;
 pub use board::a_move_has_one_outcome;
 pub use serial::run_serial;
 pub use status::Status;
+
+#[cfg(test)]
+mod tests;

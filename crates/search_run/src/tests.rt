@@ -1,0 +1,520 @@
+// Whole runs over a source, a folder and a sink in memory. The expected texts were worked out by hand from the
+// grammar of the script, the printed texts and the rules of Go.
+use crate::{Status, run_serial};
+use kb_edges::{FileEntry, MemoryFolder, MemorySink, MemorySource};
+use std::alloc::Global;
+use std::process::Abort;
+use std::test::Fail;
+
+/// A file: its path, its name and its text.
+type File = (&'static str, &'static str, &'static str);
+
+/// Three moves on five by five points, of which Black makes the first and the last.
+const GAME: &str = "(;GM[1]FF[4]SZ[5];B[cc];W[bc];B[cb])";
+
+const ONE_GAME: [File; 1] = [("d", "a.sgf", GAME)];
+
+const THREE_GAMES: [File; 3] = [
+    ("d", "a.sgf", GAME),
+    ("d", "b.sgf", GAME),
+    ("d", "c.sgf", GAME),
+];
+
+/// The calls that fail, numbered from 0. The first call of a folder is the list of an import, then come its reads.
+#[derive(Clone, Copy)]
+struct Faults<'a> {
+    folder: &'a [u32],
+    source: &'a [u32],
+    sink: &'a [u32],
+}
+
+const NO_FAULTS: Faults<'static> = Faults {
+    folder: &[],
+    source: &[],
+    sink: &[],
+};
+
+/// How a run ended: what was written, how many bytes of the script were left, and how many files the folder that
+/// was handed back has.
+#[derive(Debug, Drop)]
+struct Ended {
+    status: Status,
+    written: Vec<u8>,
+    left: usize,
+    files: usize,
+}
+
+fn entries(alloc: Global, files: &[File]) -> Result<Vec<FileEntry>, Fail> {
+    let mut entries = Vec::new(alloc);
+    for (path, name, text) in files {
+        entries.push(FileEntry {
+            path: String::from_str(alloc, path)?,
+            name: String::from_str(alloc, name)?,
+            bytes: text.as_bytes().to_vec(alloc)?,
+        })?;
+    }
+    Ok(entries)
+}
+
+fn run_words(
+    alloc: Global,
+    words: &[String],
+    files: Vec<FileEntry>,
+    script: Vec<u8>,
+    faults: Faults<'_>,
+) -> Result<Ended, Fail> {
+    let folder = MemoryFolder::new(files, faults.folder.to_vec(alloc)?);
+    let mut source = MemorySource::new(script, faults.source.to_vec(alloc)?);
+    let mut sink = MemorySink::new(Vec::new(alloc), faults.sink.to_vec(alloc)?);
+    let (status, folder) = run_serial(alloc, words, folder, &mut source, &mut sink);
+    Ok(Ended {
+        status,
+        written: sink.written().to_vec(alloc)?,
+        left: source.left().len(),
+        files: folder.files().len(),
+    })
+}
+
+/// A run without words.
+fn run(alloc: Global, files: &[File], script: &str, faults: Faults<'_>) -> Result<Ended, Fail> {
+    let entries = entries(alloc, files)?;
+    run_words(
+        alloc,
+        &[],
+        entries,
+        script.as_bytes().to_vec(alloc)?,
+        faults,
+    )
+}
+
+/// A run of some line, and then of a line that is repeated.
+fn run_repeated(alloc: Global, first: &str, line: &str, count: u32) -> Result<Ended, Fail> {
+    let mut script = first.as_bytes().to_vec(alloc)?;
+    for _ in 0..count {
+        script.extend_from_slice(line.as_bytes())?;
+    }
+    run_words(alloc, &[], Vec::new(alloc), script, NO_FAULTS)
+}
+
+fn expect_end(rt: &impl Abort, ended: &Ended, status: Status, written: &str, about: &str) {
+    assert_eq!(rt; ended.status, status, "{about}");
+    assert_eq!(rt; ended.written.as_slice(), written.as_bytes(), "{about}");
+}
+
+fn expect_outputs(
+    rt: &impl Abort,
+    alloc: Global,
+    files: &[File],
+    cases: &[(&'static str, &'static str)],
+) -> Result<(), Fail> {
+    for (script, written) in cases {
+        let ended = run(alloc, files, script, NO_FAULTS)?;
+        expect_end(rt, &ended, Status::Done, written, script);
+        assert_eq!(rt; ended.left, 0, "{script}");
+        assert_eq!(rt; ended.files, files.len(), "{script}");
+    }
+    Ok(())
+}
+
+#[test]
+fn imports_waits_and_searches(rt: HostRuntime) -> Result<(), Fail> {
+    let cases = [
+        (
+            "import d\nwait\nsearch same fixed X\n",
+            "1 import d\n\
+             1 imported files 1 accepted 1 refused 0 full 0 unread 0 games 1 version 1\n\
+             2 wait version 1\n\
+             3 search version 1 games 1 hits 2\nhit 0 1 2 2 0 -\nhit 0 3 2 1 0 -\ntotal 2 0 0 0 0 2\n",
+        ),
+        (
+            "search same fixed X\n",
+            "1 search version 0 games 0 hits 0\ntotal 0 0 0 0 0 0\n",
+        ),
+        ("", ""),
+        // A search names the new version before its report is printed.
+        (
+            "import d\nsearch same fixed X\nwait\n",
+            "1 import d\n\
+             2 search version 1 games 1 hits 2\nhit 0 1 2 2 0 -\nhit 0 3 2 1 0 -\ntotal 2 0 0 0 0 2\n\
+             1 imported files 1 accepted 1 refused 0 full 0 unread 0 games 1 version 1\n\
+             3 wait version 1\n",
+        ),
+        // An import that nothing waits for is reported at the end.
+        (
+            "search same fixed X\nimport d\nsearch same fixed X",
+            "1 search version 0 games 0 hits 0\ntotal 0 0 0 0 0 0\n\
+             2 import d\n\
+             3 search version 1 games 1 hits 2\nhit 0 1 2 2 0 -\nhit 0 3 2 1 0 -\ntotal 2 0 0 0 0 2\n\
+             2 imported files 1 accepted 1 refused 0 full 0 unread 0 games 1 version 1\n",
+        ),
+        (
+            "wait\nimport d",
+            "1 wait version 0\n\
+             2 import d\n\
+             2 imported files 1 accepted 1 refused 0 full 0 unread 0 games 1 version 1\n",
+        ),
+        // It is reported once.
+        (
+            "import d\nwait\nwait",
+            "1 import d\n\
+             1 imported files 1 accepted 1 refused 0 full 0 unread 0 games 1 version 1\n\
+             2 wait version 1\n\
+             3 wait version 1\n",
+        ),
+        // No file has the path.
+        ("import e\n", "1 import e\n1 imported unlisted\n"),
+    ];
+    expect_outputs(&rt, rt.alloc(), &ONE_GAME, &cases)
+}
+
+#[test]
+fn files_that_are_not_plain(rt: HostRuntime) -> Result<(), Fail> {
+    let refused = "1 import d\n\
+         1 imported files 1 accepted 0 refused 1 full 0 unread 0 games 0 version 1\n\
+         refused NotYet 0 a.sgf\n\
+         2 wait version 1\n";
+    let texts = [
+        "(;SZ[5];B[aa])",
+        "",
+        "hello",
+        "(;GM[1]FF[4]SZ[20])",
+        "(;GM[1]FF[4]SZ[05])",
+        "(;GM[1]FF[4]SZ[5];B[ff])",
+        "(;GM[1]FF[4]SZ[5];B[aa];W[aa])",
+        "(;GM[1]FF[4]SZ[5];B[])",
+        "(;GM[1]FF[4]SZ[5];B[cc])\n\n",
+        "(;GM[1]FF[4]SZ[5];B[cc]",
+    ];
+    for text in texts {
+        let ended = run(
+            rt.alloc(),
+            &[("d", "a.sgf", text)],
+            "import d\nwait\n",
+            NO_FAULTS,
+        )?;
+        expect_end(&rt, &ended, Status::Done, refused, text);
+    }
+    Ok(())
+}
+
+#[test]
+fn a_folder_without_games(rt: HostRuntime) -> Result<(), Fail> {
+    let cases = [(
+        "import d\nwait\n",
+        "1 import d\n\
+         1 imported files 0 accepted 0 refused 0 full 0 unread 0 games 0 version 0\n\
+         2 wait version 0\n",
+    )];
+    expect_outputs(&rt, rt.alloc(), &[("d", "notes.txt", "hello")], &cases)
+}
+
+#[test]
+fn games_in_order_of_their_names(rt: HostRuntime) -> Result<(), Fail> {
+    let files = [
+        ("d", "b.sgf", "(;GM[1]FF[4]SZ[9];B[ee];W[ef];B[ff])\n"),
+        ("e", "a.sgf", "(;GM[1]FF[4]SZ[3];B[bb])"),
+        ("d", "aa.sgf", "(;)"),
+        ("d", "a.sgf", "(;GM[1]FF[4]SZ[19];W[qd];B[dp])"),
+        ("d", "a.SGF", GAME),
+        ("d", "Z.sgf", "(;GM[1]FF[4]SZ[2];B[ba])"),
+    ];
+    let cases = [(
+        "import d\nwait\nsearch same fixed X\n",
+        "1 import d\n\
+         1 imported files 4 accepted 3 refused 1 full 0 unread 0 games 3 version 1\n\
+         refused NotYet 0 aa.sgf\n\
+         2 wait version 1\n\
+         3 search version 1 games 3 hits 4\n\
+         hit 0 1 1 0 0 -\n\
+         hit 1 2 3 15 0 -\n\
+         hit 2 1 4 4 0 -\n\
+         hit 2 3 5 5 0 -\n\
+         total 4 0 0 0 0 4\n",
+    )];
+    expect_outputs(&rt, rt.alloc(), &files, &cases)
+}
+
+/// Files of the path `d` with the names `100.sgf`, `101.sgf` and so on, and notes. All are games but the one of the
+/// name `163.sgf`.
+fn numbered_files(alloc: Global, count: u32) -> Result<Vec<FileEntry>, Fail> {
+    let mut files = entries(alloc, &[("d", "notes.txt", "hello")])?;
+    for number in 0..count {
+        let text = if number == 63 { "hello" } else { GAME };
+        let number = number.saturating_add(100);
+        files.push(FileEntry {
+            path: String::from_str(alloc, "d")?,
+            name: format!(in alloc; "{number}.sgf")?,
+            bytes: text.as_bytes().to_vec(alloc)?,
+        })?;
+    }
+    Ok(files)
+}
+
+#[test]
+fn at_most_64_names(rt: HostRuntime) -> Result<(), Fail> {
+    let alloc = rt.alloc();
+    let cases = [
+        (
+            64,
+            "1 import d\n\
+             1 imported files 64 accepted 63 refused 1 full 0 unread 0 games 63 version 1\n\
+             refused NotYet 0 163.sgf\n\
+             2 wait version 1\n",
+        ),
+        (
+            65,
+            "1 import d\n\
+             1 imported too many files 65\n\
+             2 wait version 0\n",
+        ),
+    ];
+    for (count, written) in cases {
+        let files = numbered_files(alloc, count)?;
+        let script = b"import d\nwait\n".to_vec(alloc)?;
+        let ended = run_words(alloc, &[], files, script, NO_FAULTS)?;
+        expect_end(&rt, &ended, Status::Done, written, "64 or 65 names");
+    }
+    Ok(())
+}
+
+#[test]
+fn stones_that_are_captured(rt: HostRuntime) -> Result<(), Fail> {
+    let alloc = rt.alloc();
+    let cases = [
+        // a white stone without liberties, which captures nothing
+        (
+            "(;GM[1]FF[4]SZ[2];B[aa];B[bb];W[ab])",
+            "3 search version 1 games 1 hits 2\nhit 0 1 0 0 0 -\nhit 0 2 1 1 0 -\ntotal 2 0 0 0 0 2\n",
+        ),
+        // a white stone is captured
+        (
+            "(;GM[1]FF[4]SZ[2];W[aa];B[ba];B[ab])",
+            "3 search version 1 games 1 hits 2\nhit 0 2 1 0 0 -\nhit 0 3 0 1 0 -\ntotal 2 0 0 0 0 2\n",
+        ),
+        // a black stone is captured
+        (
+            "(;GM[1]FF[4]SZ[3];B[aa];W[ba];W[ab];B[bb])",
+            "3 search version 1 games 1 hits 2\nhit 0 1 0 0 0 -\nhit 0 4 1 1 0 -\ntotal 2 0 0 0 0 2\n",
+        ),
+        // a black stone without liberties, which captures nothing
+        (
+            "(;GM[1]FF[4]SZ[3];W[ba];W[ab];B[aa];B[cc])",
+            "3 search version 1 games 1 hits 1\nhit 0 4 2 2 0 -\ntotal 1 0 0 0 0 1\n",
+        ),
+        // the same with two stones, of which the first stood before
+        (
+            "(;GM[1]FF[4]SZ[3];B[aa];W[ca];W[ab];W[bb];B[ba])",
+            "3 search version 1 games 1 hits 1\nhit 0 1 0 0 0 -\ntotal 1 0 0 0 0 1\n",
+        ),
+        // a black stone that gets its only liberty by a capture
+        (
+            "(;GM[1]FF[4]SZ[3];W[ba];B[ca];B[bb];W[ab];B[aa])",
+            "3 search version 1 games 1 hits 3\nhit 0 2 2 0 0 -\nhit 0 3 1 1 0 -\nhit 0 5 0 0 0 -\n\
+             total 3 0 0 0 0 3\n",
+        ),
+        // the only point
+        (
+            "(;GM[1]FF[4]SZ[1];B[aa])",
+            "3 search version 1 games 1 hits 0\ntotal 0 0 0 0 0 0\n",
+        ),
+        // no move
+        (
+            "(;GM[1]FF[4]SZ[19])",
+            "3 search version 1 games 1 hits 0\ntotal 0 0 0 0 0 0\n",
+        ),
+    ];
+    for (game, found) in cases {
+        let written = format!(in alloc;
+            "1 import d\n1 imported files 1 accepted 1 refused 0 full 0 unread 0 games 1 version 1\n2 wait version 1\n{found}"
+        )?;
+        let ended = run(
+            alloc,
+            &[("d", "a.sgf", game)],
+            "import d\nwait\nsearch same fixed X\n",
+            NO_FAULTS,
+        )?;
+        expect_end(&rt, &ended, Status::Done, written.as_str(), game);
+    }
+    Ok(())
+}
+
+#[test]
+fn faults_of_the_folder(rt: HostRuntime) -> Result<(), Fail> {
+    let cases: [(&[u32], &str); 5] = [
+        (&[0], "1 import d\n1 imported unlisted\n2 wait version 0\n"),
+        (
+            &[1],
+            "1 import d\n\
+             1 imported files 3 accepted 2 refused 0 full 0 unread 1 games 2 version 1\n\
+             unread a.sgf\n\
+             2 wait version 1\n",
+        ),
+        (
+            &[2],
+            "1 import d\n\
+             1 imported files 3 accepted 2 refused 0 full 0 unread 1 games 2 version 1\n\
+             unread b.sgf\n\
+             2 wait version 1\n",
+        ),
+        (
+            &[3],
+            "1 import d\n\
+             1 imported files 3 accepted 2 refused 0 full 0 unread 1 games 2 version 1\n\
+             unread c.sgf\n\
+             2 wait version 1\n",
+        ),
+        (
+            &[1, 2, 3],
+            "1 import d\n\
+             1 imported files 3 accepted 0 refused 0 full 0 unread 3 games 0 version 1\n\
+             unread a.sgf\n\
+             unread b.sgf\n\
+             unread c.sgf\n\
+             2 wait version 1\n",
+        ),
+    ];
+    for (folder, written) in cases {
+        let faults = Faults {
+            folder,
+            ..NO_FAULTS
+        };
+        let ended = run(rt.alloc(), &THREE_GAMES, "import d\nwait\n", faults)?;
+        expect_end(&rt, &ended, Status::Done, written, written);
+    }
+    Ok(())
+}
+
+#[test]
+fn faults_of_the_script_and_the_sink(rt: HostRuntime) -> Result<(), Fail> {
+    // The reads and the writes that fail, the status, how many bytes of the script are left, and what was written.
+    // The second read finds the end. The third write is that of the report at the end.
+    let cases: [(&[u32], &[u32], Status, usize, &str); 6] = [
+        (&[0], &[], Status::ScriptUnread, 28, ""),
+        (&[1], &[], Status::ScriptUnread, 0, ""),
+        (&[0], &[0], Status::ScriptUnread, 28, ""),
+        (&[], &[0, 1, 2], Status::SinkFault, 0, ""),
+        (&[], &[1], Status::SinkFault, 0, "1 import d\n"),
+        (
+            &[],
+            &[2],
+            Status::SinkFault,
+            0,
+            "1 import d\n\
+             2 search version 1 games 1 hits 2\nhit 0 1 2 2 0 -\nhit 0 3 2 1 0 -\ntotal 2 0 0 0 0 2\n",
+        ),
+    ];
+    for (source, sink, status, left, written) in cases {
+        let faults = Faults {
+            source,
+            sink,
+            ..NO_FAULTS
+        };
+        let script = "import d\nsearch same fixed X";
+        let ended = run(rt.alloc(), &ONE_GAME, script, faults)?;
+        expect_end(&rt, &ended, status, written, written);
+        assert_eq!(rt; ended.left, left);
+    }
+    Ok(())
+}
+
+#[test]
+fn scripts_that_are_bad(rt: HostRuntime) -> Result<(), Fail> {
+    // A script and its least bad line.
+    let cases = [
+        ("\n", 1),
+        ("wait\n\n", 2),
+        ("wait\n\nwait\n", 2),
+        ("wait \n", 1),
+        (" wait\n", 1),
+        ("Wait\n", 1),
+        ("waits\n", 1),
+        ("wait\r\n", 1),
+        ("wait\nwait\r", 2),
+        ("import\n", 1),
+        ("import \n", 1),
+        ("import  d\n", 1),
+        ("import D\n", 1),
+        ("import d1\n", 1),
+        ("import d e\n", 1),
+        ("import \u{e9}\n", 1),
+        ("import d/e\n", 1),
+        ("search same fixed O\n", 1),
+        ("search same fixed XX\n", 1),
+        ("search same X\n", 1),
+        ("# wait\n", 1),
+        ("import d\nserch X\n", 2),
+        ("import d\nwait\nuntil 1\nwait", 3),
+        // a second import
+        ("import d\nimport d\n", 2),
+        ("import d\nwait\nimport e", 3),
+        ("import d\nwait\nimport d\n\n", 3),
+        ("import d\n\nimport d\n", 2),
+    ];
+    for (script, line) in cases {
+        let ended = run(rt.alloc(), &ONE_GAME, script, NO_FAULTS)?;
+        expect_end(&rt, &ended, Status::BadScript { line }, "", script);
+        assert_eq!(rt; ended.left, 0, "{script}");
+    }
+    Ok(())
+}
+
+#[test]
+fn long_scripts(rt: HostRuntime) -> Result<(), Fail> {
+    // A first line, how often another follows it, the status, and how many bytes are left. A script may have
+    // 1,048,576 bytes, and one more is read.
+    let cases = [
+        // 1,048,577 bytes, none of which is in a good line
+        ("", "\n", 1_048_577, Status::BadScript { line: 1 }, 0),
+        ("", "w", 1_048_577, Status::BadScript { line: 1 }, 0),
+        // 1,048,575 bytes are in the lines before the last one
+        (
+            "",
+            "wait\n",
+            209_716,
+            Status::BadScript { line: 209_716 },
+            3,
+        ),
+        // the line feed of the last line is one byte too much
+        (
+            "import abcd\n",
+            "wait\n",
+            209_713,
+            Status::BadScript { line: 209_714 },
+            0,
+        ),
+        // 1,048,576 bytes
+        ("import abc\n", "wait\n", 209_713, Status::Done, 0),
+        // a bad line before the one that is too long
+        (
+            "wait \n",
+            "wait\n",
+            300_000,
+            Status::BadScript { line: 1 },
+            451_429,
+        ),
+    ];
+    for (first, line, count, status, left) in cases {
+        let ended = run_repeated(rt.alloc(), first, line, count)?;
+        assert_eq!(rt; ended.status, status, "{count} times {line} after {first}");
+        assert_eq!(rt; ended.left, left, "{count} times {line} after {first}");
+    }
+    Ok(())
+}
+
+#[test]
+fn words_come_first(rt: HostRuntime) -> Result<(), Fail> {
+    let alloc = rt.alloc();
+    let faults = Faults {
+        source: &[0],
+        sink: &[0],
+        ..NO_FAULTS
+    };
+    for word in ["", "--help", "d"] {
+        let words = vec![in alloc; String::from_str(alloc, word)?]?;
+        let files = entries(alloc, &ONE_GAME)?;
+        let ended = run_words(alloc, &words, files, b"wait \n".to_vec(alloc)?, faults)?;
+        expect_end(&rt, &ended, Status::BadWords, "", word);
+        assert_eq!(rt; ended.left, 6, "{word}");
+    }
+    Ok(())
+}
