@@ -14,3 +14,6 @@ pub use memory::NoMemory;
 pub use shape::{MAX_POINTS, MAX_SIDE, Point, Rect, Shape};
 pub use stone::{Cell, Change, Colour, Outcome};
 pub use text::Text;
+
+#[cfg(test)]
+mod tests;
