@@ -272,7 +272,7 @@ fn at_most_64_names(rt: HostRuntime) -> Result<(), Fail> {
         let files = numbered_files(alloc, count)?;
         let script = b"import d\nwait\n".to_vec(alloc)?;
         let ended = run_words(alloc, &[], files, script, NO_FAULTS)?;
-        expect_end(&rt, &ended, Status::Done, written, "64 or 65 names");
+        expect_end(&rt, &ended, Status::Done, written, written);
     }
     Ok(())
 }
@@ -463,7 +463,7 @@ fn long_scripts(rt: HostRuntime) -> Result<(), Fail> {
     // A first line, how often another follows it, the status, and how many bytes are left. A script may have
     // 1,048,576 bytes, and one more is read.
     let cases = [
-        // 1,048,577 bytes, none of which is in a good line
+        // 1,048,577 bytes, in bad lines alone
         ("", "\n", 1_048_577, Status::BadScript { line: 1 }, 0),
         ("", "w", 1_048_577, Status::BadScript { line: 1 }, 0),
         // 1,048,575 bytes are in the lines before the last one
