@@ -1,5 +1,5 @@
 -- The items of parts that are copied, appended or merged.
-use Rattle.std.proofs.Common.{◌≡◌, ◌||◌, Bool, true, false, ℕ, zero, suc, List, [], ◌∷◌, ◌++◌, map, set, take, length, ◌-◌, ◌<◌, ◌≤◌, ap, refl, sym, ◌∙◌, arith, append_assoc}
+use Rattle.std.proofs.Common.{get_or, ◌≡◌, ◌||◌, Bool, true, false, ℕ, zero, suc, List, [], ◌∷◌, ◌++◌, map, set, take, length, ◌-◌, ◌<◌, ◌≤◌, ap, refl, sym, ◌∙◌, arith, append_assoc}
 use Rattle.std.specs.List.{AllZip, AppendsClones}
 use Rattle.std.proofs.lemmas.List.{map-append}
 use Rattle.version_publisher.specs.Contents.{joined, merged_last, last_two_joined, is_nonempty}
@@ -80,3 +80,19 @@ pending_queued queued queued' waiting waiting' change e none some =
     let now : (is_nonempty queued' || is_nonempty waiting') ≡ true = (λ i. is_nonempty (e i) || is_nonempty (none i)) ∙ ap (λ b. b || false) (is_nonempty-append queued change) in
     let before : (is_nonempty queued || is_nonempty waiting) ≡ true = ap (λ b. is_nonempty queued || b) (is_nonempty-length waiting some) ∙ or-true (is_nonempty queued) in
     now ∙ sym before
+
+-- the last two elements of a list, and their items
+pub last_two_at : {X A : Type 0} (f : X → List A) (xs : List X) (a b : X) (k : ℕ) → length xs ≡ suc (suc k) → a ≡ get_or xs k a → b ≡ get_or xs (suc k) b → last_two_joined (map f xs) ≡ f a ++ f b
+last_two_at f [] a b k e p q = absurd (omega arith)
+last_two_at f (x ∷ []) a b k e p q = absurd (omega arith)
+last_two_at f (x ∷ y ∷ []) a b zero e p q = λ i. f (sym p i) ++ f (sym q i)
+last_two_at f (x ∷ y ∷ []) a b (suc k) e p q = absurd (omega arith)
+last_two_at f (x ∷ y ∷ z ∷ xs) a b zero e p q = absurd (omega arith)
+last_two_at f (x ∷ y ∷ z ∷ xs) a b (suc k) e p q = last_two_at f (y ∷ z ∷ xs) a b k (omega arith) p q
+
+pub last_two_there : {X A : Type 0} (f : X → List A) (xs : List X) (a b : X) (n : ℕ) → length xs ≡ n → 2 ≤ n → a ≡ get_or xs (n - 2) a → b ≡ get_or xs (n - 1) b → last_two_joined (map f xs) ≡ f a ++ f b
+last_two_there f xs a b zero e h p q = absurd (omega arith)
+last_two_there f xs a b (suc zero) e h p q = absurd (omega arith)
+last_two_there f xs a b (suc (suc k)) e h p q =
+    let i : suc (suc k) - 2 ≡ k = omega arith in
+    let j : suc (suc k) - 1 ≡ suc k = omega arith in last_two_at f xs a b k e (p ∙ ap (λ n. get_or xs n a) i) (q ∙ ap (λ n. get_or xs n b) j)

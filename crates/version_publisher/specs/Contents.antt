@@ -1,5 +1,5 @@
 -- What is published, what a publisher and a searcher are seen as, and the rule of the published value.
-use Rattle.std.specs.Prelude.{ℕ, ◌≡◌, ◌≤◌, Bool, true, false, List, [], ◌∷◌, ◌++◌, length}
+use Rattle.std.specs.Prelude.{ℕ, ◌≡◌, ◌≤◌, Bool, true, false, List, [], ◌∷◌, ◌++◌, length, nat_lt, if◌then◌else◌}
 use mathlib.Core.Option.{some}
 use mathlib.Core.List.{IsPrefix}
 use lib.ListN.{get_elem?}
@@ -78,6 +78,10 @@ pub record IsReady {A : Type 0} (most : ℕ) (published next : Content A) (waiti
 -- a searcher of this opening that has seen nothing and learned nothing
 abbrev pub IsNewSearcher : {A : Type 0} → Opening → SearcherState A → Type 0
 IsNewSearcher b s = (s.opening ≡ b) × (s.seen ≡ []) × (s.learned ≡ [])
+
+-- the longer of two lists, and the second where they are as long
+abbrev pub longer : {A : Type 0} → List A → List A → List A
+longer xs ys = if nat_lt (length ys) (length xs) then xs else ys
 
 abbrev pub is_nonempty : {X : Type 0} → List X → Bool
 is_nonempty [] = false

@@ -1,5 +1,5 @@
 // How a publisher and its searchers are made.
-ghost use Rattle.std.specs.Prelude.{◌≡◌, ◌≤◌, [], ◌∷◌, length, drop, false, All, IfOk, IfSome};
+ghost use Rattle.std.specs.Prelude.{◌≡◌, ◌≤◌, [], ◌∷◌, length, drop, false, All, IfOk};
 ghost use Rattle.left_right.specs.Sides.{view as seat_view};
 ghost use Rattle.version_publisher.specs.Contents.{opening_of, content, IsNewSearcher};
 ghost use Rattle.version_publisher.specs.Replicas.{content_of};
@@ -11,8 +11,11 @@ use crate::publisher::Publisher;
 use crate::receipt::Receipt;
 use crate::replica::Replica;
 use crate::searcher::Searcher;
+use kb_geometry::NoMemory;
 use left_right::writer::Writer;
 use std::alloc::Global;
+use std::error::Error;
+use std::fmt;
 use std::sync::Wait;
 
 /// Why nothing was opened.
@@ -22,6 +25,23 @@ pub enum OpenError {
     NoPlace,
     /// Memory was refused.
     NoMemory,
+}
+
+impl fmt::Display for OpenError {
+    fn fmt<W: fmt::Write>(&self, f: &mut fmt::Formatter<W>) -> fmt::Result {
+        f.write_str(match self {
+            OpenError::NoPlace => "no place for a searcher",
+            OpenError::NoMemory => "out of memory",
+        })
+    }
+}
+
+impl Error for OpenError {}
+
+impl From<NoMemory> for OpenError {
+    fn from(_: NoMemory) -> Self {
+        OpenError::NoMemory
+    }
 }
 
 fn empty_replica<P: Part>(alloc: Global, token: &LogToken<P>) -> Replica<P>
@@ -40,23 +60,20 @@ fn new_writer<P: Part, R: Wait>(
     rt: &R,
     token: &LogToken<P>,
     places: u32,
-) -> Option<ReplicaWriter<P>>
+) -> Result<ReplicaWriter<P>, NoMemory>
     requires places { (1 ≤ places) × (places ≤ 64) }
     requires empty { token.now.log ≡ [] }
-    ensures { IfSome result (λ w. (seat_view w.desk.place ≡ opening_of token.now.book ∷ []) × (content_of P.items w.desk.shown.value ≡ content 0 [] [] token.now.book) × (drop w.behind w.log.items ≡ [])) }
+    ensures { IfOk result (λ w. (seat_view w.desk.place ≡ opening_of token.now.book ∷ []) × (content_of P.items w.desk.shown.value ≡ content 0 [] [] token.now.book) × (drop w.behind w.log.items ≡ [])) }
 {
     let first: Replica<P> = empty_replica(alloc, token);
     let second: Replica<P> = empty_replica(alloc, token);
-    let writer: ReplicaWriter<P> = match Writer::new(alloc, first, second, places as usize) {
-        Ok(writer) => writer,
-        Err(_) => return None,
-    };
+    let writer: ReplicaWriter<P> = Writer::new(alloc, first, second, places as usize)?;
     let (writer, published) = publish_queued(rt, writer);
     if published.is_err() {
         drop(writer.take(rt));
-        return None;
+        return Err(NoMemory);
     }
-    Some(writer)
+    Ok(writer)
 }
 
 // So many searchers that have seen nothing.
@@ -96,9 +113,7 @@ pub fn open<P: Part, R: Wait>(
 {
     let end = LogEnd::new();
     let empty = Receipt::new(end.count(), &end.token);
-    let Some(mut writer) = new_writer(alloc, rt, &end.token, places) else {
-        return Err(OpenError::NoMemory);
-    };
+    let mut writer = new_writer(alloc, rt, &end.token, places)?;
     match new_searchers(alloc, &mut writer, &empty, places) {
         Ok(searchers) => Ok((Publisher::new(alloc, writer, end), searchers)),
         Err(error) => {

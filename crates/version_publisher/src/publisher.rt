@@ -1,5 +1,5 @@
 // The publisher.
-ghost use Rattle.std.specs.Prelude.{◌≡◌, ℕ, ◌+◌, ◌≤◌, ◌<◌, ◌^◌, [], ◌∷◌, ◌++◌, ◌⊎◌, true, false, length, drop, MatchResult, MatchOption};
+ghost use Rattle.std.specs.Prelude.{◌≡◌, ℕ, ◌+◌, ◌≤◌, ◌<◌, ◌^◌, [], ◌∷◌, ◌++◌, ◌⊎◌, true, false, length, drop, IfSome, MatchResult, MatchOption};
 ghost use Rattle.std.specs.Bool.{OnFalse};
 ghost use Rattle.std.specs.Arc.{arc_value};
 ghost use Rattle.left_right.specs.Sides.{view as seat_view};
@@ -97,7 +97,8 @@ impl<P: Part> Publisher<P> {
         requires idle { self.old.has_pending ≡ false }
         requires two { 2 ≤ length self.old.parts }
         requires items { P.items (arc_value merged) ≡ last_two_joined self.old.parts }
-        ensures { MatchResult result
+        ensures none_pending { self.old.pending ≡ [] }
+        ensures merged { MatchResult result
             (λ _. self.new ≡ record self.old { next_parts = merged_last self.old.parts (P.items (arc_value merged)); has_pending = true })
             (λ e. (e.0 ≡ merged) × (self.new ≡ self.old)) }
     {
@@ -111,7 +112,8 @@ impl<P: Part> Publisher<P> {
     /// Lends the last two published parts. None comes exactly where fewer than two parts are
     /// published or something is pending.
     pub fn last_two(&self) -> Option<(&P, &P)>
-        ensures { MatchOption result
+        ensures joined { IfSome result (λ t. (2 ≤ length self.now.parts) × (last_two_joined self.now.parts ≡ P.items t.0.now ++ P.items t.1.now)) }
+        ensures last { MatchOption result
             ((length self.now.parts < 2) ⊎ (self.now.has_pending ≡ true))
             (λ t. (self.now.has_pending ≡ false) × ((before : _) × (self.now.parts ≡ before ++ P.items t.0.now ∷ P.items t.1.now ∷ []))) }
     {

@@ -22,10 +22,8 @@ fn version_of<P: Part>(
     requires consistent { IsConsistent P.MOST (content_of P.items replica.now) }
     ensures { IfOk result (λ t. (t.1.opening ≡ opening_of replica.now.token.book) × (t.0.number ≡ length t.1.log) × (joined t.0.parts ≡ joined t.1.log)) }
 {
-    match Version::of(alloc, replica.number, replica.parts.as_slice()) {
-        Ok(version) => Ok((version, Receipt::new(replica.number, &replica.token))),
-        Err(_) => Err(LookError::NoMemory),
-    }
+    let version = Version::of(alloc, replica.number, replica.parts.as_slice())?;
+    Ok((version, Receipt::new(replica.number, &replica.token)))
 }
 
 // Enters, copies what is published, and leaves.

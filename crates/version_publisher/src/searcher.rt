@@ -2,7 +2,7 @@
 ghost use Rattle.std.specs.Prelude.{◌≡◌, ◌≤◌, [], ◌∷◌, length, MatchResult};
 ghost use mathlib.Core.List.{IsPrefix};
 ghost use Rattle.left_right.specs.Sides.{view as seat_view};
-ghost use Rattle.version_publisher.specs.Contents.{joined, KnowsOne, IsNewSearcher};
+ghost use Rattle.version_publisher.specs.Contents.{joined, longer, KnowsOne, IsNewSearcher};
 
 use crate::handles::ReplicaReader;
 use crate::part::Part;
@@ -10,7 +10,10 @@ use crate::publisher::Publisher;
 use crate::reading::{read, read_receipt};
 use crate::receipt::Receipt;
 use crate::version::Version;
+use kb_geometry::NoMemory;
 use std::alloc::Global;
+use std::error::Error;
+use std::fmt;
 use std::marker::Model;
 use std::sync::Wait;
 
@@ -21,6 +24,23 @@ pub enum LookError {
     NotEntered,
     /// Memory was refused.
     NoMemory,
+}
+
+impl fmt::Display for LookError {
+    fn fmt<W: fmt::Write>(&self, f: &mut fmt::Formatter<W>) -> fmt::Result {
+        f.write_str(match self {
+            LookError::NotEntered => "not entered",
+            LookError::NoMemory => "out of memory",
+        })
+    }
+}
+
+impl Error for LookError {}
+
+impl From<NoMemory> for LookError {
+    fn from(_: NoMemory) -> Self {
+        LookError::NoMemory
+    }
 }
 
 /// One that looks at what was published last, and never waits for it.
@@ -100,7 +120,8 @@ impl<P: Part> Searcher<P> {
     pub fn learn(&mut self, receipt: Receipt<P>)
         requires { receipt.opening ≡ self.old.opening }
         ensures same { (self.new.opening ≡ self.old.opening) × (self.new.seen ≡ self.old.seen) }
-        ensures learned { IsPrefix self.old.learned self.new.learned × IsPrefix receipt.log self.new.learned }
+        ensures learned { self.new.learned ≡ longer self.old.learned receipt.log }
+        ensures kept { IsPrefix self.old.learned self.new.learned × IsPrefix receipt.log self.new.learned }
     {
         if receipt.number() < self.learned.number() {
             receipt.begins(&self.learned);
