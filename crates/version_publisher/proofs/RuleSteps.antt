@@ -15,9 +15,7 @@ module _ {T A : Type 0} (c : T → Content A) (most : ℕ) where
   abbrev pub Holds : T → List (List Opening) → Type 0
   Holds x views = IsLawful most (c x) views
 
-  pub opens : (x : T) → IsConsistent most (c x) → Holds x ([] ∷ [])
-  opens x t = (t, (λ seat v e. ⊎_elim (λ (at : get_elem? [] seat ≡ some v). absurd cc) (λ (same : [] ≡ v). subst (λ z. KnowsOnly (c x).opening z) same tt) (at_snoc [] [] v seat e)))
-
+  -- a new reader knows nothing
   pub admits : Admits Holds []
   admits x views h = (h.0, (λ seat v e. ⊎_elim (h.1 seat v) (λ (same : [] ≡ v). subst (λ z. KnowsOnly (c x).opening z) same tt) (at_snoc views [] v seat e)))
 
@@ -33,9 +31,11 @@ module _ {T A : Type 0} (c : T → Content A) (most : ℕ) where
     (h.1 seat v at, same, refl, tied),
   )
 
+  -- a look changes nothing
   pub looks : (seat : ℕ) (v : List Opening) → Turns Holds seat v (λ x. x) (λ v x y w. Observes most v (c x) (c y) w)
   looks seat v x views h at = turns seat v x x refl h.0 views h at
 
+  -- what the writer tells, it still knows
   pub forks : (seat : ℕ) (v : List Opening) → Forks Holds seat v v v
   forks seat v x views h at = (
     h.0,
@@ -45,6 +45,7 @@ module _ {T A : Type 0} (c : T → Content A) (most : ℕ) where
         (λ (same : v ≡ u). subst (λ z. KnowsOnly (c x).opening z) same (h.1 seat v at)) (at_snoc (set views seat v) v u j e)),
   )
 
+  -- a reader that is told knows it too
   pub merges : (seat : ℕ) (v : List Opening) (other : ℕ) (w : List Opening) → Merges Holds seat v other w (v ++ w) []
   merges seat v other w x views h at apart there =
       let mine : KnowsOnly (c x).opening v = h.1 seat v at in

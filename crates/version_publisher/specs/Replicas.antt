@@ -20,4 +20,3 @@ module _ {P A : Type 0} (items : P → List A) where
   -- the content of a copy after these changes, made in order
   abbrev pub content_after : Replica P A → List (Change P A) → Content A
   content_after b changes = fold changed (content_of b) changes
-

@@ -104,13 +104,15 @@ impl<P: Part> LogEnd<P> {
         >(part);
         let mut pen = after.no_pen();
         let count = self.count;
-        let found = self.word.compare_exchange::<AppendEntry, NoGain>(
-            count,
-            count + 1,
-            &mut after,
-            &mut offer,
-            &mut pen,
-        );
+        let found = self
+            .word
+            .compare_exchange::<AppendEntry, NoGain>(
+                count,
+                count + 1,
+                &mut after,
+                &mut offer,
+                &mut pen,
+            );
         if found != count {
             return false;
         }

@@ -30,7 +30,10 @@ fn version_of<P: Part>(
 fn enter<P: Part>(
     reader: ReplicaReader<P>,
     alloc: Global,
-) -> (ReplicaReader<P>, Result<(Version<P>, Receipt<P>), LookError>)
+) -> (
+    ReplicaReader<P>,
+    Result<(Version<P>, Receipt<P>), LookError>,
+)
     requires one { KnowsOne (view reader.place) }
     ensures reader { view result.0.place ≡ view reader.place }
     ensures read { IfOk result.1 (λ t. (view reader.place ≡ t.1.opening ∷ []) × (t.0.number ≡ length t.1.log) × (joined t.0.parts ≡ joined t.1.log)) }

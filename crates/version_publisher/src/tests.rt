@@ -65,7 +65,6 @@ fn summary(version: &Version<Numbers>) -> (u64, usize, u64) {
     (version.number(), version.parts().len(), digits)
 }
 
-
 #[test]
 fn publishes(rt: HostRuntime) -> Result<(), Fail> {
     publish_one_part(&rt, rt.alloc())
@@ -117,7 +116,10 @@ fn merge_two_parts<R: Wait + Abort>(rt: &R, alloc: Global) -> Result<(), Fail> {
     let after = searcher.look(alloc).map(|version| summary(&version));
     let held = held.map(|version| summary(&version));
     publisher.close(rt);
-    assert_eq!(rt; (lent_at_first, lent_while_pending, published), (false, false, true));
+    assert_eq!(rt;
+        (lent_at_first, lent_while_pending, published),
+        (false, false, true)
+    );
     assert_eq!(rt; receipt_number, Some(2));
     assert_eq!(rt; held, Ok((2, 2, 123)));
     assert_eq!(rt; after, Ok((2, 1, 123)));
@@ -138,10 +140,7 @@ fn merge_and_publish<R: Wait>(
     }
     let merged = merge(alloc, one, other).ok()?;
     publisher.merge_last(merged).ok()?;
-    publisher
-        .publish(rt)
-        .map(|receipt| receipt.number())
-        .ok()
+    publisher.publish(rt).map(|receipt| receipt.number()).ok()
 }
 
 #[test]
@@ -153,7 +152,10 @@ fn versions_grow_and_copy(rt: HostRuntime) -> Result<(), Fail> {
     let copy = version.copy(alloc)?;
     assert!(&rt; pushed);
     assert_eq!(&rt; (empty, version.number()), ((0, 0, 0), 1));
-    assert_eq!(&rt; (summary(&version), summary(&copy)), ((1, 1, 78), (1, 1, 78)));
+    assert_eq!(&rt;
+        (summary(&version), summary(&copy)),
+        ((1, 1, 78), (1, 1, 78))
+    );
     Ok(())
 }
 

@@ -1,4 +1,4 @@
-use Rattle.std.proofs.Common.{◌≡◌, ℕ, length, sym, ◌∙◌, ap}
+use Rattle.std.proofs.Common.{◌≡◌, length, sym, ◌∙◌, ap}
 use Rattle.version_publisher.proofs.EntryStep.{appends_moves}
 use Rattle.version_publisher.proofs.log.LogEnd.append.Goals as goal
 

@@ -3,8 +3,7 @@ use Rattle.std.proofs.lemmas.Grind.{common_steps}
 use Rattle.std.proofs.lemmas.List.{map-append}
 use Rattle.std.specs.Arc.{arc_value}
 use Rattle.version_publisher.specs.Contents.{joined, opening_of}
-use Rattle.version_publisher.proofs.ReadyStates.{ready_appended}
-use Rattle.version_publisher.proofs.PublisherStates.{log_pending}
+use Rattle.version_publisher.proofs.ReadyStates.{ready_appended, log_pending}
 use Rattle.version_publisher.proofs.publisher.Publisher.append.Goals as goal
 
 pub invariant_of-self-2 : goal.invariant_of-self-2

@@ -1,7 +1,6 @@
-use Rattle.std.proofs.Common.{rules, ◌≡◌, ◌++◌, ◌∷◌, ◌||◌, [], false, List, map, drop, fold, refl, sym, ap, subst, ◌∙◌, Result, Ok, Err, MatchResult}
+use Rattle.std.proofs.Common.{◌≡◌, ◌++◌, ◌∷◌, ◌||◌, [], false, map, drop, fold, refl, sym, ap, ◌∙◌, Result, Ok, Err, MatchResult}
 use Rattle.std.specs.Arc.{arc_value}
 use Rattle.left_right.specs.Sides.{view}
-use Rattle.version_publisher.specs.declared.replica.Change.{Change}
 use Rattle.version_publisher.specs.declared.replica.Change.TheVariants.{MergeLast}
 use Rattle.version_publisher.specs.Contents.{is_nonempty, merged_content, last_two_joined, IsReady}
 use Rattle.version_publisher.specs.Replicas.{content_of, changed, content_after}

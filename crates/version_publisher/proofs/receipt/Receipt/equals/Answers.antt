@@ -1,4 +1,4 @@
-use Rattle.std.proofs.Common.{◌≤◌, length, arith}
+use Rattle.std.proofs.Common.{arith}
 use Rattle.version_publisher.proofs.Prefixes.{prefix_whole}
 use Rattle.version_publisher.proofs.receipt.Receipt.equals.Goals as goal
 

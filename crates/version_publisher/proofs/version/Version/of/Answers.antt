@@ -1,4 +1,4 @@
-use Rattle.std.proofs.Common.{◌≡◌, ◌≤◌, length, map, refl, sym, ap, subst}
+use Rattle.std.proofs.Common.{◌≤◌, length, refl, sym, subst}
 use Rattle.std.specs.Arc.{arc_value}
 use Rattle.version_publisher.specs.Contents.{joined}
 use Rattle.version_publisher.proofs.PartLists.{map_clones}
