@@ -19,7 +19,6 @@ mod state;
 mod tests;
 mod version;
 
-pub use log::{LogRule, LogToken};
 pub use opening::{OpenError, open};
 pub use part::Part;
 pub use publisher::Publisher;

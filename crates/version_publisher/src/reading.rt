@@ -1,6 +1,5 @@
 // How a reader reads the published value without waiting.
-ghost use Rattle.std.specs.Prelude.{◌≡◌, [], ◌∷◌, length, map, IfOk, IfSome};
-ghost use Rattle.std.specs.Arc.{arc_value};
+ghost use Rattle.std.specs.Prelude.{◌≡◌, [], ◌∷◌, length, IfOk, IfSome};
 ghost use Rattle.left_right.specs.Sides.{view};
 ghost use Rattle.version_publisher.specs.Contents.{opening_of, joined, IsConsistent, KnowsOne};
 ghost use Rattle.version_publisher.specs.Replicas.{content_of};

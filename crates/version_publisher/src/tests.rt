@@ -1,10 +1,10 @@
 // The worked cases, and a publisher beside searchers that look all the time.
-ghost use Rattle.std.specs.Prelude.{◌≡◌, ◌+◌, ◌≤◌, ◌<◌, ◌^◌, ◌++◌, ◌∷◌, [], length, All, IfOk, MatchOption};
+ghost use Rattle.std.specs.Prelude.{◌≡◌, ◌+◌, ◌≤◌, ◌<◌, ◌^◌, ◌++◌, ◌∷◌, [], length, IfOk};
 ghost use Rattle.std.specs.Bool.{OnTrue};
 ghost use Rattle.std.specs.Arc.{arc_value};
-ghost use Rattle.version_publisher.specs.Contents.{joined, IsNewSearcher};
+ghost use Rattle.version_publisher.specs.Contents.{joined};
 
-use crate::{LookError, Part, Publisher, Searcher, Version, open};
+use crate::{Part, Publisher, Searcher, Version, open};
 use std::alloc::{AllocError, Global};
 use std::process::Abort;
 use std::sync::{Arc, Wait};
@@ -75,7 +75,9 @@ fn publish_one_part<R: Wait + Abort>(rt: &R, alloc: Global) -> Result<(), Fail> 
     let (mut publisher, mut searchers) = open::<Numbers, R>(alloc, rt, 1)?;
     let searcher = &mut searchers[0];
     let before = searcher.look(alloc).map(|version| summary(&version));
+    let items = part.count();
     let appended = publisher.append(part).is_ok();
+    let was_pending = publisher.has_pending();
     let pending = searcher.look(alloc).map(|version| summary(&version));
     let mut receipt_number = None;
     if let Ok(receipt) = publisher.publish(rt) {
@@ -88,8 +90,12 @@ fn publish_one_part<R: Wait + Abort>(rt: &R, alloc: Global) -> Result<(), Fail> 
         .look_with(alloc, &publisher)
         .map(|version| summary(&version));
     let numbers = (publisher.number(), searcher.seen().number());
+    let is_pending = publisher.has_pending();
     publisher.close(rt);
-    assert!(rt; appended);
+    assert_eq!(rt;
+        (items, appended, was_pending, is_pending),
+        (2, true, true, false)
+    );
     assert_eq!(rt; (before, pending), (Ok((0, 0, 0)), Ok((0, 0, 0))));
     assert_eq!(rt; (receipt_number, numbers), (Some(1), (1, 1)));
     assert_eq!(rt; (after, whole), (Ok((1, 1, 45)), Ok((1, 1, 45))));
