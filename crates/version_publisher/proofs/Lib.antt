@@ -1,0 +1,5 @@
+pub mod EntryStep
+pub mod PartLists
+pub mod Prefixes
+pub mod ReadyStates
+pub mod RuleSteps

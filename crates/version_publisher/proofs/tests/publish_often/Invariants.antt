@@ -1,0 +1,11 @@
+use Rattle.std.proofs.Common.{◌≡◌, ◌≤◌, ◌++◌, length}
+use Rattle.version_publisher.specs.Contents.{joined}
+use Rattle.version_publisher.proofs.tests.publish_often.Given as goal
+
+-- each turn appends one part of one number
+abbrev pub invariant-loop-i : goal.invariant-loop-i
+invariant-loop-i g l = record {
+  same : l.publisher.opening ≡ l.initial.publisher.opening;
+  number : length (l.publisher.log ++ l.publisher.pending) ≤ l.i;
+  room : length (joined (l.publisher.log ++ l.publisher.pending)) ≤ l.i;
+}

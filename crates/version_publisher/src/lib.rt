@@ -1,0 +1,28 @@
+//! Versions of a growing base, shared by one publisher and many searchers that never wait.
+//!
+//! Stands on kb_geometry, and on `left_right` for the published copies and `logbook` for the one log.
+//! The layers above use that a look is a prefix of the one log which begins with all that its
+//! searcher has seen or learned, and that a publish appends exactly the pending parts.
+#![tactic(auto)]
+
+mod handles;
+mod log;
+mod opening;
+mod part;
+mod publisher;
+mod reading;
+mod receipt;
+mod replica;
+mod searcher;
+mod state;
+#[cfg(test)]
+mod tests;
+mod version;
+
+pub use opening::{OpenError, open};
+pub use part::Part;
+pub use publisher::Publisher;
+pub use receipt::Receipt;
+pub use searcher::{LookError, Searcher};
+pub use state::{Content, PublisherState, ReceiptState, SearcherState, VersionState};
+pub use version::Version;
