@@ -81,7 +81,7 @@ fn publish_one_part<R: Wait + Abort>(rt: &R, alloc: Global) -> Result<(), Fail> 
     let pending = searcher.look(alloc).map(|version| summary(&version));
     let mut receipt_number = None;
     if let Ok(receipt) = publisher.publish(rt) {
-        receipt_number = Some(receipt.number());
+        receipt_number = Some(receipt.copy().number());
         searcher.learn(receipt);
     }
     let after = searcher.look(alloc).map(|version| summary(&version));
