@@ -1,7 +1,7 @@
 -- Playing a game node by node.
 use Prim.Native.Nat.{zero}
-use Rattle.std.proofs.Common.{◌≡◌, ℕ, suc, ◌+◌, ◌<◌, ◌≤◌, Bool, true, false, cond, ◌&&◌, not, List, [], ◌∷◌, ◌++◌, Some, None, length, get_or, take, map, refl, sym, ap, subst, ◌∙◌, below_more, append_assoc, add-one, add-zero, zero-add, arith}
-use Rattle.std.specs.Prelude.{filter, replicate}
+use Rattle.std.proofs.Common.{◌≡◌, ℕ, suc, ◌+◌, ◌<◌, ◌≤◌, Bool, false, ◌&&◌, not, List, [], ◌∷◌, ◌++◌, Some, length, get_or, take, map, refl, sym, ap, subst, ◌∙◌, below_more, append_assoc, add-one, add-zero, arith}
+use Rattle.std.specs.Prelude.{replicate}
 use Rattle.std.specs.List.{range_with_len, flat_map}
 use Rattle.std.specs.Option.{option_map_or}
 use Rattle.std.proofs.Math.Seq.{get_or-append_seam}

@@ -14,7 +14,7 @@ use Rattle.kb_edges.specs.Files.{File, HasFile, HasPath, IsListing, content_of}
 use Rattle.kb_edges.specs.Told.{IfTold}
 use Rattle.kb_edges.specs.Faults.{Rose, RoseBy}
 use Rattle.game_tree.specs.Tree.{Tree}
-use Rattle.search_run.specs.Course.{AreNames, AreRead, FileReport, Files, ImportCourse, IsContent, IsImported, losses_of, accepted, not_read, nothing, refused}
+use Rattle.search_run.specs.Course.{AreNames, FileReport, Files, ImportCourse, IsContent, IsImported, losses_of, accepted, not_read, nothing, refused}
 use Rattle.search_run.specs.Reads.{HasReadAll, IsFileRead, IsOneMoreRead, file_reports}
 use Rattle.search_run.specs.declared.import.ImportedFile.{ImportedFile}
 use Rattle.search_run.specs.declared.import.TheConstants.{MAX_NAMES}

@@ -1,6 +1,5 @@
 -- A run, statement by statement.
-use Prim.Native.Nat.{zero}
-use Rattle.std.proofs.Common.{◌≡◌, ◌⊎◌, ⊎_elim, inl, inr, ℕ, suc, ◌+◌, ◌<◌, ◌≤◌, List, [], ◌∷◌, ◌++◌, Option, Some, Ok, Err, length, get_or, take, drop, refl, sym, ap, subst, ◌∙◌, append_assoc, arith}
+use Rattle.std.proofs.Common.{◌≡◌, ℕ, suc, ◌+◌, ◌<◌, ◌≤◌, List, [], ◌∷◌, ◌++◌, Option, Some, Ok, Err, length, get_or, take, drop, refl, sym, ap, ◌∙◌, append_assoc, arith}
 use Rattle.std.specs.Prelude.{OnErr, Result, cond}
 use Rattle.std.proofs.lemmas.List.Sums.{sum_by-append}
 use Rattle.std.proofs.Math.Seq.{split_at}
@@ -9,8 +8,8 @@ use Rattle.kb_edges.specs.Faults.{RoseBy}
 use Rattle.kb_edges.specs.Files.{File}
 use Rattle.search_run.specs.Course.{ImportCourse, losses_of}
 use Rattle.search_run.specs.Run.{HasRun, WritesBegun, WritesLawful}
-use Rattle.search_run.specs.Session.{HasPrinted, IsNextPrefix, IsPrefix, State, at_start, nothing, one_more}
-use Rattle.search_run.specs.Steps.{PassesStatement, StopsInStatement}
+use Rattle.search_run.specs.Session.{IsNextPrefix, State, at_start, nothing, one_more}
+use Rattle.search_run.specs.Steps.{PassesStatement}
 use Rattle.search_run.specs.declared.statement.Placed.{Placed}
 use Rattle.search_run.proofs.ImportLemmas.{RoseBy-then, rose_by_none}
 

@@ -1,5 +1,5 @@
 -- Reading the files of an import, one after another.
-use Rattle.std.specs.Prelude.{◌≡◌, ◌≤◌, ℕ, List, [], ◌∷◌, ◌++◌, length, map, string_bytes}
+use Rattle.std.specs.Prelude.{◌≡◌, ℕ, List, [], ◌∷◌, ◌++◌, length, map, string_bytes}
 use Rattle.kb_edges.specs.Faults.{Rose, RoseBy}
 use Rattle.kb_edges.specs.Files.{File}
 use Rattle.game_tree.specs.Plain.{SpellsPlain}

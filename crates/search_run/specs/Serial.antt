@@ -1,5 +1,5 @@
 -- What a whole run writes, for a script, a folder and a sink that tell their contents.
-use Rattle.std.specs.Prelude.{◌≡◌, ℕ, List, Option}
+use Rattle.std.specs.Prelude.{ℕ, List, Option}
 use Rattle.kb_edges.specs.Files.{File}
 use Rattle.search_run.specs.Run.{WritesBegun, WritesLawful}
 use Rattle.search_run.specs.Script.{IsScript}

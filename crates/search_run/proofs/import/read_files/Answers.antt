@@ -1,4 +1,4 @@
-use Rattle.std.proofs.Common.{◌≡◌, ◌∙◌, ◌++◌, ◌∷◌, [], refl, Some, arith}
+use Rattle.std.proofs.Common.{◌≡◌, ◌∙◌, refl, Some, arith}
 use Rattle.std.proofs.lemmas.List.{take_all}
 use Rattle.search_run.proofs.ImportLemmas.{HasReadAll-more, HasReadAll-start, name_there, names_more}
 use Rattle.search_run.proofs.import.read_files.Goals as goal

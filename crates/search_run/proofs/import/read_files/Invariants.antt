@@ -1,4 +1,4 @@
-use Rattle.std.proofs.Common.{◌≡◌, ◌≤◌, List, map, take}
+use Rattle.std.proofs.Common.{◌≡◌, ◌≤◌, map, take}
 use Rattle.std.specs.Prelude.{All, string_bytes}
 use Rattle.kb_edges.specs.Files.{HasFile}
 use Rattle.kb_edges.specs.Told.{IfTold}

@@ -1,4 +1,4 @@
-use Rattle.std.proofs.Common.{◌≡◌, ◌++◌, ◌∷◌, [], refl, sym, subst, List}
+use Rattle.std.proofs.Common.{refl, sym, subst, List}
 use Rattle.search_run.specs.Course.{FileReport}
 use Rattle.search_run.specs.Reads.{IsOneMoreRead, file_reports}
 use Rattle.search_run.proofs.ImportLemmas.{one_more-accepted, one_more-not_read, one_more-refused, reports_push}

@@ -1,6 +1,5 @@
 use Rattle.std.proofs.Common.{◌≡◌, ◌++◌, ◌∙◌, ◌∷◌, [], append-nil, arith, drop, refl, suc, sym, take}
 use Rattle.std.proofs.lemmas.List.{take_all}
-use Rattle.search_run.specs.Session.{IsPrefix}
 use Rattle.search_run.proofs.RunLemmas.{HasRun-more, HasRun-start, WritesBegun-stopped, WritesLawful-end, after_error, split_here, taken_more}
 use Rattle.search_run.proofs.run.run_statements.Goals as goal
 

@@ -1,8 +1,5 @@
 use Rattle.std.proofs.Common.{refl}
-use Rattle.kb_geometry.specs.declared.shape.Point.{Point}
-use Rattle.search_run.specs.declared.hit.Hit.{Hit}
 use Rattle.search_run.specs.Hits.{point_at}
-use Rattle.search_run.specs.NodeHits.{hit_on}
 use Rattle.search_run.proofs.SearchLemmas.{point_at-number, point_at-on_board}
 use Rattle.search_run.proofs.search.hit_on.Goals as goal
 

@@ -1,5 +1,4 @@
-use Rattle.std.proofs.Common.{◌≡◌, ◌<◌, ◌∙◌, length, subst, arith}
-use Rattle.kb_geometry.specs.Board.{point_count}
+use Rattle.std.proofs.Common.{◌≡◌, ◌<◌, ◌∙◌, subst, arith}
 use Rattle.game_tree.specs.Tree.{node_count}
 use Rattle.search_run.proofs.GameLemmas.{PlayedTo, PlayedTo-end, PlayedTo-more, PlayedTo-start}
 use Rattle.search_run.proofs.search.search_nodes.Goals as goal

@@ -1,4 +1,4 @@
-use Rattle.std.proofs.Common.{◌≡◌, ◌++◌, List, ℕ, Some, ap, arith, append_assoc, drop, sym, take, ◌∙◌}
+use Rattle.std.proofs.Common.{◌++◌, Some, ap, arith, append_assoc, drop, sym, take, ◌∙◌}
 use Rattle.std.proofs.lemmas.List.{take-append-drop, take_rest}
 use Rattle.search_run.proofs.write.write_all.Goals as goal
 
