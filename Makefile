@@ -1,4 +1,4 @@
-# The three commands of the README. They want the toolchain's command `rt`, and nothing else.
+# The three commands of the README. They want the toolchain's command `rt`, and bash.
 
 PROGRAM := build/gobase
 SCRIPT := import games\nwait\nsearch same fixed X\n

@@ -32,7 +32,7 @@ impl Bytes {
         self.bytes.as_slice()
     }
 
-    /// An equal text. `Err` only if memory runs out.
+    /// An equal text. The only error is `NoMemory`.
     pub fn copy(&self, alloc: Global) -> Result<Bytes, NoMemory>
         ensures { IfOk result (λ copied. copied ≡ self.now) }
     {

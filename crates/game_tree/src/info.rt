@@ -47,42 +47,42 @@ impl Info {
         }
     }
 
-    /// The name of the player of the black stones.
+    /// The name of the player of the black stones (property PB).
     pub fn black(&self) -> &[u8]
         ensures { result.now ≡ self.now.black }
     {
         self.black.as_slice()
     }
 
-    /// The name of the player of the white stones.
+    /// The name of the player of the white stones (property PW).
     pub fn white(&self) -> &[u8]
         ensures { result.now ≡ self.now.white }
     {
         self.white.as_slice()
     }
 
-    /// The event at which the game was played.
+    /// The event at which the game was played (property EV).
     pub fn event(&self) -> &[u8]
         ensures { result.now ≡ self.now.event }
     {
         self.event.as_slice()
     }
 
-    /// The place where the game was played.
+    /// The place where the game was played (property PC).
     pub fn place(&self) -> &[u8]
         ensures { result.now ≡ self.now.place }
     {
         self.place.as_slice()
     }
 
-    /// The date on which the game was played.
+    /// The date on which the game was played (property DT).
     pub fn date(&self) -> &[u8]
         ensures { result.now ≡ self.now.date }
     {
         self.date.as_slice()
     }
 
-    /// The text of the game's result.
+    /// The text of the game's result (property RE).
     pub fn result(&self) -> &[u8]
         ensures { result.now ≡ self.now.outcome_text }
     {
@@ -96,7 +96,7 @@ impl Info {
         class_of(self.result())
     }
 
-    /// An equal information. `Err` only if memory runs out.
+    /// An equal information. The only error is `NoMemory`.
     pub fn copy(&self, alloc: Global) -> Result<Info, NoMemory>
         ensures { IfOk result (λ copied. copied ≡ self.now) }
     {

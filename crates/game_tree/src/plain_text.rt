@@ -58,8 +58,8 @@ impl<T: Drop> From<AllocFailed<T>> for PlainError {
 /// perhaps one line feed.
 ///
 /// N is 1 to 19 without leading zeros, the board N by N. Each p is two lower-case letters, column
-/// then row from the upper left, that name a point of the board, and no point stands twice. `Err` is
-/// `NotYet` where the text is not plain, and `NoMemory` only if memory runs out.
+/// then row from the upper left, that name a point of the board, and no point stands twice. `NotYet`
+/// is answered only where the text is not plain, and the other error is want of memory.
 pub fn plain(alloc: Global, text: &[u8]) -> Result<GameTree, PlainError>
     ensures ok { IfOk result (λ tree. SpellsPlain text.now tree) }
     ensures not_yet { result ≡ Err NotYet → (tree : Tree) → ¬ SpellsPlain text.now tree }

@@ -169,7 +169,7 @@ impl GameTree {
         Children::of(self.first_child(n))
     }
 
-    /// An equal tree. `Err` only if memory runs out.
+    /// An equal tree. The only error is `NoMemory`.
     pub fn copy(&self, alloc: Global) -> Result<GameTree, NoMemory>
         ensures { IfOk result (λ copied. copied ≡ self.now) }
     {

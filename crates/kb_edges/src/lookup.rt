@@ -12,6 +12,7 @@ ghost use Rattle.kb_edges.specs.Files.{IsListing, is_sgf_name, sgf_names_of};
 use crate::FileEntry;
 use std::alloc::{AllocError, Global};
 
+/// Whether some file has this path.
 pub fn has_path(files: &[FileEntry], path: &str) -> bool
     ensures { result ≡ list_any (λ entry. bytes_eq (string_bytes entry.path) path.now) files.now }
 {
@@ -26,6 +27,7 @@ pub fn first_file<'a>(files: &'a [FileEntry], path: &str, name: &str) -> Option<
     files.iter().find(|file| file.path.as_str() == path && file.name.as_str() == name)
 }
 
+/// Whether a name ends in `.sgf`, byte for byte.
 pub fn is_sgf_name(name: &str) -> bool
     ensures { result ≡ is_sgf_name name.now }
 {

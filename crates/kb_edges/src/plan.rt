@@ -11,6 +11,7 @@ pub struct FailurePlan {
 }
 
 impl FailurePlan {
+    /// No call was made yet. The calls with these numbers, from 0, will fail.
     pub fn new(fails: Vec<u32>) -> Self
         ensures fails { result.fails.items ≡ fails.items }
         ensures calls { result.calls ≡ 0 }

@@ -10,8 +10,8 @@ use std::io::{ErrorKind, Read};
 use std::rt::Files;
 use std::{fs, io};
 
-/// The files of the system. It tells nothing of them. Each error of the system is a fault, and so is a name in a
-/// directory that is not UTF-8. A path that is not there is a fault too: it never answers `Missing`.
+/// The files of the system. It tells nothing of them. Each error of the system but want of memory is a fault: a path
+/// that isn't there, and a name in a directory that isn't UTF-8, among them. So it never answers `Missing`.
 #[derive(Drop)]
 pub struct RealFolder<R: Files + AllocGlobal + Clone + Drop> {
     rt: R,

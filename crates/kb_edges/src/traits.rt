@@ -20,7 +20,7 @@ pub trait Source {
     ghost faults: { Self → ℕ };
 
     /// Reads into the front of a piece, and answers how many bytes it gave.
-    /// None for a piece of at least one byte is the end.
+    /// None for a piece of at least one byte is the end. `ReadFailed` raises the count of faults.
     fn read(&mut self, into: &mut [u8]) -> Result<usize, ReadFailed>
         ensures bound { IfOk result (λ n. n ≤ length into.new) }
 
@@ -46,6 +46,7 @@ pub trait Sink {
     ghost faults: { Self → ℕ };
 
     /// Writes the front of a piece, and answers how many bytes it took: at least one where the piece has one.
+    /// `Failed` raises the count of faults, and after an error nothing of the piece is written.
     fn write(&mut self, bytes: &[u8]) -> Result<usize, SinkError>
         ensures bound { IfOk result (λ n. n ≤ length bytes.now) }
         ensures progress { IfOk result (λ n. 0 < length bytes.now → 0 < n) }
@@ -69,7 +70,8 @@ pub trait Folder: Drop {
     /// How often it has failed, up to a ceiling.
     ghost faults: { Self → ℕ };
 
-    /// The names under a path that end in `.sgf`, each once, in any order.
+    /// The names under a path that end in `.sgf`, each once, in any order. `Failed` raises the count of faults.
+    /// `Missing` says that the folder tells its files and none has this path.
     fn list(&mut self, alloc: Global, path: &str) -> Result<Vec<String>, FolderError>
         ensures listing { IfTold (files self.old) (λ all. IfOk result (λ names.
             IsListing all path.now (map string_bytes names.items))) }
@@ -86,7 +88,9 @@ pub trait Folder: Drop {
         ensures failed { IsErrOf result FolderError.Failed →
             Rose (faults self.old) (faults self.new) };
 
-    /// The first `limit + 1` bytes of a file, or all of them if there are fewer.
+    /// The first `limit + 1` bytes of a file, or all of them if there are fewer. The limit is at most
+    /// [`MAX_LIMIT`]. `Failed` raises the count of faults. `Missing` says that the folder tells its files and none
+    /// has this path and name.
     fn read(
         &mut self,
         alloc: Global,

@@ -15,7 +15,8 @@ pub struct Point {
     pub y: u8,
 }
 
-/// A rectangle of points, by its corners. Both corners belong to it.
+/// A rectangle of points, by its upper left corner `x0`, `y0` and its lower right corner `x1`, `y1`. Both
+/// belong to it. The type doesn't keep their order.
 #[derive(Clone, Copy, Debug, PartialEq, Eq, Hash)]
 pub struct Rect {
     pub x0: u8,

@@ -24,13 +24,19 @@ pub struct Change {
     pub new: Cell,
 }
 
-/// The class of a game's result.
+/// The class of a game's result, by the text of its property RE (SGF FF[4], game information).
 #[derive(Clone, Copy, Debug, PartialEq, Eq, Hash)]
 pub enum Outcome {
+    /// Black won: `B+` and what follows.
     Black,
+    /// White won: `W+` and what follows.
     White,
+    /// `0` or `Draw`.
     Draw,
+    /// `Void`.
     Void,
+    /// `?`.
     Unknown,
+    /// Any other text, the empty one too.
     Other,
 }

@@ -15,7 +15,8 @@ use crate::status::Status;
 use kb_edges::{Folder, Sink, Source};
 use std::alloc::Global;
 
-/// Reads a script, imports its folder, and writes its answers, on one thread.
+/// Reads a script, imports its folder, and writes its answers, on one thread. How that ended is told
+/// by the [`Status`].
 ///
 /// The words are those of the command line without the program's name. In this stage the only lawful
 /// list of them is the empty one. The folder is handed back.

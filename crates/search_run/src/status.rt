@@ -14,8 +14,9 @@ pub enum Status {
     BadWords,
     /// The script could not be read. Nothing was imported or written.
     ScriptUnread,
-    /// The output could not be written. What was written is the beginning of a lawful output.
+    /// The output could not be written. What was written is begun: the whole texts of the first
+    /// statements, and a beginning of what is printed next.
     SinkFault,
-    /// Want of memory. What was written is the beginning of a lawful output.
+    /// Want of memory. What was written is begun, as for [`Status::SinkFault`], or nothing was.
     NoMemory,
 }

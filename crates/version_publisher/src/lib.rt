@@ -1,8 +1,9 @@
-//! Versions of a growing base, shared by one publisher and many searchers that never wait.
+//! Versions of a growing base, shared by one publisher and many searchers whose looks never wait.
 //!
 //! Stands on kb_geometry, and on `left_right` for the published copies and `logbook` for the one log.
-//! The layers above use that a look is a prefix of the one log which begins with all that its
-//! searcher has seen or learned, and that a publish appends exactly the pending parts.
+//! The layers above use that a look gives the items of a list which begins with all that its searcher
+//! has seen or learned, that of all such lists of one opening the shorter begins the longer, and that
+//! a publish appends exactly the pending parts.
 #![tactic(auto)]
 
 mod handles;

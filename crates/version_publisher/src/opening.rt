@@ -100,8 +100,8 @@ fn new_searchers<P: Part>(
     Ok(searchers)
 }
 
-/// A publisher whose log is empty, and so many searchers that have seen nothing. It may wait where a
-/// refusal makes it end what it has made.
+/// A publisher whose log is empty, and so many searchers, 1 to 64, that have seen nothing. It may wait
+/// where a refusal makes it end what it has made.
 pub fn open<P: Part, R: Wait>(
     alloc: Global,
     rt: &R,

@@ -62,6 +62,9 @@ impl<P: Part> Publisher<P> {
     }
 
     /// Adds a part to the pending ones. It comes back, with all as it was, where memory is refused.
+    ///
+    /// The log and the pending parts, this one among them, must have at most [`Part::MOST`] items, and
+    /// be fewer than 2^64 parts.
     pub fn append(&mut self, part: Arc<P>) -> Result<(), (Arc<P>, NoMemory)>
         requires room { length (joined (self.old.log ++ self.old.pending)) + length (P.items (arc_value part)) ≤ P.MOST }
         requires number { length (self.old.log ++ self.old.pending) + 1 < 2 ^ 64 }
@@ -92,7 +95,8 @@ impl<P: Part> Publisher<P> {
     }
 
     /// At the next publish this part takes the place of the last two, whose items it has. It comes
-    /// back, with all as it was, where memory is refused.
+    /// back, with all as it was, where memory is refused. Nothing may be pending, and at least two parts
+    /// must be published.
     pub fn merge_last(&mut self, merged: Arc<P>) -> Result<(), (Arc<P>, NoMemory)>
         requires idle { self.old.has_pending ≡ false }
         requires two { 2 ≤ length self.old.parts }

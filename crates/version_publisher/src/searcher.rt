@@ -20,7 +20,8 @@ use std::sync::Wait;
 /// Why a look gave no version.
 #[derive(Clone, Copy, Debug, PartialEq, Eq)]
 pub enum LookError {
-    /// `left_right` refused to enter, or what it gave is shorter than what the searcher may see.
+    /// `left_right` refused to enter, or the number found is below one that was seen or learned, or, in
+    /// [`Searcher::look_with`], isn't the publisher's.
     NotEntered,
     /// Memory was refused.
     NoMemory,
@@ -43,7 +44,7 @@ impl From<NoMemory> for LookError {
     }
 }
 
-/// One that looks at what was published last, and never waits for it.
+/// One that looks at what was published. Only [`Searcher::meet`] waits.
 #[derive(Drop)]
 pub struct Searcher<P: Part> {
     reader: ReplicaReader<P>,
@@ -97,8 +98,8 @@ impl<P: Part> Searcher<P> {
         }
     }
 
-    /// The version that is published, which holds all that this searcher has seen or learned. It
-    /// doesn't wait. After a refusal all is as it was.
+    /// A published version, which holds all that this searcher has seen or learned; that it is the last
+    /// one isn't promised. It doesn't wait. After a refusal all is as it was.
     pub fn look(&mut self, alloc: Global) -> Result<Version<P>, LookError>
         ensures same { (self.new.opening ≡ self.old.opening) × (self.new.learned ≡ self.old.learned) }
         ensures answer { MatchResult result

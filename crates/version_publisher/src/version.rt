@@ -65,6 +65,9 @@ impl<P: Part> Version<P> {
     }
 
     /// Adds one part. It comes back, with the version as it was, where memory is refused.
+    ///
+    /// The items of the version and the part must together be at most [`Part::MOST`], and the number
+    /// below 2^64 - 1.
     pub fn push(&mut self, part: Arc<P>) -> Result<(), (Arc<P>, NoMemory)>
         requires room { length (joined self.old.parts) + length (P.items (arc_value part)) ≤ P.MOST }
         requires number { self.old.number + 1 < 2 ^ 64 }
