@@ -4,13 +4,18 @@
 //! sink and folder.
 #![tactic(auto)]
 
+ghost use Rattle.std.specs.Prelude.{◌≡◌};
+ghost use Rattle.gobase.specs.ExitCodes.{exit_code};
+
 use kb_edges::{RealFolder, RealSink, RealSource};
 use search_run::{Status, run_serial};
 use std::env;
 use std::process::ExitCode;
 
 /// The exit code of a status.
-fn code_of(status: Status) -> u8 {
+fn code_of(status: Status) -> u8
+    ensures { result ≡ exit_code status }
+{
     match status {
         Status::Done => 0,
         Status::BadScript { .. } => 1,

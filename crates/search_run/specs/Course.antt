@@ -22,7 +22,7 @@ pub data Found : Type 0 where
   Files : List FileReport → List Tree → Found
 
 -- What the course says of one import: whether it is unlisted although its path is there, and which of its files are
--- unread. A fault of the folder pays for each.
+-- unread. Each comes of a fault of the folder.
 pub record ImportCourse : Type 0 where
   pub unlisted : Bool
   pub unread : List (List ℕ)

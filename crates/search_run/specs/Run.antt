@@ -6,7 +6,7 @@ use Rattle.search_run.specs.Course.{ImportCourse, losses_of}
 use Rattle.search_run.specs.Session.{HasPrinted, IsBegun, IsLawful, State}
 use Rattle.search_run.specs.declared.statement.Placed.{Placed}
 
--- The text so far is what these statements print, by a course whose losses the rise of the folder's count pays for.
+-- The text so far is what these statements print, by a course whose losses are at most the rise of the folder's count.
 pub record HasRun (files : List File) (placed : List Placed) (state : State) (before : List ℕ) (written : Option (List ℕ)) (faults_before faults_now : ℕ) : Type 0 where
   pub course : List ImportCourse
   pub text : List ℕ
@@ -14,7 +14,7 @@ pub record HasRun (files : List File) (placed : List Placed) (state : State) (be
   pub written_is : written ≡ Some (before ++ text)
   pub paid : RoseBy (losses_of course) faults_before faults_now
 
--- A lawful output of these statements was written, by a course whose losses the rise of the folder's count pays for.
+-- A lawful output of these statements was written, by a course whose losses are at most the rise of the folder's count.
 pub record WritesLawful (files : List File) (placed : List Placed) (before : List ℕ) (written : Option (List ℕ)) (faults_before faults_now : ℕ) : Type 0 where
   pub course : List ImportCourse
   pub text : List ℕ
@@ -22,7 +22,7 @@ pub record WritesLawful (files : List File) (placed : List Placed) (before : Lis
   pub written_is : written ≡ Some (before ++ text)
   pub paid : RoseBy (losses_of course) faults_before faults_now
 
--- A begun text of these statements was written, by a course whose losses the rise of the folder's count pays for.
+-- A begun text of these statements was written, by a course whose losses are at most the rise of the folder's count.
 pub record WritesBegun (files : List File) (placed : List Placed) (before : List ℕ) (written : Option (List ℕ)) (faults_before faults_now : ℕ) : Type 0 where
   pub course : List ImportCourse
   pub text : List ℕ

@@ -7,13 +7,13 @@ use Rattle.search_run.specs.declared.statement.Placed.{Placed}
 use Rattle.search_run.specs.declared.status.Status.{Status}
 use Rattle.search_run.specs.declared.status.Status.TheVariants as status
 
--- A lawful output for the script's statements was written, by a course whose losses the folder's count pays for.
+-- A lawful output for the script's statements was written, by a course whose losses are at most the rise of the folder's count.
 pub record Prints (script : List ℕ) (files : List File) (before : List ℕ) (written : Option (List ℕ)) (faults_before faults_now : ℕ) : Type 0 where
   pub placed : List Placed
   pub spelled : IsScript script placed
   pub lawful : WritesLawful files placed before written faults_before faults_now
 
--- A begun text for the script's statements was written, by a course whose losses the folder's count pays for.
+-- A begun text for the script's statements was written, by a course whose losses are at most the rise of the folder's count.
 pub record Begins (script : List ℕ) (files : List File) (before : List ℕ) (written : Option (List ℕ)) (faults_before faults_now : ℕ) : Type 0 where
   pub placed : List Placed
   pub spelled : IsScript script placed
