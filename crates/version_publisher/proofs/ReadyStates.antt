@@ -1,11 +1,11 @@
 -- What stands between two calls of a publisher stays so.
-use Rattle.std.proofs.Common.{◌≡◌, ℕ, ◌+◌, ◌≤◌, List, [], ◌∷◌, ◌++◌, length, drop, refl, sym, ap, subst, ◌∙◌, append_assoc, length-append}
+use Rattle.std.proofs.Common.{◌≡◌, ℕ, ◌+◌, ◌≤◌, List, [], ◌∷◌, ◌++◌, length, drop, refl, sym, ap, subst, ◌∙◌, append_assoc, length-append, zero-le}
 use Rattle.std.proofs.lemmas.List.{append-nil}
 use Rattle.logbook.specs.Pages.{Book}
 use Rattle.version_publisher.specs.declared.state.Content.{Content}
-use Rattle.version_publisher.specs.Contents.{joined, extended, merged_content, last_two_joined, IsReady}
+use Rattle.version_publisher.specs.Contents.{joined, content, extended, merged_content, last_two_joined, IsReady}
 use Rattle.version_publisher.proofs.PartLists.{joined-merged_last}
-use Rattle.version_publisher.proofs.Prefixes.{prefix_trans, prefix_rest}
+use Rattle.version_publisher.proofs.Prefixes.{prefix_trans, prefix_rest, prefix_same}
 
 module _ {A : Type 0} where
   pub joined-append : (xs ys : List (List A)) → joined (xs ++ ys) ≡ joined xs ++ joined ys
@@ -53,6 +53,32 @@ module _ {A : Type 0} where
       → published' ≡ published → next' ≡ next → waiting' ≡ waiting → IsReady most published' next' waiting' whole b
   ready_along most published published' next next' waiting waiting' whole b r p q e =
       subst (λ (t : Content A × (Content A × List (List A))). IsReady most t.0 t.1.0 t.1.1 whole b) (λ i. (sym p i, (sym q i, sym e i))) r
+
+  -- nothing was appended yet
+  pub ready_opened : (most : ℕ) (b : Book) → IsReady {A = A} most (content 0 [] [] b) (content 0 [] [] b) [] [] b
+  ready_opened most b = record {
+    published_consistent = (refl, refl, zero-le);
+    next_consistent = (refl, refl, zero-le);
+    published_opening = refl;
+    next_opening = refl;
+    grows = prefix_same [];
+    is_whole = refl;
+    fits = zero-le;
+  }
+
+  -- what was next is published
+  pub ready_published : (most : ℕ) (published published' next next' : Content A) (waiting whole : List (List A)) (b : Book) → IsReady most published next waiting whole b
+      → published' ≡ next → next' ≡ next → IsReady most published' next' waiting whole b
+  ready_published most published published' next next' waiting whole b r p q =
+      let shown : IsReady most next next waiting whole b = record {
+        published_consistent = r.next_consistent;
+        next_consistent = r.next_consistent;
+        published_opening = r.next_opening;
+        next_opening = r.next_opening;
+        grows = prefix_same next.log;
+        is_whole = r.is_whole;
+        fits = r.fits;
+      } in ready_along most next published' next next' waiting waiting whole b shown p q refl
 
   -- a merge of the last two parts is queued
   pub ready_merged : (most : ℕ) (published : Content A) (whole : List (List A)) (b : Book) (x : List A) → x ≡ last_two_joined published.parts → IsReady most published published [] whole b → IsReady most published (merged_content published x) [] whole b

@@ -1,10 +1,11 @@
 -- What is published, what a publisher and a searcher are seen as, and the rule of the published value.
-use Rattle.std.specs.Prelude.{ℕ, ◌≡◌, ◌≤◌, Bool, true, false, List, [], ◌∷◌, ◌++◌, length, nat_lt, if◌then◌else◌}
+use Rattle.std.specs.Prelude.{ℕ, ◌≡◌, ◌≢◌, ◌⊎◌, ◌≤◌, ◌<◌, Bool, true, false, List, [], ◌∷◌, ◌++◌, length, nat_lt, if◌then◌else◌}
 use mathlib.Core.Option.{some}
 use mathlib.Core.List.{IsPrefix}
 use lib.ListN.{get_elem?}
 use Rattle.logbook.specs.Pages.{Book}
 use Rattle.version_publisher.specs.declared.state.Content.{Content}
+use Rattle.version_publisher.specs.declared.state.Knowledge.{Knowledge}
 use Rattle.version_publisher.specs.declared.state.SearcherState.{SearcherState}
 
 -- the lists, one after another
@@ -48,22 +49,68 @@ merged_content c part = record c { parts = merged_last c.parts part }
 abbrev pub IsConsistent : {A : Type 0} → ℕ → Content A → Type 0
 IsConsistent most c = (c.number ≡ length c.log) × (joined c.parts ≡ joined c.log) × (length (joined c.log) ≤ most)
 
--- a view that knows no opening but this one
+-- no opening but this one is known
 abbrev pub KnowsOnly : Opening → List Opening → Type 0
 KnowsOnly b [] = Unit {0}
 KnowsOnly b (x ∷ xs) = (x ≡ b) × KnowsOnly b xs
 
--- a view that knows exactly one opening
+-- exactly one opening is known
 abbrev pub KnowsOne : List Opening → Type 0
 KnowsOne v = (b : Opening) × (v ≡ b ∷ [])
 
--- The rule of the published value: it is consistent, and no view knows an opening other than its own
-abbrev pub IsLawful : {A : Type 0} → ℕ → Content A → List (List Opening) → Type 0
-IsLawful most c views = IsConsistent most c × ((seat : ℕ) (v : List Opening) → get_elem? views seat ≡ some v → KnowsOnly c.opening v)
+-- the log is empty, or one of these
+abbrev pub IsEmptyOrAmong : {B : Type 0} → List B → List (List B) → Type 0
+IsEmptyOrAmong log [] = log ≡ []
+IsEmptyOrAmong log (x ∷ xs) = (log ≡ x) ⊎ IsEmptyOrAmong log xs
 
--- What a step from the content x to the content y tells a view v, which is then w
-abbrev pub Observes : {A : Type 0} → ℕ → List Opening → Content A → Content A → List Opening → Type 0
-Observes most v x y w = KnowsOnly x.opening v × (y.opening ≡ x.opening) × (w ≡ y.opening ∷ []) × IsConsistent most y
+-- all of these logs are empty
+abbrev pub AreEmpty : {B : Type 0} → List (List B) → Type 0
+AreEmpty [] = Unit {0}
+AreEmpty (x ∷ xs) = (x ≡ []) × AreEmpty xs
+
+-- all of these logs are prefixes of this one
+abbrev pub ArePrefixes : {B : Type 0} → List (List B) → List B → Type 0
+ArePrefixes [] log = Unit {0}
+ArePrefixes (x ∷ xs) log = IsPrefix x log × ArePrefixes xs log
+
+-- What one seat may know, where the publisher's seat is this and these logs were published, in order: no opening but this one, it has read none but published logs, and the publisher alone has published
+abbrev pub IsLawfulSeat : {A : Type 0} → ℕ → List (List (List A)) → Opening → ℕ → Knowledge A → Type 0
+IsLawfulSeat publisher history opening seat v =
+    KnowsOnly opening v.openings × IsEmptyOrAmong v.read history × (seat ≡ publisher → v.published ≡ history) × (seat ≢ publisher → AreEmpty v.published)
+
+-- The rule of the published value: it is consistent, its log was published, all logs that were published are prefixes of it, and each seat knows what it may
+pub record IsLawful {A : Type 0} (most : ℕ) (c : Content A) (views : List (Knowledge A)) : Type 0 where
+  pub publisher : ℕ
+  pub history : List (List (List A))
+  pub consistent : IsConsistent most c
+  pub is_seat : publisher < length views
+  pub is_published : IsEmptyOrAmong c.log history
+  pub rises : ArePrefixes history c.log
+  pub each_seat : (seat : ℕ) (v : Knowledge A) → get_elem? views seat ≡ some v → IsLawfulSeat publisher history c.opening seat v
+
+-- A content to which a publish of that one may go
+abbrev pub MayFollow : {A : Type 0} → ℕ → Content A → Content A → Type 0
+MayFollow most x y = IsConsistent most y × (y.opening ≡ x.opening) × IsPrefix x.log y.log
+
+-- What a reader or the writer knows at first
+abbrev pub nothing_known : {A : Type 0} → Knowledge A
+nothing_known = record { openings = []; read = []; published = [] }
+
+-- What is known after a look at this content
+abbrev pub after_look : {A : Type 0} → Knowledge A → Content A → Knowledge A
+after_look v c = record v { openings = c.opening ∷ []; read = c.log }
+
+-- What is known after a publish of this content
+abbrev pub after_publish : {A : Type 0} → Knowledge A → Content A → Knowledge A
+after_publish v c = record v { openings = c.opening ∷ []; published = v.published ++ c.log ∷ [] }
+
+-- What a look at the content y tells a reader that knew v and then knows w
+abbrev pub LookTells : {A : Type 0} → ℕ → Knowledge A → Content A → Knowledge A → Type 0
+LookTells most v y w = KnowsOnly y.opening v.openings × IsConsistent most y × IsPrefix v.read y.log × (w ≡ after_look v y)
+
+-- What a publish of the content y tells the writer that knew v and then knows w
+abbrev pub PublishTells : {A : Type 0} → Knowledge A → Content A → Knowledge A → Type 0
+PublishTells v y w = w ≡ after_publish v y
 
 -- What holds between two calls of a publisher: of what is published, of what it is once the queued changes are made, of the parts that wait behind them, and of the whole log
 pub record IsReady {A : Type 0} (most : ℕ) (published next : Content A) (waiting whole : List (List A)) (b : Book) : Type 0 where
@@ -75,9 +122,9 @@ pub record IsReady {A : Type 0} (most : ℕ) (published next : Content A) (waiti
   pub is_whole : next.log ++ waiting ≡ whole
   pub fits : length (joined whole) ≤ most
 
--- a searcher of this opening that has seen nothing and learned nothing
+-- a searcher of this opening that has read, seen and learned nothing
 abbrev pub IsNewSearcher : {A : Type 0} → Opening → SearcherState A → Type 0
-IsNewSearcher b s = (s.opening ≡ b) × (s.seen ≡ []) × (s.learned ≡ [])
+IsNewSearcher b s = (s.opening ≡ b) × (s.read ≡ []) × (s.seen ≡ []) × (s.learned ≡ [])
 
 -- the longer of two lists, and the second where they are as long
 abbrev pub longer : {A : Type 0} → List A → List A → List A

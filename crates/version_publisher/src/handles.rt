@@ -2,13 +2,13 @@
 ghost use Rattle.std.specs.Prelude.{◌≡◌, [], ◌∷◌, ◌++◌, ◌||◌, map, drop, IfOk, OnOk, MatchResult};
 ghost use Rattle.std.specs.Arc.{arc_value};
 ghost use Rattle.left_right.specs.Sides.{view};
-ghost use Rattle.version_publisher.specs.Contents.{IsConsistent, IsReady, is_nonempty};
+ghost use Rattle.version_publisher.specs.Contents.{IsEmptyOrAmong, IsReady, MayFollow, after_publish, is_nonempty};
 ghost use Rattle.version_publisher.specs.Replicas.{content_of, content_after};
 
 use crate::log::LogEnd;
 use crate::part::Part;
-use crate::replica::{Change, Observe, Replica, ReplicaRule, ShareOpening};
-use crate::state::KnownOpenings;
+use crate::replica::{Change, Publish, Replica, ReplicaRule, ShareOpening};
+use crate::state::Knowledge;
 use core::mem::replace_with;
 use kb_geometry::NoMemory;
 use left_right::reader::Reader;
@@ -17,21 +17,24 @@ use std::alloc::{AllocError, Global};
 use std::mem::replace;
 use std::sync::{Arc, Wait};
 
-pub type ReplicaWriter<P> = Writer<Replica<P>, Change<P>, KnownOpenings, ReplicaRule<P>>;
+pub type ReplicaWriter<P> =
+    Writer<Replica<P>, Change<P>, Knowledge<<P as Part>::Item>, ReplicaRule<P>>;
 
-pub type ReplicaReader<P> = Reader<Replica<P>, KnownOpenings, ReplicaRule<P>>;
+pub type ReplicaReader<P> = Reader<Replica<P>, Knowledge<<P as Part>::Item>, ReplicaRule<P>>;
 
-/// Makes the queued changes and swaps the two copies. The writer then knows the opening.
+/// Makes the queued changes and swaps the two copies. The writer then knows the opening, and that it
+/// published this log.
 pub fn publish_queued<P: Part, R: Wait>(
     rt: &R,
     writer: ReplicaWriter<P>,
 ) -> (ReplicaWriter<P>, Result<(), AllocError>)
-    requires consistent { let next = content_after P.items writer.desk.shown.value (drop writer.behind writer.log.items) in IsConsistent P.MOST next × (next.opening ≡ (content_of P.items writer.desk.shown.value).opening) }
+    requires follows { MayFollow P.MOST (content_of P.items writer.desk.shown.value) (content_after P.items writer.desk.shown.value (drop writer.behind writer.log.items)) }
+    requires known { IsEmptyOrAmong (content_of P.items writer.desk.shown.value).log (view writer.desk.place).published }
     ensures { MatchResult result.1
-        (λ _. (content_of P.items result.0.desk.shown.value ≡ content_after P.items writer.desk.shown.value (drop writer.behind writer.log.items)) × (drop result.0.behind result.0.log.items ≡ []) × (view result.0.desk.place ≡ (content_of P.items result.0.desk.shown.value).opening ∷ []))
+        (λ _. (content_of P.items result.0.desk.shown.value ≡ content_after P.items writer.desk.shown.value (drop writer.behind writer.log.items)) × (drop result.0.behind result.0.log.items ≡ []) × (view result.0.desk.place ≡ after_publish (view writer.desk.place) (content_of P.items result.0.desk.shown.value)))
         (λ _. (result.0.desk.shown.value ≡ writer.desk.shown.value) × (drop result.0.behind result.0.log.items ≡ drop writer.behind writer.log.items) × (view result.0.desk.place ≡ view writer.desk.place)) }
 {
-    writer.publish_as::<Observe, R>(rt)
+    writer.publish_as::<Publish, R>(rt)
 }
 
 /// The same of a writer that stays where it is.
@@ -39,23 +42,23 @@ pub fn publish_in_place<P: Part, R: Wait>(
     rt: &R,
     writer: &mut ReplicaWriter<P>,
 ) -> Result<(), AllocError>
-    requires { let next = content_after P.items writer.old.desk.shown.value (drop writer.old.behind writer.old.log.items) in IsConsistent P.MOST next × (next.opening ≡ (content_of P.items writer.old.desk.shown.value).opening) }
+    requires { MayFollow P.MOST (content_of P.items writer.old.desk.shown.value) (content_after P.items writer.old.desk.shown.value (drop writer.old.behind writer.old.log.items)) × IsEmptyOrAmong (content_of P.items writer.old.desk.shown.value).log (view writer.old.desk.place).published }
     ensures { MatchResult result
-        (λ _. (content_of P.items writer.new.desk.shown.value ≡ content_after P.items writer.old.desk.shown.value (drop writer.old.behind writer.old.log.items)) × (drop writer.new.behind writer.new.log.items ≡ []) × (view writer.new.desk.place ≡ (content_of P.items writer.new.desk.shown.value).opening ∷ []))
+        (λ _. (content_of P.items writer.new.desk.shown.value ≡ content_after P.items writer.old.desk.shown.value (drop writer.old.behind writer.old.log.items)) × (drop writer.new.behind writer.new.log.items ≡ []) × (view writer.new.desk.place ≡ after_publish (view writer.old.desk.place) (content_of P.items writer.new.desk.shown.value)))
         (λ _. (writer.new.desk.shown.value ≡ writer.old.desk.shown.value) × (drop writer.new.behind writer.new.log.items ≡ drop writer.old.behind writer.old.log.items) × (view writer.new.desk.place ≡ view writer.old.desk.place)) }
 {
     replace_with(
         writer,
         rt,
         |w: ReplicaWriter<P>, rt: &R|
-            requires { let next = content_after P.items w.desk.shown.value (drop w.behind w.log.items) in IsConsistent P.MOST next × (next.opening ≡ (content_of P.items w.desk.shown.value).opening) }
+            requires { MayFollow P.MOST (content_of P.items w.desk.shown.value) (content_after P.items w.desk.shown.value (drop w.behind w.log.items)) × IsEmptyOrAmong (content_of P.items w.desk.shown.value).log (view w.desk.place).published }
         { publish_queued(rt, w) },
     )
 }
 
 /// A reader that knows the opening as the writer does.
 pub fn new_reader<P: Part>(writer: &mut ReplicaWriter<P>) -> Result<ReplicaReader<P>, AllocError>
-    ensures reader { IfOk result (λ r. view r.place ≡ view writer.old.desk.place) }
+    ensures reader { IfOk result (λ r. ((view r.place).openings ≡ (view writer.old.desk.place).openings) × ((view r.place).read ≡ [])) }
     ensures same { (writer.new.desk.shown ≡ writer.old.desk.shown) × (writer.new.log ≡ writer.old.log) × (writer.new.behind ≡ writer.old.behind) × (view writer.new.desk.place ≡ view writer.old.desk.place) }
 {
     let mut reader = writer.factory().reader()?;

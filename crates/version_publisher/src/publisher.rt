@@ -37,21 +37,21 @@ where
     ghost use Rattle.std.specs.Arc.{arc_value};
     ghost use Rattle.left_right.specs.Sides.{view as seat_view};
     ghost use Rattle.version_publisher.specs.declared.state.PublisherState.{PublisherState};
-    ghost use Rattle.version_publisher.specs.Contents.{opening_of, is_nonempty, IsReady};
+    ghost use Rattle.version_publisher.specs.Contents.{opening_of, is_nonempty, IsEmptyOrAmong, IsReady};
     ghost use Rattle.version_publisher.specs.Replicas.{content_of, content_after};
 
     ghost Value = { PublisherState P.Item };
 
-    ghost view = { λ p. record { opening = opening_of p.end.token.book; log = p.writer.desk.shown.value.token.log; pending = drop (length p.writer.desk.shown.value.token.log) p.end.token.log; parts = map (λ a. P.items (arc_value a)) p.writer.desk.shown.value.parts.items; next_parts = (content_after P.items p.writer.desk.shown.value (drop p.writer.behind p.writer.log.items)).parts ++ map (λ a. P.items (arc_value a)) p.waiting.items; has_pending = is_nonempty (drop p.writer.behind p.writer.log.items) || is_nonempty p.waiting.items } };
+    ghost view = { λ p. record { opening = opening_of p.end.token.book; log = p.writer.desk.shown.value.token.log; published = (seat_view p.writer.desk.place).published; pending = drop (length p.writer.desk.shown.value.token.log) p.end.token.log; parts = map (λ a. P.items (arc_value a)) p.writer.desk.shown.value.parts.items; next_parts = (content_after P.items p.writer.desk.shown.value (drop p.writer.behind p.writer.log.items)).parts ++ map (λ a. P.items (arc_value a)) p.waiting.items; has_pending = is_nonempty (drop p.writer.behind p.writer.log.items) || is_nonempty p.waiting.items } };
 
-    ghost invariant = { λ p. (seat_view p.writer.desk.place ≡ opening_of p.end.token.book ∷ []) × IsReady P.MOST (content_of P.items p.writer.desk.shown.value) (content_after P.items p.writer.desk.shown.value (drop p.writer.behind p.writer.log.items)) (map (λ a. P.items (arc_value a)) p.waiting.items) p.end.token.log p.end.token.book };
+    ghost invariant = { λ p. (((seat_view p.writer.desk.place).openings ≡ opening_of p.end.token.book ∷ []) × IsEmptyOrAmong (content_of P.items p.writer.desk.shown.value).log (seat_view p.writer.desk.place).published) × IsReady P.MOST (content_of P.items p.writer.desk.shown.value) (content_after P.items p.writer.desk.shown.value (drop p.writer.behind p.writer.log.items)) (map (λ a. P.items (arc_value a)) p.waiting.items) p.end.token.log p.end.token.book };
 }
 
 impl<P: Part> Publisher<P> {
     pub(crate) fn new(alloc: Global, writer: ReplicaWriter<P>, end: LogEnd<P>) -> Publisher<P>
-        requires opening { seat_view writer.desk.place ≡ opening_of end.token.book ∷ [] }
+        requires opening { (seat_view writer.desk.place).openings ≡ opening_of end.token.book ∷ [] }
         requires empty { (end.token.log ≡ []) × (content_of P.items writer.desk.shown.value ≡ content 0 [] [] end.token.book) × (drop writer.behind writer.log.items ≡ []) }
-        ensures { (result.opening ≡ opening_of end.token.book) × (result.log ≡ []) × (result.pending ≡ []) × (result.parts ≡ []) × (result.next_parts ≡ []) × (result.has_pending ≡ false) }
+        ensures { (result.opening ≡ opening_of end.token.book) × (result.log ≡ []) × (result.published ≡ (seat_view writer.desk.place).published) × (result.pending ≡ []) × (result.parts ≡ []) × (result.next_parts ≡ []) × (result.has_pending ≡ false) }
     {
         Publisher {
             writer,
@@ -82,11 +82,12 @@ impl<P: Part> Publisher<P> {
         Ok(())
     }
 
-    /// Appends all pending parts to the log at one step, and makes a pending merge. Where memory is
-    /// refused all is as it was.
+    /// Appends all pending parts to the log at one step, and makes a pending merge. So one log more was
+    /// published, and no look finds a log with a part of them alone. Where memory is refused all is as it
+    /// was.
     pub fn publish<R: Wait>(&mut self, rt: &R) -> Result<Receipt<P>, NoMemory>
         ensures { MatchResult result
-            (λ receipt. (self.new ≡ record self.old { log = self.old.log ++ self.old.pending; pending = []; parts = self.old.next_parts; has_pending = false }) × (receipt.opening ≡ self.old.opening) × (receipt.log ≡ self.old.log ++ self.old.pending))
+            (λ receipt. (self.new ≡ record self.old { log = self.old.log ++ self.old.pending; published = self.old.published ++ (self.old.log ++ self.old.pending) ∷ []; pending = []; parts = self.old.next_parts; has_pending = false }) × (receipt.opening ≡ self.old.opening) × (receipt.log ≡ self.old.log ++ self.old.pending))
             (λ _. self.new ≡ self.old) }
     {
         queue_waiting(self.alloc, &mut self.writer, &mut self.waiting, &self.end)?;

@@ -1,5 +1,6 @@
 // How a reader reads the published value without waiting.
 ghost use Rattle.std.specs.Prelude.{◌≡◌, [], ◌∷◌, length, IfOk, IfSome};
+ghost use mathlib.Core.List.{IsPrefix};
 ghost use Rattle.left_right.specs.Sides.{view};
 ghost use Rattle.version_publisher.specs.Contents.{opening_of, joined, IsConsistent, KnowsOne};
 ghost use Rattle.version_publisher.specs.Replicas.{content_of};
@@ -7,7 +8,7 @@ ghost use Rattle.version_publisher.specs.Replicas.{content_of};
 use crate::handles::ReplicaReader;
 use crate::part::Part;
 use crate::receipt::Receipt;
-use crate::replica::{Observe, Replica};
+use crate::replica::{Look, Replica};
 use crate::searcher::LookError;
 use crate::version::Version;
 use core::mem::replace_with;
@@ -19,7 +20,7 @@ fn version_of<P: Part>(
     alloc: Global,
 ) -> Result<(Version<P>, Receipt<P>), LookError>
     requires consistent { IsConsistent P.MOST (content_of P.items replica.now) }
-    ensures { IfOk result (λ t. (t.1.opening ≡ opening_of replica.now.token.book) × (t.0.number ≡ length t.1.log) × (joined t.0.parts ≡ joined t.1.log)) }
+    ensures { IfOk result (λ t. (t.1.opening ≡ opening_of replica.now.token.book) × (t.1.log ≡ replica.now.token.log) × (t.0.number ≡ length t.1.log) × (joined t.0.parts ≡ joined t.1.log)) }
 {
     let version = Version::of(alloc, replica.number, replica.parts.as_slice())?;
     Ok((version, Receipt::new(replica.number, &replica.token)))
@@ -33,11 +34,11 @@ fn enter<P: Part>(
     ReplicaReader<P>,
     Result<(Version<P>, Receipt<P>), LookError>,
 )
-    requires one { KnowsOne (view reader.place) }
-    ensures reader { view result.0.place ≡ view reader.place }
-    ensures read { IfOk result.1 (λ t. (view reader.place ≡ t.1.opening ∷ []) × (t.0.number ≡ length t.1.log) × (joined t.0.parts ≡ joined t.1.log)) }
+    requires one { KnowsOne (view reader.place).openings }
+    ensures reader { ((view result.0.place).openings ≡ (view reader.place).openings) × IsPrefix (view reader.place).read (view result.0.place).read }
+    ensures read { IfOk result.1 (λ t. ((view reader.place).openings ≡ t.1.opening ∷ []) × (t.1.log ≡ (view result.0.place).read) × (t.0.number ≡ length t.1.log) × (joined t.0.parts ≡ joined t.1.log)) }
 {
-    let reading = match reader.enter_as::<Observe>() {
+    let reading = match reader.enter_as::<Look>() {
         Ok(reading) => reading,
         Err(reader) => return (reader, Err(LookError::NotEntered)),
     };
@@ -50,15 +51,15 @@ pub fn read<P: Part>(
     reader: &mut ReplicaReader<P>,
     alloc: Global,
 ) -> Result<(Version<P>, Receipt<P>), LookError>
-    requires one { KnowsOne (view reader.old.place) }
-    ensures reader { view reader.new.place ≡ view reader.old.place }
-    ensures read { IfOk result (λ t. (view reader.old.place ≡ t.1.opening ∷ []) × (t.0.number ≡ length t.1.log) × (joined t.0.parts ≡ joined t.1.log)) }
+    requires one { KnowsOne (view reader.old.place).openings }
+    ensures reader { ((view reader.new.place).openings ≡ (view reader.old.place).openings) × IsPrefix (view reader.old.place).read (view reader.new.place).read }
+    ensures read { IfOk result (λ t. ((view reader.old.place).openings ≡ t.1.opening ∷ []) × (t.1.log ≡ (view reader.new.place).read) × (t.0.number ≡ length t.1.log) × (joined t.0.parts ≡ joined t.1.log)) }
 {
     replace_with(
         reader,
         alloc,
         |reader: ReplicaReader<P>, alloc: Global|
-            requires { KnowsOne (view reader.place) }
+            requires { KnowsOne (view reader.place).openings }
         { enter(reader, alloc) },
     )
 }
@@ -68,11 +69,11 @@ fn enter_for_receipt<P: Part>(
     reader: ReplicaReader<P>,
     (): (),
 ) -> (ReplicaReader<P>, Option<Receipt<P>>)
-    requires one { KnowsOne (view reader.place) }
-    ensures reader { view result.0.place ≡ view reader.place }
-    ensures read { IfSome result.1 (λ r. view reader.place ≡ r.opening ∷ []) }
+    requires one { KnowsOne (view reader.place).openings }
+    ensures reader { ((view result.0.place).openings ≡ (view reader.place).openings) × IsPrefix (view reader.place).read (view result.0.place).read }
+    ensures read { IfSome result.1 (λ r. ((view reader.place).openings ≡ r.opening ∷ []) × (r.log ≡ (view result.0.place).read)) }
 {
-    let reading = match reader.enter_as::<Observe>() {
+    let reading = match reader.enter_as::<Look>() {
         Ok(reading) => reading,
         Err(reader) => return (reader, None),
     };
@@ -83,15 +84,15 @@ fn enter_for_receipt<P: Part>(
 
 /// A receipt of what is published. It takes no memory.
 pub fn read_receipt<P: Part>(reader: &mut ReplicaReader<P>) -> Option<Receipt<P>>
-    requires one { KnowsOne (view reader.old.place) }
-    ensures reader { view reader.new.place ≡ view reader.old.place }
-    ensures read { IfSome result (λ r. view reader.old.place ≡ r.opening ∷ []) }
+    requires one { KnowsOne (view reader.old.place).openings }
+    ensures reader { ((view reader.new.place).openings ≡ (view reader.old.place).openings) × IsPrefix (view reader.old.place).read (view reader.new.place).read }
+    ensures read { IfSome result (λ r. ((view reader.old.place).openings ≡ r.opening ∷ []) × (r.log ≡ (view reader.new.place).read)) }
 {
     replace_with(
         reader,
         (),
         |reader: ReplicaReader<P>, nothing: ()|
-            requires { KnowsOne (view reader.place) }
+            requires { KnowsOne (view reader.place).openings }
         { enter_for_receipt(reader, nothing) },
     )
 }

@@ -5,7 +5,7 @@ ghost use Rattle.version_publisher.specs.Contents.{merged_last};
 
 use crate::log::LogToken;
 use crate::part::Part;
-use crate::state::{Content, KnownOpenings};
+use crate::state::{Content, Knowledge};
 use atomic_table::{Join, Split};
 use crossbeam_utils::rule::{Outcome, Protocol};
 use left_right::Absorb;
@@ -73,44 +73,58 @@ fn merge_last<T: Drop>(parts: &mut Vec<Arc<T>>, part: &Arc<T>) -> Result<(), All
     Ok(())
 }
 
-/// The rule of the published value: it is consistent, and all who know an opening know its own.
+/// The rule of the published value: it is consistent, all who know an opening know its own, and each
+/// log that is published, or that a reader has found, is one that the one publisher knows to have
+/// published.
 pub struct ReplicaRule<P> {
     of: PhantomData<P>,
 }
 
-impl<P: Part> Protocol<Replica<P>, KnownOpenings> for ReplicaRule<P> {
-    ghost use Rattle.std.specs.Prelude.{[]};
+impl<P: Part> Protocol<Replica<P>, Knowledge<P::Item>> for ReplicaRule<P> {
     ghost use Rattle.version_publisher.specs.Replicas.{content_of};
-    ghost use Rattle.version_publisher.specs.Contents.{IsLawful};
+    ghost use Rattle.version_publisher.specs.Contents.{IsLawful, nothing_known};
 
     ghost holds = { λ b views. IsLawful P.MOST (content_of P.items b) views };
 
-    ghost first = { [] };
+    ghost first = { nothing_known };
 }
 
-/// What a publish and a look tell of the published value.
-pub struct Observe;
+/// What a look tells of the published value.
+pub struct Look;
 
-impl<P: Part> Outcome<Replica<P>, KnownOpenings> for Observe {
+impl<P: Part> Outcome<Replica<P>, Knowledge<P::Item>> for Look {
     ghost use Rattle.version_publisher.specs.Replicas.{content_of};
-    ghost use Rattle.version_publisher.specs.Contents.{Observes};
+    ghost use Rattle.version_publisher.specs.Contents.{LookTells};
 
-    ghost then = { λ v x y w. Observes P.MOST v (content_of P.items x) (content_of P.items y) w };
+    ghost then = { λ v x y w. LookTells P.MOST v (content_of P.items y) w };
+}
+
+/// What a publish tells of the published value.
+pub struct Publish;
+
+impl<P: Part> Outcome<Replica<P>, Knowledge<P::Item>> for Publish {
+    ghost use Rattle.version_publisher.specs.Replicas.{content_of};
+    ghost use Rattle.version_publisher.specs.Contents.{PublishTells};
+
+    ghost then = { λ v x y w. PublishTells v (content_of P.items y) w };
 }
 
 /// How the writer tells a new reader which opening it is of.
 pub struct ShareOpening;
 
-impl Split<KnownOpenings> for ShareOpening {
+impl<T> Split<Knowledge<T>> for ShareOpening {
+    ghost use Rattle.std.specs.Prelude.{[]};
+
     ghost left = { λ v. v };
 
-    ghost right = { λ v. v };
+    ghost right = { λ v. record { openings = v.openings; read = []; published = [] } };
 }
 
-impl Join<KnownOpenings> for ShareOpening {
-    ghost use Rattle.std.specs.Prelude.{[], ◌++◌};
+impl<T> Join<Knowledge<T>> for ShareOpening {
+    ghost use Rattle.std.specs.Prelude.{◌++◌};
+    ghost use Rattle.version_publisher.specs.Contents.{nothing_known};
 
-    ghost both = { λ v w. v ++ w };
+    ghost both = { λ v w. record v { openings = v.openings ++ w.openings } };
 
-    ghost spent = { [] };
+    ghost spent = { nothing_known };
 }

@@ -20,7 +20,7 @@ use std::sync::Wait;
 /// Why a look gave no version.
 #[derive(Clone, Copy, Debug, PartialEq, Eq)]
 pub enum LookError {
-    /// `left_right` refused to enter, or the number found is below one that was seen or learned, or, in
+    /// `left_right` refused to enter, or the number found is below one that was learned, or, in
     /// [`Searcher::look_with`], isn't the publisher's.
     NotEntered,
     /// Memory was refused.
@@ -54,30 +54,30 @@ pub struct Searcher<P: Part> {
 
 impl<P: Part> Model for Searcher<P> {
     ghost use Rattle.std.specs.Prelude.{◌≡◌, ◌∷◌, []};
+    ghost use mathlib.Core.List.{IsPrefix};
     ghost use Rattle.left_right.specs.Sides.{view as seat_view};
     ghost use Rattle.version_publisher.specs.declared.state.SearcherState.{SearcherState};
 
     ghost Value = { SearcherState P.Item };
 
-    ghost view = { λ s. record { opening = s.seen.opening; seen = s.seen.log; learned = s.learned.log } };
+    ghost view = { λ s. record { opening = s.seen.opening; read = (seat_view s.reader.place).read; seen = s.seen.log; learned = s.learned.log } };
 
-    ghost invariant = { λ s. (seat_view s.reader.place ≡ s.seen.opening ∷ []) × (s.learned.opening ≡ s.seen.opening) };
+    ghost invariant = { λ s. ((seat_view s.reader.place).openings ≡ s.seen.opening ∷ []) × (s.learned.opening ≡ s.seen.opening) × IsPrefix s.seen.log (seat_view s.reader.place).read };
 }
 
-// Waits until what is published has this number, which is no less than another.
+// Waits until what is published has this number.
 fn await_number<P: Part, R: Wait>(
     rt: &R,
     reader: &mut ReplicaReader<P>,
     number: u64,
-    least: u64,
 ) -> Receipt<P>
-    requires one { KnowsOne (seat_view reader.old.place) }
-    ensures reader { seat_view reader.new.place ≡ seat_view reader.old.place }
-    ensures read { (seat_view reader.old.place ≡ result.opening ∷ []) × (length result.log ≡ number) × (least ≤ number) }
+    requires one { KnowsOne (seat_view reader.old.place).openings }
+    ensures reader { ((seat_view reader.new.place).openings ≡ (seat_view reader.old.place).openings) × IsPrefix (seat_view reader.old.place).read (seat_view reader.new.place).read }
+    ensures read { ((seat_view reader.old.place).openings ≡ result.opening ∷ []) × (result.log ≡ (seat_view reader.new.place).read) × (length result.log ≡ number) }
 {
     for _ in rt.forever() {
         if let Some(found) = read_receipt(reader) {
-            if found.number() == number && least <= number {
+            if found.number() == number {
                 return found;
             }
         }
@@ -87,7 +87,8 @@ fn await_number<P: Part, R: Wait>(
 
 impl<P: Part> Searcher<P> {
     pub(crate) fn new(reader: ReplicaReader<P>, empty: &Receipt<P>) -> Searcher<P>
-        requires opening { seat_view reader.place ≡ empty.now.opening ∷ [] }
+        requires opening { (seat_view reader.place).openings ≡ empty.now.opening ∷ [] }
+        requires unread { (seat_view reader.place).read ≡ [] }
         requires empty { empty.now.log ≡ [] }
         ensures { IsNewSearcher empty.now.opening result }
     {
@@ -99,19 +100,18 @@ impl<P: Part> Searcher<P> {
     }
 
     /// A published version, which holds all that this searcher has seen or learned; that it is the last
-    /// one isn't promised. It doesn't wait. After a refusal all is as it was.
+    /// one isn't promised. It doesn't wait. After a refusal all is as it was, but for what was read.
     pub fn look(&mut self, alloc: Global) -> Result<Version<P>, LookError>
         ensures same { (self.new.opening ≡ self.old.opening) × (self.new.learned ≡ self.old.learned) }
+        ensures read { IsPrefix self.old.read self.new.read }
         ensures answer { MatchResult result
-            (λ v. (v.number ≡ length self.new.seen) × (joined v.parts ≡ joined self.new.seen) × IsPrefix self.old.seen self.new.seen × IsPrefix self.old.learned self.new.seen)
-            (λ _. self.new ≡ self.old) }
+            (λ v. (self.new.seen ≡ self.new.read) × (v.number ≡ length self.new.seen) × (joined v.parts ≡ joined self.new.seen) × IsPrefix self.old.seen self.new.seen × IsPrefix self.old.learned self.new.seen)
+            (λ _. self.new ≡ record self.old { read = self.new.read }) }
     {
         let (version, found) = read(&mut self.reader, alloc)?;
-        let number = found.number();
-        if number < self.seen.number() || number < self.learned.number() {
+        if found.number() < self.learned.number() {
             return Err(LookError::NotEntered);
         }
-        self.seen.begins(&found);
         self.learned.begins(&found);
         self.seen = found;
         Ok(version)
@@ -120,7 +120,7 @@ impl<P: Part> Searcher<P> {
     /// Takes a receipt of the same opening. From now on a look holds the log up to its number.
     pub fn learn(&mut self, receipt: Receipt<P>)
         requires { receipt.opening ≡ self.old.opening }
-        ensures same { (self.new.opening ≡ self.old.opening) × (self.new.seen ≡ self.old.seen) }
+        ensures same { (self.new.opening ≡ self.old.opening) × (self.new.read ≡ self.old.read) × (self.new.seen ≡ self.old.seen) }
         ensures learned { self.new.learned ≡ longer self.old.learned receipt.log }
         ensures kept { IsPrefix self.old.learned self.new.learned × IsPrefix receipt.log self.new.learned }
     {
@@ -132,21 +132,21 @@ impl<P: Part> Searcher<P> {
         self.learned = receipt;
     }
 
-    /// Waits until it has seen the whole log of a publisher of the same opening.
+    /// Waits until it has found the whole log of a publisher of the same opening.
     pub fn meet<R: Wait>(&mut self, rt: &R, publisher: &Publisher<P>)
         requires { self.old.opening ≡ publisher.now.opening }
         ensures same { (self.new.opening ≡ self.old.opening) × (self.new.learned ≡ self.old.learned) }
+        ensures read { (self.new.read ≡ publisher.now.log) × IsPrefix self.old.read self.new.read }
         ensures seen { (self.new.seen ≡ publisher.now.log) × IsPrefix self.old.seen self.new.seen }
     {
         let whole = publisher.receipt();
-        let found = await_number(rt, &mut self.reader, whole.number(), self.seen.number());
+        let found = await_number(rt, &mut self.reader, whole.number());
         found.equals(&whole);
-        self.seen.begins(&found);
         self.seen = found;
     }
 
     /// The version of the whole log of a publisher of the same opening. It doesn't wait. After a
-    /// refusal all is as it was.
+    /// refusal all is as it was, but for what was read.
     pub fn look_with(
         &mut self,
         alloc: Global,
@@ -154,17 +154,17 @@ impl<P: Part> Searcher<P> {
     ) -> Result<Version<P>, LookError>
         requires { self.old.opening ≡ publisher.now.opening }
         ensures same { (self.new.opening ≡ self.old.opening) × (self.new.learned ≡ self.old.learned) }
+        ensures read { IsPrefix self.old.read self.new.read }
         ensures answer { MatchResult result
-            (λ v. (self.new.seen ≡ publisher.now.log) × (v.number ≡ length self.new.seen) × (joined v.parts ≡ joined self.new.seen) × IsPrefix self.old.seen self.new.seen)
-            (λ _. self.new ≡ self.old) }
+            (λ v. (self.new.seen ≡ publisher.now.log) × (self.new.seen ≡ self.new.read) × (v.number ≡ length self.new.seen) × (joined v.parts ≡ joined self.new.seen) × IsPrefix self.old.seen self.new.seen)
+            (λ _. self.new ≡ record self.old { read = self.new.read }) }
     {
         let (version, found) = read(&mut self.reader, alloc)?;
         let whole = publisher.receipt();
-        if found.number() != whole.number() || found.number() < self.seen.number() {
+        if found.number() != whole.number() {
             return Err(LookError::NotEntered);
         }
         found.equals(&whole);
-        self.seen.begins(&found);
         self.seen = found;
         Ok(version)
     }
@@ -173,6 +173,7 @@ impl<P: Part> Searcher<P> {
     pub fn seen(&self) -> Receipt<P>
         ensures opening { result.opening ≡ self.now.opening }
         ensures log { result.log ≡ self.now.seen }
+        ensures read { IsPrefix self.now.seen self.now.read }
     {
         self.seen.copy()
     }

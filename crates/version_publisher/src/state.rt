@@ -5,8 +5,16 @@ use std::collections::LinkedList;
 /// A list of parts, each as the list of its items.
 pub type Parts<T> = LinkedList<LinkedList<T>>;
 
-/// The openings that a reader or the writer of the published value knows.
-pub type KnownOpenings = LinkedList<(u64, u64, u64)>;
+/// A list of logs.
+pub type Logs<T> = LinkedList<Parts<T>>;
+
+/// What a reader or the writer of the published value knows: openings, the log that it found when it
+/// entered last, and the logs that it published, in order.
+pub struct Knowledge<T> {
+    pub openings: LinkedList<(u64, u64, u64)>,
+    pub read: Parts<T>,
+    pub published: Logs<T>,
+}
 
 /// The published value: how many parts were appended, the items of the parts that are kept now, the
 /// log of all that was appended, and the opening.
@@ -29,20 +37,23 @@ pub struct ReceiptState<T> {
     pub log: Parts<T>,
 }
 
-/// A publisher: the opening, the log, the pending parts, the published parts and those that the next
-/// publish shows, and whether a part or a merge is pending.
+/// A publisher: the opening, the log, each log that was ever published, in order, the pending parts,
+/// the published parts and those that the next publish shows, and whether a part or a merge is pending.
 pub struct PublisherState<T> {
     pub opening: (u64, u64, u64),
     pub log: Parts<T>,
+    pub published: Logs<T>,
     pub pending: Parts<T>,
     pub parts: Parts<T>,
     pub next_parts: Parts<T>,
     pub has_pending: bool,
 }
 
-/// A searcher: the opening, the log as far as it has seen it, and as far as it has learned of it.
+/// A searcher: the opening, the log that was published when it entered last, the log as far as it has
+/// seen it, and as far as it has learned of it.
 pub struct SearcherState<T> {
     pub opening: (u64, u64, u64),
+    pub read: Parts<T>,
     pub seen: Parts<T>,
     pub learned: Parts<T>,
 }

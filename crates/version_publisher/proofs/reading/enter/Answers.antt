@@ -1,21 +1,24 @@
 use Rattle.std.proofs.Common.{◌≡◌, [], ◌∷◌, sym, ap, subst, ◌∙◌}
 use Rattle.std.proofs.lemmas.Result.{IfOk-weaker}
-use Rattle.left_right.specs.Sides.{view}
 use Rattle.version_publisher.specs.Contents.{IsConsistent, opening_of}
 use Rattle.version_publisher.specs.Replicas.{content_of}
-use Rattle.version_publisher.proofs.RuleSteps.{looks, knows_this}
+use Rattle.version_publisher.proofs.RuleSteps.{looks, look_opening, look_read, look_keeps}
 use Rattle.version_publisher.proofs.reading.enter.Goals as goal
 
 pub enter_as-requires : goal.enter_as-requires
 enter_as-requires g c = looks (content_of g.P.Part.items) g.P.Part.MOST _ _
 
 pub version_of-found-requires-clause-consistent : goal.version_of-found-requires-clause-consistent
-version_of-found-requires-clause-consistent g c κs h = subst (λ b. IsConsistent g.P.Part.MOST (content_of g.P.Part.items b)) (sym c.get.ensures) c.in-Ok.ensures.1.3
+version_of-found-requires-clause-consistent g c κs h = subst (λ b. IsConsistent g.P.Part.MOST (content_of g.P.Part.items b)) (sym c.get.ensures) c.in-Ok.ensures.1.1
+
+pub returns-clause-reader : goal.returns-clause-reader
+returns-clause-reader g c = look_keeps g.P.Part.MOST _ _ _ (content_of g.P.Part.items c.in-Ok.reading.part.value) c.requires.one c.in-Ok.ensures.1 c.leave.ensures.1
 
 pub returns-clause-read : goal.returns-clause-read
 returns-clause-read g c =
-    let observed = c.in-Ok.ensures.1 in
     let replica = c.in-Ok.reading.part.value in
     let same : c.get.result.now ≡ replica = c.get.ensures in
-    let mine : view c.args.reader.place ≡ opening_of replica.token.book ∷ [] = knows_this c.requires.one.0 _ _ c.requires.one.1 observed.0 in
-    IfOk-weaker c.version_of-found.result _ _ (λ t h. (mine ∙ (ap (λ b. opening_of b.token.book ∷ []) (sym same) ∙ ap (λ z. z ∷ []) (sym h.0)), h.1, h.2)) c.version_of-found.ensures
+    let mine = look_opening g.P.Part.MOST _ _ _ (content_of g.P.Part.items replica) c.requires.one c.in-Ok.ensures.1 c.leave.ensures.1 in
+    let read = look_read g.P.Part.MOST _ _ _ (content_of g.P.Part.items replica) c.requires.one c.in-Ok.ensures.1 c.leave.ensures.1 in
+    IfOk-weaker c.version_of-found.result _ _
+    (λ t h. (mine ∙ (ap (λ b. opening_of b.token.book ∷ []) (sym same) ∙ ap (λ z. z ∷ []) (sym h.0)), h.1 ∙ (ap (λ b. b.token.log) same ∙ sym read), h.2, h.3)) c.version_of-found.ensures
