@@ -1,5 +1,5 @@
 // The searchers.
-ghost use Rattle.std.specs.Prelude.{◌≡◌, ◌≤◌, [], ◌∷◌, length, MatchResult};
+ghost use Rattle.std.specs.Prelude.{◌≡◌, ◌≤◌, List, [], ◌∷◌, length, MatchResult};
 ghost use mathlib.Core.List.{IsPrefix};
 ghost use Rattle.left_right.specs.Sides.{view as seat_view};
 ghost use Rattle.version_publisher.specs.Contents.{joined, longer, KnowsOne, IsNewSearcher};
@@ -74,6 +74,7 @@ fn await_number<P: Part, R: Wait>(
     requires one { KnowsOne (seat_view reader.old.place).openings }
     ensures reader { ((seat_view reader.new.place).openings ≡ (seat_view reader.old.place).openings) × IsPrefix (seat_view reader.old.place).read (seat_view reader.new.place).read }
     ensures read { ((seat_view reader.old.place).openings ≡ result.opening ∷ []) × (result.log ≡ (seat_view reader.new.place).read) × (length result.log ≡ number) }
+    ensures kept { (log : List (List P.Item)) → IsPrefix log (seat_view reader.old.place).read → IsPrefix log result.log }
 {
     for _ in rt.forever() {
         if let Some(found) = read_receipt(reader) {

@@ -1,12 +1,13 @@
-use Rattle.std.proofs.Common.{rules, arith, ◌≡◌, ◌+◌, [], ◌∷◌, ◌++◌, length, All, ap, sym, subst, ◌∙◌, length-append}
+use Rattle.std.proofs.Common.{rules, arith, ◌≡◌, ◌+◌, [], ◌∷◌, ◌++◌, length, All, ap, ◌∙◌, length-append}
 use Rattle.std.proofs.lemmas.Grind.{common_steps}
 use Rattle.std.proofs.lemmas.List.Elements.{All-append, All-cons, All-nil, All-same}
+use Rattle.version_publisher.specs.declared.state.SearcherState.{SearcherState}
 use Rattle.version_publisher.specs.Contents.{IsNewSearcher}
 use Rattle.version_publisher.proofs.opening.new_searchers.Goals as goal
 
 pub loop-i-preserved : goal.loop-i-preserved
 loop-i-preserved g c =
-    let P = IsNewSearcher c.args.empty.now.opening in
+    let P : SearcherState g.row.P-Item.Denot → Type 0 = IsNewSearcher c.args.empty.now.opening in
     let before = c.loop-i.searchers.items in
     let kept = c.loop-i.invariant.kept in
     let same = c.new_reader.ensures.same in

@@ -2,6 +2,7 @@ use Rattle.std.proofs.Common.{◌≡◌, [], ◌∷◌, sym, ap, subst, ◌∙�
 use Rattle.std.proofs.lemmas.Result.{IfOk-weaker}
 use Rattle.version_publisher.specs.Contents.{IsConsistent, opening_of}
 use Rattle.version_publisher.specs.Replicas.{content_of}
+use Rattle.version_publisher.proofs.Prefixes.{prefix_into}
 use Rattle.version_publisher.proofs.RuleSteps.{looks, look_opening, look_read, look_keeps}
 use Rattle.version_publisher.proofs.reading.enter.Goals as goal
 
@@ -19,6 +20,10 @@ returns-clause-read g c =
     let replica = c.in-Ok.reading.part.value in
     let same : c.get.result.now ≡ replica = c.get.ensures in
     let mine = look_opening g.P.Part.MOST _ _ _ (content_of g.P.Part.items replica) c.requires.one c.in-Ok.ensures.1 c.leave.ensures.1 in
+    let kept = look_keeps g.P.Part.MOST _ _ _ (content_of g.P.Part.items replica) c.requires.one c.in-Ok.ensures.1 c.leave.ensures.1 in
     let read = look_read g.P.Part.MOST _ _ _ (content_of g.P.Part.items replica) c.requires.one c.in-Ok.ensures.1 c.leave.ensures.1 in
     IfOk-weaker c.version_of-found.result _ _
-    (λ t h. (mine ∙ (ap (λ b. opening_of b.token.book ∷ []) (sym same) ∙ ap (λ z. z ∷ []) (sym h.0)), h.1 ∙ (ap (λ b. b.token.log) same ∙ sym read), h.2, h.3)) c.version_of-found.ensures
+    (λ t h.
+      let found = h.1 ∙ (ap (λ b. b.token.log) same ∙ sym read) in
+      (mine ∙ (ap (λ b. opening_of b.token.book ∷ []) (sym same) ∙ ap (λ z. z ∷ []) (sym h.0)), found, h.2, h.3, (λ log p. prefix_into log _ _ _ p kept.1 found)))
+    c.version_of-found.ensures
