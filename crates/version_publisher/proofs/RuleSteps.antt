@@ -1,5 +1,5 @@
 -- Each step on the published value keeps its rule.
-use Rattle.std.proofs.Common.{◌≡◌, ℕ, zero, suc, ◌≢◌, ◌⊎◌, ◌<◌, ◌+◌, List, [], ◌∷◌, ◌++◌, set, length, refl, sym, subst, ap, ⊎_elim, inl, inr, ◌∙◌, arith, length-append, zero-le}
+use Rattle.std.proofs.Common.{◌≡◌, ℕ, zero, suc, ◌≢◌, ◌⊎◌, ◌<◌, List, [], ◌∷◌, ◌++◌, set, length, refl, sym, subst, ap, ⊎_elim, inl, inr, ◌∙◌, arith, length-append, zero-le}
 use Rattle.std.proofs.lemmas.List.{length-set}
 use mathlib.Core.Option.{some, some-injective, some-ne-none}
 use mathlib.Core.List.{IsPrefix}
@@ -11,7 +11,7 @@ use Rattle.atomic_table.proofs.Lists.{at_set}
 use Rattle.logbook.specs.Pages.{Book}
 use Rattle.version_publisher.specs.declared.state.Content.{Content}
 use Rattle.version_publisher.specs.declared.state.Knowledge.{Knowledge}
-use Rattle.version_publisher.specs.Contents.{Opening, opening_of, content, KnowsOnly, KnowsOne, IsConsistent, IsLawful, IsLawfulSeat, IsEmptyOrAmong, AreEmpty, ArePrefixes, LookTells, PublishTells, MayFollow, nothing_known, after_look, after_publish}
+use Rattle.version_publisher.specs.Contents.{Opening, opening_of, content, KnowsOnly, KnowsOne, IsLawful, IsLawfulSeat, IsEmptyOrAmong, AreEmpty, ArePrefixes, LookTells, PublishTells, MayFollow, nothing_known, after_look, after_publish}
 use Rattle.version_publisher.proofs.Prefixes.{prefix_trans, prefix_same, prefix_of_empty}
 
 pub both_know : (b : Opening) (v w : List Opening) → KnowsOnly b v → KnowsOnly b w → KnowsOnly b (v ++ w)
@@ -77,7 +77,7 @@ module _ {V : Type 0} where
   pub each_set : (P Q : ℕ → V → Type 0) (views : List V) (seat : ℕ) (w : V) → EachSeat P views → Q seat w → ((j : ℕ) (u : V) → j ≢ seat → P j u → Q j u) → EachSeat Q (set views seat w)
   each_set P Q views seat w each here there j u e =
       ⊎_elim (λ (t : (j ≡ seat) × (w ≡ u)). subst (λ (s : ℕ × V). Q s.0 s.1) (λ i. (sym t.0 i, t.1 i)) here)
-          (λ (t : (j ≢ seat) × (get_elem? views j ≡ some u)). there j u t.0 (each j u t.1)) (at_set views seat j w u e)
+      (λ (t : (j ≢ seat) × (get_elem? views j ≡ some u)). there j u t.0 (each j u t.1)) (at_set views seat j w u e)
 
   pub each_end : (P : ℕ → V → Type 0) (views : List V) (w : V) → EachSeat P views → P (length views) w → EachSeat P (views ++ w ∷ [])
   each_end P views w each here j u e =
@@ -171,21 +171,21 @@ module _ {T A : Type 0} (c : T → Content A) (most : ℕ) where
 pub all_its_own : {A : Type 0} (publisher : ℕ) (history : List (List (List A))) (o : Opening) (log : List (List A)) (seat : ℕ) (v : Knowledge A)
     → ArePrefixes history log → IsLawfulSeat publisher history o seat v → IsEmptyOrAmong log v.published
     → (ArePrefixes v.published log) × ((l : List (List A)) → IsEmptyOrAmong l history → IsEmptyOrAmong l v.published)
-        × ((j : ℕ) (u : Knowledge A) → j ≢ seat → IsLawfulSeat publisher history o j u → AreEmpty u.published)
+    × ((j : ℕ) (u : Knowledge A) → j ≢ seat → IsLawfulSeat publisher history o j u → AreEmpty u.published)
 all_its_own publisher history o log seat v rises mine known = dite (ℕ_discrete seat publisher)
     (λ is. let e = mine.2 is in (
-        subst (λ hs. ArePrefixes hs log) (sym e) rises,
-        (λ l a. subst (IsEmptyOrAmong l) (sym e) a),
-        (λ j u n other. other.3 (λ k. n (k ∙ sym is))),
-      ))
+      subst (λ hs. ArePrefixes hs log) (sym e) rises,
+      (λ l a. subst (IsEmptyOrAmong l) (sym e) a),
+      (λ j u n other. other.3 (λ k. n (k ∙ sym is))),
+    ))
     (λ isnt.
-      let none = mine.3 isnt in
-      let nothing : log ≡ [] = among_empty log v.published none known in
-      let all = prefixes_empty log history nothing rises in (
-        empty_prefixes log v.published none,
-        (λ l a. subst (λ z. IsEmptyOrAmong z v.published) (sym (among_empty l history all a)) (empty_among v.published)),
-        (λ j u n other. dite (ℕ_discrete j publisher) (λ k. subst AreEmpty (sym (other.2 k)) all) (λ k. other.3 k)),
-      ))
+    let none = mine.3 isnt in
+    let nothing : log ≡ [] = among_empty log v.published none known in
+    let all = prefixes_empty log history nothing rises in (
+      empty_prefixes log v.published none,
+      (λ l a. subst (λ z. IsEmptyOrAmong z v.published) (sym (among_empty l history all a)) (empty_among v.published)),
+      (λ j u n other. dite (ℕ_discrete j publisher) (λ k. subst AreEmpty (sym (other.2 k)) all) (λ k. other.3 k)),
+    ))
 
 -- the one that published what is published goes on to content that may follow
 pub publishes : {T A : Type 0} (c : T → Content A) (most : ℕ) (seat : ℕ) (v : Knowledge A) (x y : T) → MayFollow most (c x) (c y) → IsEmptyOrAmong (c x).log v.published
@@ -211,7 +211,7 @@ publishes c most seat v x y follows known views h at =
               (λ m. own.2 j u n other),
             ));
       },
-      refl,
+      (refl, last_among (c y).log v.published),
     )
 
 -- who knows one opening knows this one

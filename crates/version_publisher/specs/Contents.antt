@@ -110,7 +110,7 @@ LookTells most v y w = KnowsOnly y.opening v.openings × IsConsistent most y × 
 
 -- What a publish of the content y tells the writer that knew v and then knows w
 abbrev pub PublishTells : {A : Type 0} → Knowledge A → Content A → Knowledge A → Type 0
-PublishTells v y w = w ≡ after_publish v y
+PublishTells v y w = (w ≡ after_publish v y) × IsEmptyOrAmong y.log w.published
 
 -- What holds between two calls of a publisher: of what is published, of what it is once the queued changes are made, of the parts that wait behind them, and of the whole log
 pub record IsReady {A : Type 0} (most : ℕ) (published next : Content A) (waiting whole : List (List A)) (b : Book) : Type 0 where

@@ -17,8 +17,12 @@ use std::alloc::{AllocError, Global};
 use std::mem::replace;
 use std::sync::{Arc, Wait};
 
-pub type ReplicaWriter<P> =
-    Writer<Replica<P>, Change<P>, Knowledge<<P as Part>::Item>, ReplicaRule<P>>;
+pub type ReplicaWriter<P> = Writer<
+    Replica<P>,
+    Change<P>,
+    Knowledge<<P as Part>::Item>,
+    ReplicaRule<P>,
+>;
 
 pub type ReplicaReader<P> = Reader<Replica<P>, Knowledge<<P as Part>::Item>, ReplicaRule<P>>;
 
@@ -31,7 +35,7 @@ pub fn publish_queued<P: Part, R: Wait>(
     requires follows { MayFollow P.MOST (content_of P.items writer.desk.shown.value) (content_after P.items writer.desk.shown.value (drop writer.behind writer.log.items)) }
     requires known { IsEmptyOrAmong (content_of P.items writer.desk.shown.value).log (view writer.desk.place).published }
     ensures { MatchResult result.1
-        (λ _. (content_of P.items result.0.desk.shown.value ≡ content_after P.items writer.desk.shown.value (drop writer.behind writer.log.items)) × (drop result.0.behind result.0.log.items ≡ []) × (view result.0.desk.place ≡ after_publish (view writer.desk.place) (content_of P.items result.0.desk.shown.value)))
+        (λ _. (content_of P.items result.0.desk.shown.value ≡ content_after P.items writer.desk.shown.value (drop writer.behind writer.log.items)) × (drop result.0.behind result.0.log.items ≡ []) × (view result.0.desk.place ≡ after_publish (view writer.desk.place) (content_of P.items result.0.desk.shown.value)) × IsEmptyOrAmong (content_of P.items result.0.desk.shown.value).log (view result.0.desk.place).published)
         (λ _. (result.0.desk.shown.value ≡ writer.desk.shown.value) × (drop result.0.behind result.0.log.items ≡ drop writer.behind writer.log.items) × (view result.0.desk.place ≡ view writer.desk.place)) }
 {
     writer.publish_as::<Publish, R>(rt)
@@ -44,7 +48,7 @@ pub fn publish_in_place<P: Part, R: Wait>(
 ) -> Result<(), AllocError>
     requires { MayFollow P.MOST (content_of P.items writer.old.desk.shown.value) (content_after P.items writer.old.desk.shown.value (drop writer.old.behind writer.old.log.items)) × IsEmptyOrAmong (content_of P.items writer.old.desk.shown.value).log (view writer.old.desk.place).published }
     ensures { MatchResult result
-        (λ _. (content_of P.items writer.new.desk.shown.value ≡ content_after P.items writer.old.desk.shown.value (drop writer.old.behind writer.old.log.items)) × (drop writer.new.behind writer.new.log.items ≡ []) × (view writer.new.desk.place ≡ after_publish (view writer.old.desk.place) (content_of P.items writer.new.desk.shown.value)))
+        (λ _. (content_of P.items writer.new.desk.shown.value ≡ content_after P.items writer.old.desk.shown.value (drop writer.old.behind writer.old.log.items)) × (drop writer.new.behind writer.new.log.items ≡ []) × (view writer.new.desk.place ≡ after_publish (view writer.old.desk.place) (content_of P.items writer.new.desk.shown.value)) × IsEmptyOrAmong (content_of P.items writer.new.desk.shown.value).log (view writer.new.desk.place).published)
         (λ _. (writer.new.desk.shown.value ≡ writer.old.desk.shown.value) × (drop writer.new.behind writer.new.log.items ≡ drop writer.old.behind writer.old.log.items) × (view writer.new.desk.place ≡ view writer.old.desk.place)) }
 {
     replace_with(

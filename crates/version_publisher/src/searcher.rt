@@ -66,11 +66,7 @@ impl<P: Part> Model for Searcher<P> {
 }
 
 // Waits until what is published has this number.
-fn await_number<P: Part, R: Wait>(
-    rt: &R,
-    reader: &mut ReplicaReader<P>,
-    number: u64,
-) -> Receipt<P>
+fn await_number<P: Part, R: Wait>(rt: &R, reader: &mut ReplicaReader<P>, number: u64) -> Receipt<P>
     requires one { KnowsOne (seat_view reader.old.place).openings }
     ensures reader { ((seat_view reader.new.place).openings ≡ (seat_view reader.old.place).openings) × IsPrefix (seat_view reader.old.place).read (seat_view reader.new.place).read }
     ensures read { ((seat_view reader.old.place).openings ≡ result.opening ∷ []) × (result.log ≡ (seat_view reader.new.place).read) × (length result.log ≡ number) }

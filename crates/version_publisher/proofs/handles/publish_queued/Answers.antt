@@ -1,4 +1,4 @@
-use Rattle.std.proofs.Common.{sym, ap, ◌∙◌, subst}
+use Rattle.std.proofs.Common.{sym, subst}
 use Rattle.version_publisher.specs.Replicas.{content_of}
 use Rattle.version_publisher.specs.Contents.{MayFollow}
 use Rattle.version_publisher.proofs.RuleSteps.{publishes}

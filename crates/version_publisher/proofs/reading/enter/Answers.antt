@@ -24,6 +24,6 @@ returns-clause-read g c =
     let read = look_read g.P.Part.MOST _ _ _ (content_of g.P.Part.items replica) c.requires.one c.in-Ok.ensures.1 c.leave.ensures.1 in
     IfOk-weaker c.version_of-found.result _ _
     (λ t h.
-      let found = h.1 ∙ (ap (λ b. b.token.log) same ∙ sym read) in
-      (mine ∙ (ap (λ b. opening_of b.token.book ∷ []) (sym same) ∙ ap (λ z. z ∷ []) (sym h.0)), found, h.2, h.3, (λ log p. prefix_into log _ _ _ p kept.1 found)))
+    let found = h.1 ∙ (ap (λ b. b.token.log) same ∙ sym read) in
+    (mine ∙ (ap (λ b. opening_of b.token.book ∷ []) (sym same) ∙ ap (λ z. z ∷ []) (sym h.0)), found, h.2, h.3, (λ log p. prefix_into log _ _ _ p kept.1 found)))
     c.version_of-found.ensures
