@@ -11,7 +11,7 @@ use Rattle.atomic_table.proofs.Lists.{at_set}
 use Rattle.logbook.specs.Pages.{Book}
 use Rattle.version_publisher.specs.declared.state.Content.{Content}
 use Rattle.version_publisher.specs.declared.state.Knowledge.{Knowledge}
-use Rattle.version_publisher.specs.Contents.{Opening, opening_of, content, KnowsOnly, KnowsOne, IsLawful, IsLawfulSeat, IsEmptyOrAmong, AreEmpty, ArePrefixes, LookTells, PublishTells, MayFollow, nothing_known, after_look, after_publish}
+use Rattle.version_publisher.specs.Contents.{Opening, opening_of, content, KnowsOnly, KnowsOne, IsLawful, IsLawfulSeat, IsEmptyOrAmong, AreEmpty, ArePrefixes, LookTells, PublishTells, ReadsArePublished, MayFollow, nothing_known, after_look, after_publish}
 use Rattle.version_publisher.proofs.Prefixes.{prefix_trans, prefix_same, prefix_of_empty}
 
 pub both_know : (b : Opening) (v w : List Opening) → KnowsOnly b v → KnowsOnly b w → KnowsOnly b (v ++ w)
@@ -186,6 +186,11 @@ all_its_own publisher history o log seat v rises mine known = dite (ℕ_discrete
       (λ l a. subst (λ z. IsEmptyOrAmong z v.published) (sym (among_empty l history all a)) (empty_among v.published)),
       (λ j u n other. dite (ℕ_discrete j publisher) (λ k. subst AreEmpty (sym (other.2 k)) all) (λ k. other.3 k)),
     ))
+
+-- what anyone has read was published by the one that published what is published
+pub reads_are_published : (A : Type 0) (most : ℕ) → ReadsArePublished A most
+reads_are_published A most c views h seat v at known other u there =
+    (all_its_own h.publisher h.history c.opening c.log seat v h.rises (h.each_seat seat v at) known).1 u.read (h.each_seat other u there).1
 
 -- the one that published what is published goes on to content that may follow
 pub publishes : {T A : Type 0} (c : T → Content A) (most : ℕ) (seat : ℕ) (v : Knowledge A) (x y : T) → MayFollow most (c x) (c y) → IsEmptyOrAmong (c x).log v.published

@@ -88,6 +88,13 @@ pub record IsLawful {A : Type 0} (most : ℕ) (c : Content A) (views : List (Kno
   pub rises : ArePrefixes history c.log
   pub each_seat : (seat : ℕ) (v : Knowledge A) → get_elem? views seat ≡ some v → IsLawfulSeat publisher history c.opening seat v
 
+-- Under the rule, whoever has published what is published has published each log that anyone has read
+abbrev pub ReadsArePublished : Type 0 → ℕ → Type 0
+ReadsArePublished A most =
+    (c : Content A) (views : List (Knowledge A)) → IsLawful most c views
+    → (seat : ℕ) (v : Knowledge A) → get_elem? views seat ≡ some v → IsEmptyOrAmong c.log v.published
+    → (other : ℕ) (u : Knowledge A) → get_elem? views other ≡ some u → IsEmptyOrAmong u.read v.published
+
 -- A content to which a publish of that one may go
 abbrev pub MayFollow : {A : Type 0} → ℕ → Content A → Content A → Type 0
 MayFollow most x y = IsConsistent most y × (y.opening ≡ x.opening) × IsPrefix x.log y.log

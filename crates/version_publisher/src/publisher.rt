@@ -3,7 +3,7 @@ ghost use Rattle.std.specs.Prelude.{◌≡◌, ◌+◌, ◌≤◌, ◌<◌, ◌^
 ghost use Rattle.std.specs.Bool.{OnFalse};
 ghost use Rattle.std.specs.Arc.{arc_value};
 ghost use Rattle.left_right.specs.Sides.{view as seat_view};
-ghost use Rattle.version_publisher.specs.Contents.{opening_of, joined, content, merged_last, last_two_joined};
+ghost use Rattle.version_publisher.specs.Contents.{opening_of, joined, content, merged_last, last_two_joined, IsEmptyOrAmong, ReadsArePublished};
 ghost use Rattle.version_publisher.specs.Replicas.{content_of};
 
 use crate::handles::{ReplicaWriter, publish_in_place, queue_waiting};
@@ -152,9 +152,17 @@ impl<P: Part> Publisher<P> {
     pub fn receipt(&self) -> Receipt<P>
         ensures opening { result.opening ≡ self.now.opening }
         ensures log { result.log ≡ self.now.log }
+        ensures published { IsEmptyOrAmong self.now.log self.now.published }
     {
         let replica = self.writer.published();
         Receipt::new(replica.number, &replica.token)
+    }
+
+    /// A law: under the rule of the published value, the one that published what is published has
+    /// published each log that anyone has read.
+    pub fn reads_are_published()
+        ensures { ReadsArePublished P.Item P.MOST }
+    {
     }
 
     /// Ends the publisher with what is pending. Versions that searchers hold stay.
