@@ -3,7 +3,7 @@
 //! Stands on kb_geometry, and on `left_right` for the published copies and `logbook` for the one log.
 //! The layers above use that a look gives the items of a list which begins with all that its searcher
 //! has seen or learned, that of all such lists of one opening the shorter begins the longer, and that
-//! a publish appends exactly the pending parts.
+//! a publish appends exactly the pending parts, at one step.
 #![tactic(auto)]
 
 mod handles;

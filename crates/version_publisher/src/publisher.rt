@@ -162,8 +162,7 @@ impl<P: Part> Publisher<P> {
     /// published each log that anyone has read.
     pub fn reads_are_published()
         ensures { ReadsArePublished P.Item P.MOST }
-    {
-    }
+    {}
 
     /// Ends the publisher with what is pending. Versions that searchers hold stay.
     pub fn close<R: Wait>(self, rt: &R) {
