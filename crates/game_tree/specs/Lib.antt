@@ -1,8 +1,13 @@
+pub mod Built
 pub mod Information
 pub mod Line
 pub mod MainLine
 pub mod Plain
 pub mod PlainParts
 pub mod Position
+pub mod Property
 pub mod Result
+pub mod SimpleText
 pub mod Tree
+pub mod Value
+pub mod ValueFaults

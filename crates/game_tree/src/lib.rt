@@ -5,6 +5,7 @@
 //! the tree that a plain text spells.
 #![tactic(auto)]
 
+mod building;
 mod bytes;
 mod children;
 mod info;
@@ -12,6 +13,7 @@ mod node;
 mod plain_text;
 mod tree;
 
+pub use building::{BuildError, build};
 pub use bytes::Bytes;
 pub use children::Children;
 pub use info::Info;

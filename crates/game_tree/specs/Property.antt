@@ -1,0 +1,65 @@
+-- The properties of a node: their identifiers and their values, as pieces of the text.
+use Rattle.std.specs.Prelude.{◌≡◌, ℕ, ◌-◌, ◌<◌, ◌≤◌, List, [], ◌∷◌, ◌++◌, All, Option, Some, None, Bool, nat_le, ◌&&◌, filter, find, slice_get, slice_range, codes, if◌then◌else◌}
+use Rattle.std.specs.Option.{option_map_or}
+use Rattle.std.specs.Str.{bytes_eq}
+use Rattle.kb_geometry.specs.declared.stone.Cell.{Cell}
+use Rattle.kb_geometry.specs.declared.stone.Cell.TheVariants as cell
+use Rattle.kb_geometry.specs.declared.stone.Colour.{Colour}
+use Rattle.kb_geometry.specs.declared.stone.Colour.TheVariants as colour
+use Rattle.sgf_reader.specs.declared.collection.Pair.{Pair}
+use Rattle.sgf_reader.specs.declared.collection.RawGame.{RawGame}
+use Rattle.sgf_reader.specs.declared.collection.RawNode.{RawNode}
+use Rattle.sgf_reader.specs.declared.collection.Span.{Span}
+
+-- the bytes of the text that a span covers
+abbrev pub bytes_of : List ℕ → Span → List ℕ
+bytes_of text span = slice_range text span.from span.to
+
+-- a letter `A` to `Z`
+abbrev pub is_upper : ℕ → Bool
+is_upper b = nat_le 65 b && nat_le b 90
+
+-- the identifier of a value's property, without its lower-case letters
+abbrev pub identifier_of : List ℕ → Pair → List ℕ
+identifier_of text pair = filter is_upper (bytes_of text pair.name)
+
+-- the value belongs to the property with this identifier
+abbrev pub is_of : List ℕ → List ℕ → Pair → Bool
+is_of text name pair = bytes_eq (identifier_of text pair) name
+
+-- the offset of the value's `[`
+abbrev pub offset_of : Pair → ℕ
+offset_of pair = pair.value.from - 1
+
+-- the side for which a property's value is a move: B or W
+abbrev pub mover_of : List ℕ → Pair → Option Colour
+mover_of text pair =
+    if is_of text (codes "B") pair then Some colour.Black
+    else if is_of text (codes "W") pair then Some colour.White
+    else None
+
+-- the cell that a property's value sets points to: AB, AW or AE
+abbrev pub setter_of : List ℕ → Pair → Option Cell
+setter_of text pair =
+    if is_of text (codes "AB") pair then Some cell.Black
+    else if is_of text (codes "AW") pair then Some cell.White
+    else if is_of text (codes "AE") pair then Some cell.Empty
+    else None
+
+-- the values of a game's root
+abbrev pub root_pairs : RawGame → List Pair
+root_pairs raw = option_map_or (λ (node : RawNode). node.pairs) (slice_get raw.nodes 0) []
+
+-- the first value of a property at a game's root, if there is one
+abbrev pub first_pair : List ℕ → RawGame → List ℕ → Option Pair
+first_pair text raw name = find (is_of text name) (root_pairs raw)
+
+-- White space, bytes of at most 32, at either end of a value is ignored: what is left begins and ends with other bytes.
+pub record IsTrimmed (value inner : List ℕ) : Type 0 where
+  pub before : List ℕ
+  pub after : List ℕ
+  pub split : value ≡ before ++ inner ++ after
+  pub white_before : All (λ (b : ℕ). b ≤ 32) before
+  pub white_after : All (λ (b : ℕ). b ≤ 32) after
+  pub first : (b : ℕ) (rest : List ℕ) → inner ≡ b ∷ rest → 32 < b
+  pub last : (b : ℕ) (rest : List ℕ) → inner ≡ rest ++ b ∷ [] → 32 < b
