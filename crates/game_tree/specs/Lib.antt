@@ -1,4 +1,3 @@
-pub mod Built
 pub mod Information
 pub mod Line
 pub mod MainLine
@@ -9,5 +8,6 @@ pub mod Property
 pub mod Result
 pub mod SimpleText
 pub mod Tree
+pub mod Trees
 pub mod Value
 pub mod ValueFaults

@@ -4,7 +4,7 @@ ghost use Rattle.sgf_reader.specs.declared.fault.FaultKind.{FaultKind};
 ghost use Rattle.sgf_reader.specs.declared.fault.SgfFault.{SgfFault};
 ghost use Rattle.sgf_reader.specs.Faults.{IsRead};
 ghost use Rattle.game_tree.specs.declared.building.BuildError.TheVariants.{Fault, NoMemory};
-ghost use Rattle.game_tree.specs.Built.{AreTreesOf};
+ghost use Rattle.game_tree.specs.Trees.{AreTreesOf};
 ghost use Rattle.game_tree.specs.ValueFaults.{HasValueFault, IsFirstValueFault};
 
 use crate::GameTree;
