@@ -1,8 +1,7 @@
+pub mod Built
 pub mod Information
-pub mod Line
 pub mod MainLine
-pub mod Plain
-pub mod PlainParts
 pub mod Position
 pub mod Result
+pub mod Stored
 pub mod Tree
