@@ -10,6 +10,7 @@ mod bytes;
 mod children;
 mod info;
 mod node;
+mod property;
 mod stored;
 mod tree;
 
