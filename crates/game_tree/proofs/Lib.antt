@@ -1,1 +1,5 @@
 pub mod Properties
+pub mod Values
+pub mod Colons
+pub mod Trimming
+pub mod Passes

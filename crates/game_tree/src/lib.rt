@@ -13,6 +13,7 @@ mod node;
 mod property;
 mod stored;
 mod tree;
+mod value;
 
 pub use building::{BuildError, build};
 pub(crate) use builder::TreeBuilder;
