@@ -3,3 +3,4 @@ pub mod Values
 pub mod Colons
 pub mod Trimming
 pub mod Passes
+pub mod SimpleTexts

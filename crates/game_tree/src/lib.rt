@@ -11,6 +11,7 @@ mod children;
 mod info;
 mod node;
 mod property;
+mod simple_text;
 mod stored;
 mod tree;
 mod value;
