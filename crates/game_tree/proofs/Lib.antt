@@ -1,0 +1,4 @@
+pub mod MainLines
+pub mod Paths
+pub mod Ranges
+pub mod Trees
