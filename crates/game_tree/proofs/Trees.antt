@@ -209,3 +209,13 @@ siblings_from-next tree n = go (parent_of tree n) refl where
   go (Some m) e =
       ap (λ o. n ∷ option_map_or (λ i. filter (ltb n) (children_of tree i)) o []) e
       ∙ ap (λ xs. n ∷ xs) (later m e (next_sibling_of tree n) refl)
+
+-- a next sibling stands behind the node, in the tree, below the same parent
+pub next_sibling-facts : (tree : Tree) (n s : ℕ) → next_sibling_of tree n ≡ Some s → (n < s) × (s < node_count tree) × (parent_of tree s ≡ parent_of tree n)
+next_sibling-facts tree n s e =
+    elim (cases_Option (parent_of tree n)) [
+      | inl none ↦ let f : None ≡ Some s = sym (next_sibling-root tree n none) ∙ e in absurd cc
+      | inr p ↦
+          let found = next_sibling-found tree p.0 n s p.1 e in
+          (found.1, parent-in_range tree s p.0 found.0, found.0 ∙ sym p.1)
+    ]
