@@ -132,6 +132,18 @@ module _ (tree : Tree) (grown : IsGrown tree) where
       let behind = child_behind n c (is_child-found tree n c f.0) in
       (same_Some c (n + 1) (sym e ∙ first_child-behind n behind), behind)
 
+-- ---- the list of children
+
+pub children-each : (tree : Tree) (n : ℕ) → All (λ (c : ℕ). parent_of tree c ≡ Some n) (children_of tree n)
+children-each tree n =
+    All-weaker (λ (c : ℕ). is_child_of tree n c ≡ true) (λ (c : ℕ). parent_of tree c ≡ Some n) (λ c t. is_child-found tree n c t) (children_of tree n)
+    (filter_passes (is_child_of tree n) (range_with_len 0 (node_count tree)))
+
+pub children-in_range : (tree : Tree) → IsGrown tree → (n : ℕ) → All (λ (c : ℕ). (n < c) × (c < node_count tree)) (children_of tree n)
+children-in_range tree grown n =
+    All-weaker (λ (c : ℕ). parent_of tree c ≡ Some n) (λ (c : ℕ). (n < c) × (c < node_count tree))
+    (λ c e. (parent-lt tree grown c n e, parent-in_range tree c n e)) (children_of tree n) (children-each tree n)
+
 -- ---- siblings
 
 -- a later child of the node's parent

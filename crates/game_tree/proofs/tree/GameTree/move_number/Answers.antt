@@ -3,7 +3,9 @@ use Rattle.std.specs.Prelude.{is_some}
 use mir.Val.{bool_byte}
 use Rattle.game_tree.specs.declared.stored.TreeNode.{TreeNode}
 use Rattle.game_tree.specs.Stored.{node_in, one_if}
-use Rattle.game_tree.proofs.StoredTrees.{node_read, within_shown, move_number_shown}
+use Rattle.game_tree.proofs.StoredTrees.{node_read, tree_shown, within_shown, move_number_shown}
+use Rattle.game_tree.proofs.Paths.{move_number-le}
+use Rattle.game_tree.proofs.Trees.{IsGrown-tree}
 use Rattle.game_tree.proofs.tree.GameTree.move_number.Goals as goal
 
 bool_byte-one_if : (b : Bool) → ◌≡◌ {A = ℕ} (bool_byte b) (one_if b)
@@ -23,4 +25,6 @@ returns c =
     omega (arith, above, own, c.from.ensures, move_number_shown _ _ _ _ _ _ c.self.view_is c.self.invariant c.args.n c.requires)
 
 pub overflow_add-result : goal.overflow_add-result
-overflow_add-result c = ?
+overflow_add-result c =
+    let grown = IsGrown-tree c.args.self.now (tree_shown _ _ _ _ _ _ c.self.view_is c.self.invariant) in
+    omega (arith, returns c, move_number-le c.args.self.now grown c.args.n, c.ranges.n, grown.most, c.requires)
