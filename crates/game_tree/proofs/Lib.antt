@@ -1,5 +1,8 @@
+pub mod Climbs
+pub mod Growth
 pub mod MainLines
 pub mod Paths
 pub mod Ranges
+mod StoredBuilds
 mod StoredTrees
 pub mod Trees
