@@ -4,5 +4,6 @@ pub mod MainLines
 pub mod Paths
 pub mod Ranges
 mod StoredBuilds
+mod StoredGrowth
 mod StoredTrees
 pub mod Trees
