@@ -6,6 +6,7 @@ use Rattle.std.proofs.lemmas.List.{get_or_append_left, get_or_push, length_push,
 use Rattle.std.proofs.lemmas.List.Elements.{All-push, All-nil}
 use Rattle.std.proofs.lemmas.List.FromFn.{map-range_with_len_more}
 use Rattle.std.proofs.lemmas.Slice.{between_to_end}
+use mir.Val.{bool_byte}
 use Rattle.std.specs.Prelude.{is_some, All, IfSome, map}
 use Rattle.std.specs.List.{range_with_len, between}
 use Rattle.std.specs.Option.{option_map_or}
@@ -21,7 +22,7 @@ use Rattle.game_tree.specs.Tree.{Tree, Node, IsTree, IsRectOnBoard, IsNodeOnBoar
 use Rattle.game_tree.specs.Stored.{node_in, setups_start, shown_parent, shown_node, shown_nodes, shown_tree, shown_built, or_zero, one_if, IsStored, IsBeginning, IsMainEnd, AreEnds, AreLinks}
 use Rattle.game_tree.proofs.Growth.{node_count-more, next_parent-none, next_parent-some, IsGrown-more, sibling-new, sibling-last, siblings-first, siblings-other, moves-before, moves-last, moves-root}
 use Rattle.game_tree.proofs.Paths.{IsAbove-same, move_number-same}
-use Rattle.game_tree.proofs.StoredTrees.{length-shown}
+use Rattle.game_tree.proofs.StoredTrees.{length-shown, node_read, bool_byte-one_if}
 use Rattle.game_tree.proofs.Trees.{cases_Option}
 
 -- ---- lists of nodes
@@ -134,6 +135,13 @@ module _ (b : Built) (info : Information) (grown : IsGrown (tree_so_far b)) wher
     moves = λ n h. links.moves n h ∙ move_number-same (tree_so_far b) (tree_of b info) (node_count (tree_so_far b)) grown IsGrown-info (λ k l. refl) (λ k l. refl) n (omega (arith, count));
     main_end = record { within = links.main_end.within; some = links.main_end.some; line = links.main_end.line; ended = links.main_end.ended };
   }
+
+-- the moves above a child of a stored node
+pub moves_below : (shape : Shape) (ts : List TreeNode) (setups : List Setup) (main : ℕ) → IsBeginning shape ts setups main → (p k : ℕ) (t : TreeNode) (one : ℕ) → p < length ts → k ≡ p → t ≡ get_or ts k t → one ≡ bool_byte (is_some t.played) → t.moves_above + one ≡ move_number_of (tree_so_far (shown_built shape ts setups)) p
+moves_below shape ts setups main begun p k t one within here read own =
+    let node : t ≡ node_in ts p = node_read ts p t within (read ∙ ap (λ i. get_or ts i t) here) in
+    let plays : ◌≡◌ {A = ℕ} one (one_if (is_some (node_in ts p).played)) = own ∙ bool_byte-one_if (is_some t.played) ∙ ap (λ (u : TreeNode). one_if (is_some u.played)) node in
+    omega (arith, ap (λ (u : TreeNode). u.moves_above) node, plays, begun.links.moves p within)
 
 -- ---- one node more
 

@@ -1,9 +1,10 @@
 -- What the stored nodes say of the tree that they show.
 use Prim.Native.Nat.{zero}
-use Rattle.std.proofs.Common.{◌≡◌, ◌≢◌, ℕ, ◌+◌, ◌-◌, ◌<◌, ◌≤◌, ◌↔◌, suc, List, [], length, get_or, Option, Some, None, refl, sym, ◌∙◌, ap, subst, arith, inl, inr, add-one}
+use Rattle.std.proofs.Common.{◌≡◌, ◌≢◌, ℕ, ◌+◌, ◌-◌, ◌<◌, ◌≤◌, ◌↔◌, suc, Bool, true, false, List, [], length, get_or, Option, Some, None, refl, sym, ◌∙◌, ap, subst, arith, inl, inr, add-one}
 use Rattle.std.proofs.lemmas.Bool.{cases_lt}
 use Rattle.std.proofs.lemmas.List.{get_or_read}
 use Rattle.std.proofs.lemmas.List.FromFn.{length-map-range_with_len, get_or-map-range_with_len}
+use mir.Val.{bool_byte}
 use Rattle.std.specs.Prelude.{is_some, All, IfSome}
 use Rattle.std.specs.List.{between}
 use Rattle.std.specs.Option.{option_map_or}
@@ -31,6 +32,10 @@ node_at-shown shape info ts setups n h = get_or-map-range_with_len (shown_node t
 -- a node that was read is the stored one
 pub node_read : (ts : List TreeNode) (n : ℕ) (t : TreeNode) → n < length ts → t ≡ get_or ts n t → t ≡ node_in ts n
 node_read ts n t h e = get_or_read ts n t h e _
+
+pub bool_byte-one_if : (b : Bool) → ◌≡◌ {A = ℕ} (bool_byte b) (one_if b)
+bool_byte-one_if true = refl
+bool_byte-one_if false = refl
 
 or_zero-some : (o : Option ℕ) (s : ℕ) → s ≡ or_zero o → s ≢ 0 → o ≡ Some s
 or_zero-some None s e ne = absurd (ne e)

@@ -3,14 +3,10 @@ use Rattle.std.specs.Prelude.{is_some}
 use mir.Val.{bool_byte}
 use Rattle.game_tree.specs.declared.stored.TreeNode.{TreeNode}
 use Rattle.game_tree.specs.Stored.{node_in, one_if}
-use Rattle.game_tree.proofs.StoredTrees.{node_read, tree_shown, within_shown, move_number_shown}
+use Rattle.game_tree.proofs.StoredTrees.{bool_byte-one_if, node_read, tree_shown, within_shown, move_number_shown}
 use Rattle.game_tree.proofs.Paths.{move_number-le}
 use Rattle.game_tree.proofs.Trees.{IsGrown-tree}
 use Rattle.game_tree.proofs.tree.GameTree.move_number.Goals as goal
-
-bool_byte-one_if : (b : Bool) → ◌≡◌ {A = ℕ} (bool_byte b) (one_if b)
-bool_byte-one_if true = refl
-bool_byte-one_if false = refl
 
 pub index-requires : goal.index-requires
 index-requires c = omega (arith, c.self.inside.nodes.ok.0, within_shown _ _ _ _ _ _ c.self.view_is c.self.invariant c.args.n c.requires)
