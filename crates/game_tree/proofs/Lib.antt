@@ -1,6 +1,15 @@
-pub mod Properties
-pub mod Values
+mod StoredBuilds
+mod StoredGrowth
+mod StoredTrees
+pub mod Climbs
 pub mod Colons
-pub mod Trimming
+pub mod Growth
+pub mod MainLines
 pub mod Passes
+pub mod Paths
+pub mod Properties
+pub mod Ranges
 pub mod SimpleTexts
+pub mod Trees
+pub mod Trimming
+pub mod Values
