@@ -1,7 +1,8 @@
-pub mod Scans
-pub mod SpelledScans
-pub mod ScansSpelled
-pub mod ScanEnds
-pub mod SpellsOne
 pub mod LimitLaws
 pub mod ReadBounds
+pub mod ScanEnds
+pub mod Scans
+pub mod ScansSpelled
+pub mod SpelledScans
+pub mod SpellsOne
+pub mod Ways
