@@ -5,4 +5,6 @@ pub mod Scans
 pub mod ScansSpelled
 pub mod SpelledScans
 pub mod SpellsOne
+pub mod SpelledNodes
+pub mod Steps
 pub mod Ways
