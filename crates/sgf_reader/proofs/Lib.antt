@@ -5,6 +5,7 @@ pub mod Scans
 pub mod ScansSpelled
 pub mod SpelledScans
 pub mod SpellsOne
+mod Shapes
 pub mod SpelledNodes
 pub mod Steps
 pub mod Ways
