@@ -1,5 +1,6 @@
 pub mod LimitLaws
 pub mod ReadBounds
+pub mod Reached
 pub mod ScanEnds
 pub mod Scans
 pub mod ScansSpelled
