@@ -235,7 +235,8 @@ scan-rest (b ∷ text) at s t e o =
     let head = Leads-head s t at b text e in
     byte-rest s.games at b text s.place head.0 (step-way s.games s.place at b head.0 head.1) (scan-rest text (at + 1) head.0 t head.2 o)
 
-same_games : (s t : Scan) → Some s ≡ Some t → s.games ≡ t.games
+-- two scans with one outcome have the same games
+pub same_games : (s t : Scan) → Some s ≡ Some t → s.games ≡ t.games
 same_games s t e = let same : s ≡ t = cc in ap (λ (u : Scan). u.games) same
 
 -- a text whose scan ends outside trees has the games of the scan
