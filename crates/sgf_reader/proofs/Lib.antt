@@ -9,4 +9,5 @@ pub mod SpellsOne
 mod Shapes
 pub mod SpelledNodes
 pub mod Steps
+pub mod Traces
 pub mod Ways
