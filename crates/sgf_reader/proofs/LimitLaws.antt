@@ -68,8 +68,8 @@ module _ (text : List ℕ) (games : List SpelledGame) (k : ℕ) (game : SpelledG
 
 too_deep_scans : (text : List ℕ) (at : ℕ) → IsTooDeep text at → ScansTooDeep text at
 too_deep_scans text at h =
-    let whole : List ℕ = take (at + 1) text ++ h.goes_on.1 in
-    let all = spelled_traced whole h.games h.goes_on.2 in
+    let whole : List ℕ = take (at + 1) text ++ h.goes_on.1.0 in
+    let all = spelled_traced whole h.games h.goes_on.1.1 in
     let game = game_traced whole h.games h.among_games.0 h.game all h.among_games.1 h.among_games.2 in
     let node = node_traced whole h.games h.among_games.0 h.game game h.among_nodes.0 h.node h.among_nodes.1 h.among_nodes.2 in
     elim (node.opened_was at h.opened) [
@@ -78,7 +78,7 @@ too_deep_scans text at h =
         there = omega (arith, h.goes_on.0);
         games = was.games;
         inside = was.within;
-        scans = front_reached text h.goes_on.1 (at + 1) (at + 1) (inside was.games was.within) h.goes_on.0 (omega arith) was.reached;
+        scans = front_reached text h.goes_on.1.0 (at + 1) (at + 1) (inside was.games was.within) h.goes_on.0 (omega arith) was.reached;
         phase = was.phase;
         past = was.depth_is ∙ h.past;
       }
@@ -95,7 +95,7 @@ completes_front : (text : List ℕ) (count : ℕ) (s : Scan) → count ≤ lengt
 completes_front text count s h e =
     let c = scan-ends (take count text) s e in
     let spelled = spells-completed (take count text) s e c in
-    record { game = c.game; goes_on = (h, c.rest, spelled); at = length (take count text); completes = c.completes }
+    record { game = c.game; goes_on = (h, (c.rest, spelled)); at = length (take count text); completes = c.completes }
 
 scans_too_deep : (text : List ℕ) (at : ℕ) → ScansTooDeep text at → IsTooDeep text at
 scans_too_deep text at h =
@@ -118,14 +118,14 @@ pub too_deep-at : (text : List ℕ) (at : ℕ) → IsTooDeep text at ↔ ScansTo
 too_deep-at text at = (too_deep_scans text at, scans_too_deep text at)
 
 stands : {X : Type 0} (xs : List X) (n : ℕ) (x : X) → StandsAt xs n x → (n < length xs) × (get_or xs n x ≡ x)
-stands xs n x s =
+stands {X = X} xs n x s =
     let long : length xs ≡ length s.0 + length (x ∷ s.1) = ap length s.2 ∙ length-append s.0 (x ∷ s.1) in
     (omega (arith, long, s.3), ap (λ (ys : List X). get_or ys n x) s.2 ∙ get_or_at s.0 x s.1 x n s.3)
 
 node_too_many_scans : (text : List ℕ) (at : ℕ) → IsNodeTooMany text at → ScansNodeTooMany text at
 node_too_many_scans text at h =
-    let whole : List ℕ = take (at + 1) text ++ h.goes_on.1 in
-    let all = spelled_traced whole h.games h.goes_on.2 in
+    let whole : List ℕ = take (at + 1) text ++ h.goes_on.1.0 in
+    let all = spelled_traced whole h.games h.goes_on.1.1 in
     let game = game_traced whole h.games h.among_games.0 h.game all h.among_games.1 h.among_games.2 in
     let place = stands h.game.nodes MAX_NODES h.node h.past in
     let node = node_traced whole h.games h.among_games.0 h.game game MAX_NODES h.node place.0 place.1 in
@@ -134,7 +134,7 @@ node_too_many_scans text at h =
       there = omega (arith, h.goes_on.0);
       games = was.games;
       inside = was.within;
-      scans = front_reached text h.goes_on.1 (at + 1) (at + 1) (inside was.games was.within) h.goes_on.0 (omega arith) (subst (λ (k : ℕ). Reached whole (k + 1) (inside was.games was.within)) h.here was.reached);
+      scans = front_reached text h.goes_on.1.0 (at + 1) (at + 1) (inside was.games was.within) h.goes_on.0 (omega arith) (subst (λ (k : ℕ). Reached whole (k + 1) (inside was.games was.within)) h.here was.reached);
       phase = was.phase;
       before = was.before;
       node = bare h.node;
@@ -171,8 +171,8 @@ same_root nodes others more root first e (x ∷ front) f h = absurd (omega arith
 
 game_too_many_scans : (text : List ℕ) (at : ℕ) → IsGameTooMany text at → ScansGameTooMany text at
 game_too_many_scans text at h =
-    let whole : List ℕ = take (h.root.at + 1) text ++ h.goes_on.1 in
-    let all = spelled_traced whole h.games h.goes_on.2 in
+    let whole : List ℕ = take (h.root.at + 1) text ++ h.goes_on.1.0 in
+    let all = spelled_traced whole h.games h.goes_on.1.1 in
     let place = stands h.games MAX_GAMES h.game h.past in
     let game = game_traced whole h.games MAX_GAMES h.game all place.0 place.1 in
     let was = game.begun_was in
@@ -182,7 +182,7 @@ game_too_many_scans text at h =
       root = h.root.at;
       there = omega (arith, h.goes_on.0);
       games = was.games;
-      scans = front_reached text h.goes_on.1 (h.root.at + 1) (h.root.at + 1) (inside was.games (begun at h.root.at)) h.goes_on.0 (omega arith) begins;
+      scans = front_reached text h.goes_on.1.0 (h.root.at + 1) (h.root.at + 1) (inside was.games (begun at h.root.at)) h.goes_on.0 (omega arith) begins;
       past = was.counted;
     }
 
