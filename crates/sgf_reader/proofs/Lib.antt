@@ -1,5 +1,7 @@
 pub mod LimitLaws
 pub mod ReadBounds
+pub mod NodeParents
+pub mod ReadParents
 pub mod Reached
 pub mod ScanEnds
 pub mod Scans
