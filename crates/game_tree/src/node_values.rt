@@ -1,0 +1,59 @@
+// The values of one node: its setups, its move, and their faults.
+ghost use Rattle.std.specs.Prelude.{◌≡◌, ◌≤◌, ℕ, List, [], ◌∷◌, ◌++◌, length, All, Option, Some, None, IfOk, IfErr, IfSome, Err};
+ghost use Rattle.kb_geometry.specs.declared.shape.Point.{Point};
+ghost use Rattle.kb_geometry.specs.Board.{IsOnBoard};
+ghost use Rattle.sgf_reader.specs.declared.fault.SgfFault.{SgfFault};
+ghost use Rattle.game_tree.specs.declared.node.Move.{Move};
+ghost use Rattle.game_tree.specs.declared.node.Setup.{Setup};
+ghost use Rattle.game_tree.specs.declared.building.BuildError.TheVariants.{Fault, NoMemory};
+ghost use Rattle.game_tree.specs.NodeValues.{AreRead, Ascend, IsFirstNodeFault, LiesIn, with_setups};
+ghost use Rattle.game_tree.specs.Property.{bytes_of, offset_of};
+
+use crate::property::Property;
+use crate::value::{move_of, setup_of};
+use crate::{BuildError, Move, Setup, TreeBuilder};
+use kb_geometry::{Cell, Colour, Shape};
+use sgf_reader::{FaultKind, Pair, SgfFault, Span};
+
+// The bytes that a span covers.
+pub(crate) fn bytes_of(text: &[u8], span: Span) -> &[u8]
+    requires order { span.from ≤ span.to }
+    requires inside { span.to ≤ length text.now }
+    ensures { result.now ≡ bytes_of text.now span }
+{
+    &text[span.from as usize..span.to as usize]
+}
+
+// A fault at the `[` of a value.
+pub(crate) fn fault_at(kind: FaultKind, pair: &Pair) -> BuildError
+    requires { 1 ≤ pair.now.value.from }
+    ensures { result ≡ Fault (record { kind = kind; at = offset_of pair.now }) }
+{
+    let at = pair.value.from - 1;
+    BuildError::Fault(SgfFault { kind, at })
+}
+
+// Hands the setups of a node's values to the builder, in order of the text, and answers its move.
+pub(crate) fn read_values(
+    text: &[u8],
+    shape: Shape,
+    pairs: &[Pair],
+    builder: &mut TreeBuilder,
+) -> Result<Option<Move>, BuildError>
+    requires shape { builder.old.shape ≡ shape }
+    requires room { builder.old.setup_count + length pairs.now < 4294967295 }
+    requires inside { All (LiesIn (length text.now)) pairs.now }
+    requires ascending { Ascend pairs.now }
+    ensures ok { IfOk result (λ played. (setups : List Setup) × AreRead text.now shape pairs.now setups played
+        × (builder.new ≡ with_setups builder.old setups)) }
+    ensures on_board { IfOk result (λ played. IfSome played (λ (m : Move).
+        IfSome m.point (λ (p : Point). IsOnBoard shape p))) }
+    ensures fault { (f : SgfFault) → result ≡ Err (Fault f) →
+        IsFirstNodeFault text.now shape pairs.now f.kind f.at }
+{
+    let mut played = None;
+    for pair in pairs {
+        read_value(text, shape, pair, &mut played, builder)?;
+    }
+    Ok(played)
+}
