@@ -1,6 +1,7 @@
 pub mod Built
 pub mod Information
 pub mod MainLine
+pub mod NodeValues
 pub mod Position
 pub mod Property
 pub mod Result

@@ -1,5 +1,8 @@
 -- For the private functions that build trees: the values of one node, read in order of the text.
-use Rattle.std.specs.Prelude.{◌≡◌, ◌⊎◌, ℕ, ◌+◌, ◌<◌, ◌≤◌, List, [], ◌∷◌, ◌++◌, length, Option, Some, None, Contains, IsTrue, is_some, count_by, All, AllPairs}
+use Rattle.std.specs.Prelude.{◌≡◌, ◌⊎◌, ℕ, ◌+◌, ◌<◌, ◌≤◌, List, [], ◌∷◌, ◌++◌, length, Option, Some, None, Contains, IsTrue, is_some, count_by, All, AllPairs, IfSome}
+use Rattle.kb_geometry.specs.declared.stone.Cell.{Cell}
+use Rattle.kb_geometry.specs.declared.stone.Colour.{Colour}
+use Rattle.kb_geometry.specs.Board.{IsOnBoard}
 use Rattle.kb_geometry.specs.declared.shape.Rect.{Rect}
 use Rattle.kb_geometry.specs.declared.shape.Point.{Point}
 use Rattle.kb_geometry.specs.declared.shape.Shape.{Shape}
@@ -29,8 +32,8 @@ Ascend pairs = AllPairs (λ (a b : Pair). a.value.from < b.value.from) pairs
 -- A value of a node whose board is this has this fault by itself: it is a move behind so many others, or no form of its kind.
 pub data HasPairFault (text : List ℕ) (shape : Shape) (before : List Pair) (pair : Pair) : FaultKind → Type 0 where
   second : IsMove text pair → count_by (λ (p : Pair). is_some (mover_of text p)) before ≡ 1 → HasPairFault text shape before pair kind.TwoMoves
-  no_move : IsMove text pair → ((move : Option Point) → ¬ IsMoveValue shape (bytes_of text pair.value) move) → HasPairFault text shape before pair kind.BadPoint
-  no_setup : IsTrue (is_some (setter_of text pair)) → ((rect : Option Rect) → ¬ IsSetupValue shape (bytes_of text pair.value) rect) → HasPairFault text shape before pair kind.BadPoint
+  bad_move : IsMove text pair → ((move : Option Point) → ¬ IsMoveValue shape (bytes_of text pair.value) move) → HasPairFault text shape before pair kind.BadPoint
+  bad_setup : IsTrue (is_some (setter_of text pair)) → ((rect : Option Rect) → ¬ IsSetupValue shape (bytes_of text pair.value) rect) → HasPairFault text shape before pair kind.BadPoint
 
 -- one of these values, each by those before it, has this fault at this offset
 pub record HasNodeFault (text : List ℕ) (shape : Shape) (pairs : List Pair) (of : FaultKind) (at : ℕ) : Type 0 where
@@ -59,3 +62,24 @@ pub record AreRead (text : List ℕ) (shape : Shape) (pairs : List Pair) (setups
   pub setups : AreSetups text shape pairs setups
   pub played : IsPlayedBy text shape pairs played
   pub no_fault : (of : FaultKind) (at : ℕ) → ¬ HasNodeFault text shape pairs of at
+
+-- the setup of a value to a cell, where it names a rectangle
+abbrev pub setups_of : Cell → Option Rect → List Setup
+setups_of cell None = []
+setups_of cell (Some rect) = record { cell = cell; rect = rect } ∷ []
+
+-- the move's point lies on the board, if it has one
+abbrev pub IsMoveOnBoard : Shape → Move → Type 0
+IsMoveOnBoard shape m = IfSome m.point (λ (p : Point). IsOnBoard shape p)
+
+-- What one value does, by the move so far: it is the first move, it sets up a rectangle or nothing, or it does nothing.
+pub data IsValueRead (text : List ℕ) (shape : Shape) (pair : Pair) : Option Move → Option Move → List Setup → Type 0 where
+  plays : (colour : Colour) (point : Option Point) → mover_of text pair ≡ Some colour → IsMoveValue shape (bytes_of text pair.value) point → IsValueRead text shape pair None (Some (record { colour = colour; point = point })) []
+  sets : {played : Option Move} (cell : Cell) (rect : Option Rect) → mover_of text pair ≡ None → setter_of text pair ≡ Some cell → IsSetupValue shape (bytes_of text pair.value) rect → IsValueRead text shape pair played played (setups_of cell rect)
+  nothing : {played : Option Move} → mover_of text pair ≡ None → setter_of text pair ≡ None → IsValueRead text shape pair played played []
+
+-- What is wrong with one value, by the move so far.
+pub data IsValueBad (text : List ℕ) (shape : Shape) (pair : Pair) : Option Move → FaultKind → Type 0 where
+  second_move : {m : Move} → IsMove text pair → IsValueBad text shape pair (Some m) kind.TwoMoves
+  no_move : IsMove text pair → ((move : Option Point) → ¬ IsMoveValue shape (bytes_of text pair.value) move) → IsValueBad text shape pair None kind.BadPoint
+  no_setup : {played : Option Move} → mover_of text pair ≡ None → IsTrue (is_some (setter_of text pair)) → ((rect : Option Rect) → ¬ IsSetupValue shape (bytes_of text pair.value) rect) → IsValueBad text shape pair played kind.BadPoint

@@ -33,6 +33,14 @@ impl fmt::Display for BuildError {
 
 impl Error for BuildError {}
 
+impl From<kb_geometry::NoMemory> for BuildError {
+    ghost from_gives = { λ _ e. e ≡ NoMemory };
+
+    fn from(_: kb_geometry::NoMemory) -> Self {
+        BuildError::NoMemory
+    }
+}
+
 impl From<AllocError> for BuildError {
     ghost from_gives = { λ _ e. e ≡ NoMemory };
 

@@ -10,6 +10,7 @@ mod bytes;
 mod children;
 mod info;
 mod node;
+mod node_values;
 mod property;
 mod simple_text;
 mod stored;
