@@ -13,3 +13,4 @@ pub mod SimpleTexts
 pub mod Trees
 pub mod Trimming
 pub mod Values
+pub mod NodeValues

@@ -59,8 +59,8 @@ with_setups b setups = record { shape = b.shape; nodes = b.nodes; pending = b.pe
 
 -- what the values of a node do: setups in order and at most one move, and none of them has a fault
 pub record AreRead (text : List ℕ) (shape : Shape) (pairs : List Pair) (setups : List Setup) (played : Option Move) : Type 0 where
-  pub setups : AreSetups text shape pairs setups
-  pub played : IsPlayedBy text shape pairs played
+  pub sets : AreSetups text shape pairs setups
+  pub plays : IsPlayedBy text shape pairs played
   pub no_fault : (of : FaultKind) (at : ℕ) → ¬ HasNodeFault text shape pairs of at
 
 -- the setup of a value to a cell, where it names a rectangle

@@ -48,14 +48,15 @@ setter_named name =
     else if bytes_eq name (codes "AE") then Some cell.Empty
     else None
 
+-- what values do at a node that are moves of this side, or set points to this cell
+abbrev pub property_by : Option Colour → Option Cell → Property
+property_by (Some side) setter = property.Moves side
+property_by None (Some stone) = property.Sets stone
+property_by None None = property.Other
+
 -- what the values of the property with this identifier do at a node
 abbrev pub property_named : List ℕ → Property
 property_named name = property_by (mover_named name) (setter_named name)
-  where
-    property_by : Option Colour → Option Cell → Property
-    property_by (Some side) setter = property.Moves side
-    property_by None (Some stone) = property.Sets stone
-    property_by None None = property.Other
 
 -- the side whose move the value is, if it is one
 abbrev pub mover_of : List ℕ → Pair → Option Colour
