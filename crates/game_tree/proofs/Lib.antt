@@ -14,3 +14,5 @@ pub mod Trees
 pub mod Trimming
 pub mod Values
 pub mod NodeValues
+pub mod Splits
+pub mod ReadValues

@@ -90,3 +90,7 @@ nothing_added b =
     let pending : b.pending ++ [] ≡ b.pending = append-nil b.pending in
     let count : b.setup_count + 0 ≡ b.setup_count = omega arith in
     let e : record { shape = b.shape; nodes = b.nodes; pending = b.pending; setup_count = b.setup_count } ≡ with_setups b [] = cc in e
+
+-- the error that an answer carries
+pub same_error : {T : Type 0} (error other : BuildError) → ◌≡◌ {A = Result T BuildError} (Err error) (Err other) → error ≡ other
+same_error error other e = cc

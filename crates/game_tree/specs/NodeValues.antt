@@ -31,7 +31,7 @@ Ascend pairs = AllPairs (λ (a b : Pair). a.value.from < b.value.from) pairs
 
 -- A value of a node whose board is this has this fault by itself: it is a move behind so many others, or no form of its kind.
 pub data HasPairFault (text : List ℕ) (shape : Shape) (before : List Pair) (pair : Pair) : FaultKind → Type 0 where
-  second : IsMove text pair → count_by (λ (p : Pair). is_some (mover_of text p)) before ≡ 1 → HasPairFault text shape before pair kind.TwoMoves
+  second_of_two : IsMove text pair → count_by (λ (p : Pair). is_some (mover_of text p)) before ≡ 1 → HasPairFault text shape before pair kind.TwoMoves
   bad_move : IsMove text pair → ((move : Option Point) → ¬ IsMoveValue shape (bytes_of text pair.value) move) → HasPairFault text shape before pair kind.BadPoint
   bad_setup : IsTrue (is_some (setter_of text pair)) → ((rect : Option Rect) → ¬ IsSetupValue shape (bytes_of text pair.value) rect) → HasPairFault text shape before pair kind.BadPoint
 

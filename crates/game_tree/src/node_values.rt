@@ -56,7 +56,9 @@ pub(crate) fn read_values(
 {
     let mut played = None;
     for pair in pairs {
-        read_value(text, shape, pair, &mut played, builder)?;
+        if let Err(error) = read_value(text, shape, pair, &mut played, builder) {
+            return Err(error);
+        }
     }
     Ok(played)
 }
