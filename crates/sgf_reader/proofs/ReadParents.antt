@@ -1,16 +1,16 @@
 -- How the nodes of a game that was read hang below each other.
-use Rattle.std.proofs.Common.{◌≡◌, ◌≢◌, ◌⊎◌, inl, inr, ℕ, ◌+◌, ◌-◌, ◌<◌, ◌≤◌, Bool, true, ap, sym, subst, refl, ◌∙◌, arith, List, [], ◌∷◌, ◌++◌, length, get_or, map, length-append, Some, None, Option, All, Contains}
+use Rattle.std.proofs.Common.{◌≡◌, inl, inr, ℕ, ◌-◌, ◌≤◌, true, ap, sym, subst, refl, ◌∙◌, arith, List, [], ◌∷◌, ◌++◌, length, map, length-append, Some, None, Option, All, Contains}
 use Rattle.std.specs.Prelude.{⊤}
 use Rattle.std.proofs.lemmas.List.{map_push, length-map}
 use Rattle.std.proofs.lemmas.List.Elements.{All-nil, All-push, All-contains}
 use Rattle.sgf_reader.specs.declared.collection.Span.{Span}
 use Rattle.sgf_reader.specs.declared.collection.Pair.{Pair}
 use Rattle.sgf_reader.specs.Grammar.{SpelledGame, SpelledNode, HasGames}
-use Rattle.sgf_reader.specs.Scan.{Scan, Place, Outside, Before, Within, Inside, Phase, Opened, InNode, InName, AfterName, InValue, Escaped, AfterValue, AfterTree, with_pair, with_node, with_bracket, closed, begun, at_start, scan}
+use Rattle.sgf_reader.specs.Scan.{Scan, Place, Outside, Before, Within, Inside, Phase, Opened, InNode, InName, AfterName, InValue, Escaped, AfterValue, AfterTree, with_pair, with_node, closed}
 use Rattle.sgf_reader.proofs.Steps.{EndsNode, in_node, after_value, EndsTree, after_node, after_tree}
-use Rattle.sgf_reader.proofs.Ways.{inside, behind_value, Way}
+use Rattle.sgf_reader.proofs.Ways.{Way}
 use Rattle.sgf_reader.proofs.SpelledScans.{spelled-scans}
-use Rattle.sgf_reader.proofs.Reached.{Reached, Steps, keeps, reached-whole, Moves, BeginsNode, Change, changes}
+use Rattle.sgf_reader.proofs.Reached.{Reached, keeps, reached-whole, Moves, BeginsNode, Change, changes}
 use Rattle.sgf_reader.proofs.NodeParents.{AreHung, Hanging, hanging-push, hanging-extend, hanging-pop, hanging-root}
 
 -- the parents of these nodes
