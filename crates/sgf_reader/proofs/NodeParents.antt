@@ -241,14 +241,17 @@ pub hanging-pop : (above : List (Option ℕ)) (depths : List ℕ) (k : ℕ) (q r
 hanging-pop above depths k q r parents h =
     let head = chain-head above depths k q (r ∷ parents) h in
     let j : ℕ = head.3.0 in
-    let is : q ≡ Some j = head.3.1 in
-    (j, is, record {
-      same = h.same;
-      hung = h.hung;
-      chain = subst (λ (x : Option ℕ). Chain above depths (x ∷ r ∷ parents)) is head.3;
-      top = IsAncestor-then above j k (length above - 1) (subst (λ (x : Option ℕ). Under above x k) is head.2) h.top;
-      left = λ m p e f i g. h.left m p e f (suc i) (ap (λ (x : Option ℕ). get_or (x ∷ r ∷ parents) i None) is ∙ g);
-    })
+    let is : q ≡ Some j = head.3.1 in (
+      j,
+      is,
+      record {
+        same = h.same;
+        hung = h.hung;
+        chain = subst (λ (x : Option ℕ). Chain above depths (x ∷ r ∷ parents)) is head.3;
+        top = IsAncestor-then above j k (length above - 1) (subst (λ (x : Option ℕ). Under above x k) is head.2) h.top;
+        left = λ m p e f i g. h.left m p e f (suc i) (ap (λ (x : Option ℕ). get_or (x ∷ r ∷ parents) i None) is ∙ g);
+      },
+    )
 
 -- the root alone
 pub hanging-root : Hanging (None ∷ []) (1 ∷ []) 0 None []
