@@ -1,11 +1,13 @@
--- A spelled text within the limits has no fault.
+-- A text has no fault just where it is spelled and within the limits.
 use Rattle.std.proofs.Common.{◌≡◌, inl, inr, ℕ, ◌+◌, ◌<◌, ◌≤◌, true, ap, sym, subst, ◌∙◌, arith, List, [], ◌∷◌, ◌++◌, length, length-append, take, drop, take-append-drop, Some, Option, All, Contains}
 use Rattle.std.specs.Prelude.{⊤}
 use Rattle.std.proofs.lemmas.List.Elements.{All-nil, All-cons, All-head, All-tail, All-weaker, All-contains_itself, Contains-append_left, Contains-push, All-contains}
 use Rattle.sgf_reader.specs.declared.collection.Pair.{Pair}
 use Rattle.sgf_reader.specs.declared.fault.FaultKind.{FaultKind}
+use Rattle.sgf_reader.specs.declared.fault.FaultKind.TheVariants as kind
 use Rattle.sgf_reader.specs.declared.limits.TheConstants.{MAX_FILE, MAX_GAMES, MAX_NODES, MAX_OPEN}
 use Rattle.sgf_reader.specs.Grammar.{SpelledGame, SpelledNode, Spells}
+pub use Rattle.sgf_reader.specs.Faults.{AreWithinLimits}
 use Rattle.sgf_reader.specs.Faults.{HasRead, HasFault, IsLive}
 use Rattle.sgf_reader.specs.Scan.{Scan, Place, Outside, Before, Within, Inside, Phase, Opened, InName, InValue, Escaped, AfterName, AfterValue, with_pair, closed, begun, scan, at_start, IsOutside}
 use Rattle.sgf_reader.proofs.Scans.{Leads-parts, Leads-head}
@@ -14,13 +16,9 @@ use Rattle.sgf_reader.proofs.Ways.{inside, Way, step-way}
 use Rattle.sgf_reader.proofs.SpelledNodes.{paired, with_pair-length}
 use Rattle.sgf_reader.proofs.SpelledScans.{spelled-scans}
 use Rattle.sgf_reader.proofs.Reached.{Moves, BeginsNode, Change, changes, HasOpen, way-open}
+use Rattle.sgf_reader.proofs.ReadBounds.{GameFits, NodeFits, read-bounds}
+use Rattle.std.proofs.lemmas.Bool.{cases_lt}
 use Rattle.sgf_reader.proofs.LimitLaws.{ScansTooDeep, ScansNodeTooMany, ScansGameTooMany, too_deep-at, node_too_many-at, game_too_many-at}
-
--- games within the limits
-pub record AreWithinLimits (games : List SpelledGame) : Type 0 where
-  pub few : length games ≤ MAX_GAMES
-  pub nodes : (game : SpelledGame) → Contains games game → length game.nodes ≤ MAX_NODES
-  pub depths : (game : SpelledGame) → Contains games game → (node : SpelledNode) → Contains game.nodes node → node.depth ≤ MAX_OPEN
 
 -- ---- each place on the way to games within the limits
 
@@ -174,3 +172,18 @@ module _ (text : List ℕ) (games : List SpelledGame) (spells : Spells games tex
 -- a spelled text within the limits is read
 pub within_limits-no_fault : (games : List SpelledGame) (text : List ℕ) → Spells games text → length text ≤ MAX_FILE → AreWithinLimits games → HasRead text games
 within_limits-no_fault games text spells short limits = record { spells = spells; no_fault = not-fault text games spells limits short }
+
+-- a text that is read is within the limits
+pub read-within_limits : (games : List SpelledGame) (text : List ℕ) → HasRead text games → (length text ≤ MAX_FILE) × AreWithinLimits games
+read-within_limits games text h =
+    let fit = read-bounds text games h in (
+      elim (cases_lt MAX_FILE (length text)) [
+        | inl l ↦ absurd (h.no_fault kind.TooLong MAX_FILE (HasFault.too_long l))
+        | inr l ↦ l
+      ],
+      record {
+        few = fit.few;
+        nodes = λ game m. (All-contains (GameFits (length text)) games game fit.each m).few;
+        depths = λ game m node n. (All-contains (NodeFits (length text)) game.nodes node (All-contains (GameFits (length text)) games game fit.each m).nodes n).0;
+      },
+    )
