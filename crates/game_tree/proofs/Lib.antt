@@ -16,3 +16,5 @@ pub mod Values
 pub mod NodeValues
 pub mod Splits
 pub mod ReadValues
+pub mod ReadCollections
+pub mod Parts

@@ -15,3 +15,4 @@ pub mod SpelledNodes
 pub mod Steps
 pub mod Traces
 pub mod Ways
+pub mod ValuePlaces
