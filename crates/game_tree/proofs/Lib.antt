@@ -18,3 +18,4 @@ pub mod Splits
 pub mod ReadValues
 pub mod ReadCollections
 pub mod Parts
+pub mod Roots

@@ -5,6 +5,7 @@ pub mod NodeValues
 pub mod Position
 pub mod Property
 pub mod Result
+pub mod Roots
 pub mod SimpleText
 pub mod Stored
 pub mod Tree

@@ -12,6 +12,7 @@ mod info;
 mod node;
 mod node_values;
 mod property;
+mod root;
 mod simple_text;
 mod stored;
 mod tree;

@@ -94,3 +94,35 @@ impl Property {
         }
     }
 }
+
+// An identifier of two letters.
+#[derive(Clone, Copy, Debug, PartialEq, Eq)]
+pub(crate) struct Identifier {
+    pub first: u8,
+    pub second: u8,
+}
+
+impl Identifier {
+    ghost use Rattle.std.specs.Prelude.{filter, ◌≡◌, ◌∷◌, []};
+    ghost use Rattle.std.specs.Str.{bytes_eq};
+    ghost use Rattle.game_tree.specs.Property.{is_upper};
+    ghost use Rattle.game_tree.specs.Roots.{letters};
+
+    // Whether this is the identifier of a property.
+    pub(crate) fn names(self, name: &[u8]) -> bool
+        ensures { result ≡ bytes_eq (filter is_upper name.now) (letters self) }
+    {
+        match letters_of(name) {
+            Letters::Two(a, b) => self.is(a, b),
+            Letters::One(_) => false,
+            Letters::Other => false,
+        }
+    }
+
+    // Whether the identifier has these letters.
+    fn is(self, a: u8, b: u8) -> bool
+        ensures { result ≡ bytes_eq (a ∷ b ∷ []) (letters self) }
+    {
+        a == self.first && b == self.second
+    }
+}

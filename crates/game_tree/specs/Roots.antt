@@ -1,0 +1,26 @@
+-- For the private functions that build trees: what the root of a game says.
+use Rattle.std.specs.Prelude.{◌≡◌, ◌≢◌, ◌⊎◌, ℕ, ◌<◌, List, [], ◌∷◌, ◌++◌, Option, Some, None, Contains, codes, count_by, is_some, find}
+use Rattle.sgf_reader.specs.declared.collection.Pair.{Pair}
+use Rattle.sgf_reader.specs.declared.fault.FaultKind.{FaultKind}
+use Rattle.sgf_reader.specs.declared.fault.FaultKind.TheVariants as kind
+use Rattle.sgf_reader.specs.declared.fault.SgfFault.{SgfFault}
+use Rattle.game_tree.specs.declared.property.Identifier.{Identifier}
+use Rattle.game_tree.specs.Property.{IsTrimmed, bytes_of, is_of, mover_of, offset_of}
+use Rattle.game_tree.specs.ValueFaults.{IsMove}
+
+-- the letters of an identifier
+abbrev pub letters : Identifier → List ℕ
+letters identifier = identifier.first ∷ identifier.second ∷ []
+
+-- the first of these values that is of the property with this identifier
+abbrev pub first_in : List ℕ → List Pair → List ℕ → Option Pair
+first_in text pairs name = find (is_of text name) pairs
+
+-- The value, a game's first one of GM, is neither empty nor `1`.
+abbrev pub IsOtherGame : List ℕ → Pair → Type 0
+IsOtherGame text pair = (inner : List ℕ) × IsTrimmed (bytes_of text pair.value) inner × (inner ≢ []) × (inner ≢ codes "1")
+
+-- what the values of a root say of the game: nothing is wrong, or its first GM value is of another game
+pub data IsGameFault (text : List ℕ) (pairs : List Pair) : Option SgfFault → Type 0 where
+  same_game : ((pair : Pair) → first_in text pairs (codes "GM") ≡ Some pair → ¬ IsOtherGame text pair) → IsGameFault text pairs None
+  other_game : (pair : Pair) → first_in text pairs (codes "GM") ≡ Some pair → IsOtherGame text pair → IsGameFault text pairs (Some (record { kind = kind.NotGo; at = offset_of pair }))

@@ -1,0 +1,73 @@
+// What the root of a game says of the game as a whole.
+ghost use Rattle.std.specs.Prelude.{◌≡◌, ◌≢◌, ◌≤◌, ℕ, List, [], ◌∷◌, length, All, Option, Some, None, IfOk, IfErr, IfSome, Err, IsTrue, ◌↔◌, codes};
+ghost use Rattle.sgf_reader.specs.declared.fault.SgfFault.{SgfFault};
+ghost use Rattle.sgf_reader.specs.declared.fault.FaultKind.TheVariants as kind;
+ghost use Rattle.kb_geometry.specs.declared.shape.Shape.{Shape};
+ghost use Rattle.game_tree.specs.NodeValues.{LiesIn};
+ghost use Rattle.game_tree.specs.Property.{bytes_of, offset_of};
+ghost use Rattle.game_tree.specs.Roots.{first_in, letters, IsGameFault, IsOtherGame};
+ghost use Rattle.game_tree.specs.ValueFaults.{IsBoardOf};
+
+use crate::node_values::bytes_of;
+use crate::property::Identifier;
+use crate::value::{size_of, trimmed};
+use kb_geometry::{MAX_SIDE, Shape};
+use sgf_reader::{FaultKind, Pair, SgfFault};
+
+// The identifiers of the values of a root that are read.
+const GAME: Identifier = Identifier { first: b'G', second: b'M' };
+const SIZE: Identifier = Identifier { first: b'S', second: b'Z' };
+
+// A fault at the `[` of a value.
+pub(crate) fn fault_of(kind: FaultKind, pair: Pair) -> SgfFault
+    ensures { result ≡ record { kind = kind; at = offset_of pair } }
+{
+    let at = pair.value.from.saturating_sub(1);
+    SgfFault { kind, at }
+}
+
+// The first value of a property.
+pub(crate) fn first_of(text: &[u8], pairs: &[Pair], identifier: Identifier) -> Option<Pair>
+    requires inside { All (LiesIn (length text.now)) pairs.now }
+    ensures value { result ≡ first_in text.now pairs.now (letters identifier) }
+    ensures inside { IfSome result (LiesIn (length text.now)) }
+{
+    let mut rest = pairs;
+    while let [pair, others @ ..] = rest {
+        if identifier.names(bytes_of(text, pair.name)) {
+            return Some(*pair);
+        }
+        rest = others;
+    }
+    None
+}
+
+// The fault of a root whose first GM value is of another game.
+pub(crate) fn game_fault(text: &[u8], pairs: &[Pair]) -> Option<SgfFault>
+    requires inside { All (LiesIn (length text.now)) pairs.now }
+    ensures { IsGameFault text.now pairs.now result }
+{
+    let pair = first_of(text, pairs, GAME)?;
+    if is_go(text, pair) {
+        None
+    } else {
+        Some(fault_of(FaultKind::NotGo, pair))
+    }
+}
+
+// Whether a GM value is that of Go: empty, or `1`.
+fn is_go(text: &[u8], pair: Pair) -> bool
+    requires inside { LiesIn (length text.now) pair }
+    ensures go { IsTrue result → ¬ IsOtherGame text.now pair }
+    ensures other { ¬ IsTrue result → IsOtherGame text.now pair }
+{
+    let value = trimmed(bytes_of(text, pair.value));
+    value.is_empty() || is_one(value)
+}
+
+// Whether a text is `1`.
+fn is_one(text: &[u8]) -> bool
+    ensures { IsTrue result ↔ (text.now ≡ codes "1") }
+{
+    text == b"1".as_slice()
+}
