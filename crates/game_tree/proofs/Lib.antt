@@ -1,3 +1,4 @@
+pub mod Branchings
 pub mod Climbs
 pub mod Growth
 pub mod MainLines
@@ -6,4 +7,5 @@ pub mod Ranges
 mod StoredBuilds
 mod StoredGrowth
 mod StoredTrees
+pub mod Subtrees
 pub mod Trees
