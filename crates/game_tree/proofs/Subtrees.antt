@@ -27,13 +27,29 @@ module _ (tree : Tree) (grown : IsGrown tree) where
   subtree_from n zero end h later inside = (end, record { later = later; within = omega arith; inside = inside; only = λ j l up. omega arith })
   subtree_from n (suc most) end h later inside =
       elim (cases_Option (parent_of tree end)) [
-        | inl e ↦ (end, record { later = later; within = omega arith; inside = inside; only = λ j l up.
-            outside n end (omega arith) (λ at. let p = IsAbove-step tree at (omega arith) in let f : None ≡ Some p.0 = sym e ∙ p.1 in absurd cc) j up })
+        | inl e ↦ (
+          end,
+          record {
+            later = later;
+            within = omega arith;
+            inside = inside;
+            only = λ j l up.
+                outside n end (omega arith) (λ at. let p = IsAbove-step tree at (omega arith) in let f : None ≡ Some p.0 = sym e ∙ p.1 in absurd cc) j up;
+          },
+        )
         | inr p ↦ elim (cases_lt p.0 n) [
-          | inl low ↦ (end, record { later = later; within = omega arith; inside = inside; only = λ j l up.
-              outside n end (omega arith) (λ at.
-              let q = IsAbove-step tree at (omega arith) in
-              absurd (omega (arith, same_Some q.0 p.0 (sym q.1 ∙ p.1), IsAbove-le tree grown q.2, low))) j up })
+          | inl low ↦ (
+            end,
+            record {
+              later = later;
+              within = omega arith;
+              inside = inside;
+              only = λ j l up.
+                  outside n end (omega arith) (λ at.
+                  let q = IsAbove-step tree at (omega arith) in
+                  absurd (omega (arith, same_Some q.0 p.0 (sym q.1 ∙ p.1), IsAbove-le tree grown q.2, low))) j up;
+            },
+          )
           | inr high ↦
               subtree_from n most (end + 1) (omega arith) (omega arith) (λ j low upper. elim (cases_lt j end) [
                 | inl l ↦ inside j low l

@@ -140,9 +140,14 @@ fn wanted(row: Row, place: Place) -> Seen {
 }
 
 fn expect_nodes(rt: &impl Abort, tree: &GameTree, rows: &[Row], places: &[Place]) {
-    assert_eq!(rt; tree.node_count() as usize, rows.len());
-    for ((n, row), place) in (0..tree.node_count()).zip(rows).zip(places) {
-        assert_eq!(rt; seen_at(tree, n), wanted(*row, *place), "{n}");
+    assert_eq!(rt; rows.len(), tree.node_count() as usize);
+    for n in 0..tree.node_count() {
+        let at = n as usize;
+        let want = rows
+            .get(at)
+            .zip(places.get(at))
+            .map(|(row, place)| wanted(*row, *place));
+        assert_eq!(rt; Some(seen_at(tree, n)), want, "{n}");
     }
 }
 
