@@ -80,7 +80,7 @@ module _ (tree : Tree) (grown : IsGrown tree) where
       let above_child : IsAbove tree q c = IsAbove-between tree grown q (e - 1) c above_last (omega (arith, low)) (omega (arith, sub.later)) in
       let above_parent = IsAbove-step tree above_child (omega (arith, low)) in
       let same : q ≡ m = omega (arith, same_Some above_parent.0 m (sym above_parent.1 ∙ ec), IsAbove-le tree grown above_parent.2, IsAbove-le tree grown step.2) in
-      step.1 ∙ ap (λ i. Some i) same
+      subst (λ (i : ℕ). parent_of tree e ≡ Some i) same step.1
 
   -- the next child begins where the subtree of the one before ends
   pub IsSubtree-next : (m c s : ℕ) → parent_of tree c ≡ Some m → next_sibling_of tree c ≡ Some s → IsSubtree tree c s
