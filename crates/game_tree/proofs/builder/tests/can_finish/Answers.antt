@@ -1,5 +1,5 @@
 use Rattle.std.proofs.Common.{◌∙◌, sym, arith}
-use Rattle.std.proofs.lemmas.Bool.{ltb-true, eqb-true}
+use Rattle.std.proofs.lemmas.Bool.{eqb-true}
 use Rattle.game_tree.specs.Built.{tree_of}
 use Rattle.game_tree.proofs.Branchings.{branchings_to-le, branchings_to-line}
 use Rattle.game_tree.proofs.StoredBuilds.{count_built, grown_built, links_built}
