@@ -1,14 +1,13 @@
 -- A tree with one node more.
-use Prim.Native.Nat.{zero}
-use Rattle.std.proofs.Common.{◌≡◌, ◌≢◌, ℕ, ◌+◌, ◌-◌, ◌<◌, ◌≤◌, suc, List, [], ◌∷◌, ◌++◌, length, get_or, Option, Some, None, refl, sym, ◌∙◌, ap, subst, arith, inl, inr}
-use Rattle.std.proofs.lemmas.Bool.{cases_eq, cases_lt}
+use Rattle.std.proofs.Common.{◌≡◌, ◌≢◌, ℕ, ◌+◌, ◌-◌, ◌<◌, ◌≤◌, [], length, Option, Some, None, refl, sym, ◌∙◌, ap, subst, arith, inl, inr}
+use Rattle.std.proofs.lemmas.Bool.{cases_lt}
 use Rattle.std.proofs.lemmas.List.{get_or_append_left, get_or_push, length_push}
 use Rattle.std.proofs.lemmas.Option.{same_Some}
 use Rattle.std.specs.Prelude.{is_some}
 use Rattle.game_tree.specs.declared.node.Move.{Move}
 use Rattle.game_tree.specs.Built.{Built, IsGrown, IsNextParent, tree_so_far, with_node}
 use Rattle.game_tree.specs.Stored.{IsMainEnd, one_if}
-use Rattle.game_tree.specs.Tree.{Tree, Node, IsAbove, IsNodeOnBoard, node_count, node_at, parent_of, next_sibling_of, move_number_of}
+use Rattle.game_tree.specs.Tree.{Node, IsAbove, IsNodeOnBoard, node_count, node_at, parent_of, next_sibling_of, move_number_of}
 use Rattle.game_tree.proofs.Paths.{IsAbove-same, move_number-same, move_number-parent, move_number-root}
 use Rattle.game_tree.proofs.Trees.{cases_Option, parent-in_range, parent-lt, next_sibling-is, next_sibling-none, next_sibling-found, next_sibling-missing, next_sibling-root}
 
@@ -62,10 +61,13 @@ module _ (b : Built) (parent : Option ℕ) (played : Option Move) where
               elim (cases_Option parent) [
                 | inl e ↦ absurd (omega (arith, ap length (next_parent-none b parent next e)))
                 | inr p ↦
-                    let q = next_parent-some b parent p.0 next p.1 in
-                    (p.0, ap (parent_of (tree_so_far (with_node b parent played))) (sym here) ∙ parent-last ∙ p.1, omega (arith, q.1),
-                    subst (λ (i : ℕ). IsAbove (tree_so_far (with_node b parent played)) p.0 (i - 1)) here
-                    (IsAbove-same (tree_so_far b) (tree_so_far (with_node b parent played)) (length b.nodes) grown parent-before q.2 (omega (arith, q.0))))
+                    let q = next_parent-some b parent p.0 next p.1 in (
+                      p.0,
+                      ap (parent_of (tree_so_far (with_node b parent played))) (sym here) ∙ parent-last ∙ p.1,
+                      omega (arith, q.1),
+                      subst (λ (i : ℕ). IsAbove (tree_so_far (with_node b parent played)) p.0 (i - 1)) here
+                          (IsAbove-same (tree_so_far b) (tree_so_far (with_node b parent played)) (length b.nodes) grown parent-before q.2 (omega (arith, q.0))),
+                    )
               ]
         ]
 
@@ -115,7 +117,7 @@ module _ (b : Built) (parent : Option ℕ) (played : Option Move) where
         elim (cases_Option parent) [
           | inl e ↦ next_sibling-root (tree_so_far (with_node b parent played)) (length b.nodes) (parent-last ∙ e)
           | inr p ↦ next_sibling-none (tree_so_far (with_node b parent played)) p.0 (length b.nodes) (parent-last ∙ p.1)
-            (λ j later ej. absurd (omega (arith, node_count-more, parent-in_range (tree_so_far (with_node b parent played)) j p.0 ej)))
+              (λ j later ej. absurd (omega (arith, node_count-more, parent-in_range (tree_so_far (with_node b parent played)) j p.0 ej)))
         ]
 
     -- where the nodes of a last child keep their next siblings

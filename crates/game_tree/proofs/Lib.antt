@@ -1,21 +1,23 @@
 mod StoredBuilds
 mod StoredGrowth
 mod StoredTrees
+pub mod Branchings
 pub mod Climbs
 pub mod Colons
 pub mod Growth
 pub mod MainLines
+pub mod NodeValues
+pub mod Parts
 pub mod Passes
 pub mod Paths
 pub mod Properties
 pub mod Ranges
+pub mod ReadCollections
+pub mod ReadValues
+pub mod Roots
 pub mod SimpleTexts
+pub mod Splits
+pub mod Subtrees
 pub mod Trees
 pub mod Trimming
 pub mod Values
-pub mod NodeValues
-pub mod Splits
-pub mod ReadValues
-pub mod ReadCollections
-pub mod Parts
-pub mod Roots

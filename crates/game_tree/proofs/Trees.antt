@@ -1,9 +1,9 @@
 -- The order of a tree's nodes: ancestors, children and siblings by their numbers.
 use Prim.Native.Nat.{zero}
-use Rattle.std.proofs.Common.{◌≡◌, ◌≢◌, ℕ, ◌+◌, ◌-◌, ◌<◌, ◌≤◌, ◌↔◌, ◌⊎◌, suc, eqb, ltb, Bool, true, false, cond, List, [], ◌∷◌, length, get_or, Option, Some, None, All, refl, sym, ◌∙◌, ap, subst, arith, inl, inr}
-use Rattle.std.proofs.lemmas.Bool.{cases_eq, cases_lt, cases_Bool, eq-eqb, eqb-true, lt-ltb, ltb-true, ltb-false, and_from, and_parts, false_from_ne_true, both_ways}
+use Rattle.std.proofs.Common.{◌≡◌, ◌≢◌, ℕ, ◌+◌, ◌-◌, ◌<◌, ◌≤◌, ◌⊎◌, suc, eqb, ltb, Bool, true, false, [], ◌∷◌, Option, Some, None, All, refl, sym, ◌∙◌, ap, subst, arith, inl, inr}
+use Rattle.std.proofs.lemmas.Bool.{cases_eq, cases_lt, eq-eqb, eqb-true, lt-ltb, ltb-true, and_from, and_parts, false_from_ne_true, both_ways}
 use Rattle.std.proofs.lemmas.List.{get_or_past}
-use Rattle.std.proofs.lemmas.List.Elements.{filter_passes, All-filter, All-weaker, All-from_get_or}
+use Rattle.std.proofs.lemmas.List.Elements.{filter_passes, All-weaker}
 use Rattle.std.proofs.lemmas.Option.{same_Some}
 use Rattle.std.specs.Prelude.{filter, option_and_then, ◌&&◌}
 use Rattle.std.specs.List.{range_with_len}
@@ -11,7 +11,7 @@ use Rattle.std.specs.Option.{option_map_or}
 use Rattle.game_tree.specs.Built.{IsGrown}
 use Rattle.game_tree.specs.Tree.{Tree, Node, IsTree, IsAbove, itself, higher, node_count, node_at, parent_of, is_child_of, children_of, first_of, first_child_of, next_sibling_of}
 use Rattle.game_tree.specs.Stored.{siblings_from}
-use Rattle.game_tree.proofs.Ranges.{first_of-is, first_of-found, first_of-missing, filter_none, filter-filter, IsAscending-range, IsAscending, filter-later, first_and_later, filter-twice_later}
+use Rattle.game_tree.proofs.Ranges.{first_of-is, first_of-found, first_of-missing, filter_none, filter-filter, IsAscending-range, first_and_later, filter-twice_later}
 
 -- an option is None or Some
 pub cases_Option : (o : Option ℕ) → (o ≡ None) ⊎ ((m : ℕ) × (o ≡ Some m))
@@ -74,8 +74,9 @@ module _ (tree : Tree) (grown : IsGrown tree) where
   parent-above n m e =
       let p = grown.parents (suc n) (omega arith) (parent-in_range tree (suc n) m e) in
       let same : p.0 ≡ m = same_Some p.0 m (sym p.1 ∙ e) in
-        let before : suc n - 1 ≡ n = omega arith in
+      let before : suc n - 1 ≡ n = omega arith in
       subst (λ (i : ℕ). IsAbove tree i n) same (subst (λ (j : ℕ). IsAbove tree p.0 j) before p.3)
+
   pub IsAbove-le : {a n : ℕ} → IsAbove tree a n → a ≤ n
   IsAbove-le itself = omega arith
   IsAbove-le (higher {a = a} {m = m} {n = n} e above) = omega (arith, parent-lt n m e, IsAbove-le above)
@@ -214,6 +215,7 @@ siblings_from-next tree n = go (parent_of tree n) refl where
       ∙ first_and_later s 0 (filter (is_later tree m n) (range_with_len 0 (node_count tree))) (IsAscending-range (is_later tree m n) 0 (node_count tree)) (sym (next_sibling-parent tree n m e) ∙ f)
       ∙ ap (λ xs. s ∷ xs) rest
       ∙ ap (λ o. s ∷ option_map_or (λ i. filter (ltb s) (children_of tree i)) o []) (sym found.0)
+
   go : (o : Option ℕ) → parent_of tree n ≡ o → siblings_from tree (Some n) ≡ n ∷ siblings_from tree (next_sibling_of tree n)
   go None e =
       ap (λ o. n ∷ option_map_or (λ m. filter (ltb n) (children_of tree m)) o []) e
