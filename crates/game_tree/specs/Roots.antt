@@ -6,7 +6,8 @@ use Rattle.sgf_reader.specs.declared.fault.FaultKind.TheVariants as kind
 use Rattle.sgf_reader.specs.declared.fault.SgfFault.{SgfFault}
 use Rattle.game_tree.specs.declared.property.Identifier.{Identifier}
 use Rattle.game_tree.specs.Property.{IsTrimmed, bytes_of, is_of, mover_of, offset_of}
-use Rattle.game_tree.specs.ValueFaults.{IsMove}
+use Rattle.game_tree.specs.ValueFaults.{IsBoardOf}
+use Rattle.kb_geometry.specs.declared.shape.Shape.{Shape}
 
 -- the letters of an identifier
 abbrev pub letters : Identifier → List ℕ
@@ -24,3 +25,7 @@ IsOtherGame text pair = (inner : List ℕ) × IsTrimmed (bytes_of text pair.valu
 pub data IsGameFault (text : List ℕ) (pairs : List Pair) : Option SgfFault → Type 0 where
   same_game : ((pair : Pair) → first_in text pairs (codes "GM") ≡ Some pair → ¬ IsOtherGame text pair) → IsGameFault text pairs None
   other_game : (pair : Pair) → first_in text pairs (codes "GM") ≡ Some pair → IsOtherGame text pair → IsGameFault text pairs (Some (record { kind = kind.NotGo; at = offset_of pair }))
+
+-- what is wrong where the first SZ value of a root is no size
+abbrev pub IsSizeFault : List ℕ → Option Pair → SgfFault → Type 0
+IsSizeFault text size fault = (pair : Pair) × (size ≡ Some pair) × (fault ≡ record { kind = kind.BadSize; at = offset_of pair }) × ((shape : Shape) → ¬ IsBoardOf text size shape)

@@ -5,13 +5,13 @@ ghost use Rattle.sgf_reader.specs.declared.fault.FaultKind.TheVariants as kind;
 ghost use Rattle.kb_geometry.specs.declared.shape.Shape.{Shape};
 ghost use Rattle.game_tree.specs.NodeValues.{LiesIn};
 ghost use Rattle.game_tree.specs.Property.{bytes_of, offset_of};
-ghost use Rattle.game_tree.specs.Roots.{first_in, letters, IsGameFault, IsOtherGame};
+ghost use Rattle.game_tree.specs.Roots.{first_in, letters, IsGameFault, IsOtherGame, IsSizeFault};
 ghost use Rattle.game_tree.specs.ValueFaults.{IsBoardOf};
 
 use crate::node_values::bytes_of;
 use crate::property::Identifier;
 use crate::value::{size_of, trimmed};
-use kb_geometry::{MAX_SIDE, Shape};
+use kb_geometry::Shape;
 use sgf_reader::{FaultKind, Pair, SgfFault};
 
 // The identifiers of the values of a root that are read.
@@ -70,4 +70,32 @@ fn is_one(text: &[u8]) -> bool
     ensures { IsTrue result ↔ (text.now ≡ codes "1") }
 {
     text == b"1".as_slice()
+}
+
+// The board by the first SZ value of a root, or the fault of a value that is no size.
+pub(crate) fn board_of(text: &[u8], size: Option<Pair>) -> Result<Shape, SgfFault>
+    requires inside { IfSome size (LiesIn (length text.now)) }
+    ensures ok { IfOk result (λ shape. IsBoardOf text.now size shape) }
+    ensures fault { IfErr result (IsSizeFault text.now size) }
+{
+    match size {
+        None => Ok(Shape::standard()),
+        Some(pair) => board_by(text, pair),
+    }
+}
+
+// The board by an SZ value: an empty one is that of the standard board.
+fn board_by(text: &[u8], pair: Pair) -> Result<Shape, SgfFault>
+    requires inside { LiesIn (length text.now) pair }
+    ensures ok { IfOk result (λ shape. IsBoardOf text.now (Some pair) shape) }
+    ensures fault { IfErr result (IsSizeFault text.now (Some pair)) }
+{
+    let value = trimmed(bytes_of(text, pair.value));
+    if value.is_empty() {
+        return Ok(Shape::standard());
+    }
+    match size_of(value) {
+        Some(shape) => Ok(shape),
+        None => Err(fault_of(FaultKind::BadSize, pair)),
+    }
 }
