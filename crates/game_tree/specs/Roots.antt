@@ -6,7 +6,7 @@ use Rattle.sgf_reader.specs.declared.fault.FaultKind.TheVariants as kind
 use Rattle.sgf_reader.specs.declared.fault.SgfFault.{SgfFault}
 use Rattle.game_tree.specs.declared.property.Identifier.{Identifier}
 use Rattle.game_tree.specs.Property.{IsTrimmed, bytes_of, is_of, mover_of, offset_of}
-use Rattle.game_tree.specs.ValueFaults.{IsBoardOf}
+use Rattle.game_tree.specs.ValueFaults.{IsBoardOf, IsMove}
 use Rattle.kb_geometry.specs.declared.shape.Shape.{Shape}
 
 -- the letters of an identifier
@@ -29,3 +29,16 @@ pub data IsGameFault (text : List ℕ) (pairs : List Pair) : Option SgfFault →
 -- what is wrong where the first SZ value of a root is no size
 abbrev pub IsSizeFault : List ℕ → Option Pair → SgfFault → Type 0
 IsSizeFault text size fault = (pair : Pair) × (size ≡ Some pair) × (fault ≡ record { kind = kind.BadSize; at = offset_of pair }) × ((shape : Shape) → ¬ IsBoardOf text size shape)
+
+-- a value that is the second move among these
+pub record IsSecond (text : List ℕ) (pairs : List Pair) (pair : Pair) : Type 0 where
+  pub before : List Pair
+  pub after : List Pair
+  pub split : pairs ≡ before ++ pair ∷ after
+  pub moves : IsMove text pair
+  pub counted : count_by (λ (p : Pair). is_some (mover_of text p)) before ≡ 1
+
+-- what is wrong with the moves of a node: nothing, or a second one stands there
+pub data IsSecondMove (text : List ℕ) (pairs : List Pair) : Option SgfFault → Type 0 where
+  one_at_most : ((pair : Pair) → ¬ IsSecond text pairs pair) → IsSecondMove text pairs None
+  second_stands : (pair : Pair) → IsSecond text pairs pair → IsSecondMove text pairs (Some (record { kind = kind.TwoMoves; at = offset_of pair }))

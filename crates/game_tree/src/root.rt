@@ -1,22 +1,22 @@
 // What the root of a game says of the game as a whole.
-ghost use Rattle.std.specs.Prelude.{◌≡◌, ◌≢◌, ◌≤◌, ℕ, List, [], ◌∷◌, length, All, Option, Some, None, IfOk, IfErr, IfSome, Err, IsTrue, ◌↔◌, codes};
+ghost use Rattle.std.specs.Prelude.{◌≡◌, ◌≢◌, ◌≤◌, ℕ, List, [], ◌∷◌, length, All, Option, Some, None, IfOk, IfErr, IfSome, Err, IsTrue, ◌↔◌, ◌⊎◌, codes, is_some};
 ghost use Rattle.sgf_reader.specs.declared.fault.SgfFault.{SgfFault};
 ghost use Rattle.sgf_reader.specs.declared.fault.FaultKind.TheVariants as kind;
 ghost use Rattle.kb_geometry.specs.declared.shape.Shape.{Shape};
 ghost use Rattle.game_tree.specs.NodeValues.{LiesIn};
-ghost use Rattle.game_tree.specs.Property.{bytes_of, offset_of};
-ghost use Rattle.game_tree.specs.Roots.{first_in, letters, IsGameFault, IsOtherGame, IsSizeFault};
+ghost use Rattle.game_tree.specs.Property.{bytes_of, mover_of, offset_of};
+ghost use Rattle.game_tree.specs.Roots.{first_in, letters, IsGameFault, IsOtherGame, IsSecondMove, IsSizeFault};
 ghost use Rattle.game_tree.specs.ValueFaults.{IsBoardOf};
 
 use crate::node_values::bytes_of;
-use crate::property::Identifier;
+use crate::property::{Identifier, Property};
 use crate::value::{size_of, trimmed};
 use kb_geometry::Shape;
 use sgf_reader::{FaultKind, Pair, SgfFault};
 
 // The identifiers of the values of a root that are read.
-const GAME: Identifier = Identifier { first: b'G', second: b'M' };
-const SIZE: Identifier = Identifier { first: b'S', second: b'Z' };
+pub(crate) const GAME: Identifier = Identifier { first: b'G', second: b'M' };
+pub(crate) const SIZE: Identifier = Identifier { first: b'S', second: b'Z' };
 
 // A fault at the `[` of a value.
 pub(crate) fn fault_of(kind: FaultKind, pair: Pair) -> SgfFault
@@ -97,5 +97,47 @@ fn board_by(text: &[u8], pair: Pair) -> Result<Shape, SgfFault>
     match size_of(value) {
         Some(shape) => Ok(shape),
         None => Err(fault_of(FaultKind::BadSize, pair)),
+    }
+}
+
+// The fault of a second move among the values of one node.
+pub(crate) fn second_move(text: &[u8], pairs: &[Pair]) -> Option<SgfFault>
+    requires inside { All (LiesIn (length text.now)) pairs.now }
+    ensures { IsSecondMove text.now pairs.now result }
+{
+    let mut seen = false;
+    for pair in pairs {
+        if is_move(text, pair) {
+            if seen {
+                return Some(fault_of(FaultKind::TwoMoves, *pair));
+            }
+            seen = true;
+        }
+    }
+    None
+}
+
+// Whether a value is a move.
+fn is_move(text: &[u8], pair: &Pair) -> bool
+    requires inside { LiesIn (length text.now) pair.now }
+    ensures { result ≡ is_some (mover_of text.now pair.now) }
+{
+    match Property::of(bytes_of(text, pair.name)) {
+        Property::Moves(_) => true,
+        Property::Sets(_) => false,
+        Property::Other => false,
+    }
+}
+
+// The one of two faults that comes first; the other may be none.
+pub(crate) fn first_fault(fault: SgfFault, other: Option<SgfFault>) -> SgfFault
+    ensures one { (result ≡ fault) ⊎ (other ≡ Some result) }
+    ensures least { result.at ≤ fault.at }
+    ensures least_other { IfSome other (λ o. result.at ≤ o.at) }
+{
+    match other {
+        Some(other) if other.at < fault.at => other,
+        Some(_) => fault,
+        None => fault,
     }
 }
