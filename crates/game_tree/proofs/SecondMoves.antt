@@ -38,6 +38,11 @@ module _ (text : List ℕ) where
       let parts = ap moves_in second.split in
       let front = sum_by-append (λ (p : Pair). cond (is_some (mover_of text p)) 1 0) second.before (pair ∷ second.after) in
       let back = sum_by-cons (λ (p : Pair). cond (is_some (mover_of text p)) 1 0) pair second.after in
-      let here : cond (is_some (mover_of text pair)) 1 0 ≡ 1 = ap (λ b. cond b 1 0) second.moves in
+      let here : ◌≡◌ {A = ℕ} (cond (is_some (mover_of text pair)) 1 0) 1 = ap (λ b. cond b 1 0) second.moves in
       let counted = second.counted in
       omega (arith, parts, front, back, here, counted, few))
+
+  -- how many moves there are where all were looked at
+  pub few_at_end : (pairs : List Pair) (i : ℕ) (seen : Bool) → length pairs ≤ i → moves_in (take i pairs) ≡ cond seen 1 0 → moves_in pairs ≤ 1
+  few_at_end pairs i true ended counted = let e : moves_in pairs ≡ 1 = ap moves_in (sym (take_all i pairs ended)) ∙ counted in omega (arith, e)
+  few_at_end pairs i false ended counted = let e : moves_in pairs ≡ 0 = ap moves_in (sym (take_all i pairs ended)) ∙ counted in omega (arith, e)
