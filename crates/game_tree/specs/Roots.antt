@@ -6,6 +6,8 @@ use Rattle.sgf_reader.specs.declared.fault.FaultKind.TheVariants as kind
 use Rattle.sgf_reader.specs.declared.fault.SgfFault.{SgfFault}
 use Rattle.game_tree.specs.declared.property.Identifier.{Identifier}
 use Rattle.game_tree.specs.Property.{IsTrimmed, bytes_of, is_of, mover_of, offset_of}
+use Rattle.game_tree.specs.Information.{Information}
+use Rattle.game_tree.specs.Trees.{IsTextOf}
 use Rattle.game_tree.specs.ValueFaults.{IsBoardOf, IsMove}
 use Rattle.kb_geometry.specs.declared.shape.Shape.{Shape}
 
@@ -42,3 +44,12 @@ pub record IsSecond (text : List ℕ) (pairs : List Pair) (pair : Pair) : Type 0
 pub data IsSecondMove (text : List ℕ) (pairs : List Pair) : Option SgfFault → Type 0 where
   one_at_most : ((pair : Pair) → ¬ IsSecond text pairs pair) → IsSecondMove text pairs None
   second_stands : (pair : Pair) → IsSecond text pairs pair → IsSecondMove text pairs (Some (record { kind = kind.TwoMoves; at = offset_of pair }))
+
+-- the information that these values of a root tell
+pub record IsInformationIn (text : List ℕ) (pairs : List Pair) (info : Information) : Type 0 where
+  pub black : IsTextOf text (first_in text pairs (codes "PB")) info.black
+  pub white : IsTextOf text (first_in text pairs (codes "PW")) info.white
+  pub event : IsTextOf text (first_in text pairs (codes "EV")) info.event
+  pub place : IsTextOf text (first_in text pairs (codes "PC")) info.place
+  pub date : IsTextOf text (first_in text pairs (codes "DT")) info.date
+  pub outcome_text : IsTextOf text (first_in text pairs (codes "RE")) info.outcome_text

@@ -5,18 +5,28 @@ ghost use Rattle.sgf_reader.specs.declared.fault.FaultKind.TheVariants as kind;
 ghost use Rattle.kb_geometry.specs.declared.shape.Shape.{Shape};
 ghost use Rattle.game_tree.specs.NodeValues.{LiesIn};
 ghost use Rattle.game_tree.specs.Property.{bytes_of, mover_of, offset_of};
-ghost use Rattle.game_tree.specs.Roots.{first_in, letters, IsGameFault, IsOtherGame, IsSecondMove, IsSizeFault};
+ghost use Rattle.game_tree.specs.Roots.{first_in, letters, IsGameFault, IsOtherGame, IsInformationIn, IsSecondMove, IsSizeFault};
+ghost use Rattle.game_tree.specs.Trees.{IsTextOf};
 ghost use Rattle.game_tree.specs.ValueFaults.{IsBoardOf};
 
 use crate::node_values::bytes_of;
 use crate::property::{Identifier, Property};
+use crate::simple_text::simple_text;
 use crate::value::{size_of, trimmed};
-use kb_geometry::Shape;
+use crate::{Bytes, Info};
+use kb_geometry::{NoMemory, Shape};
 use sgf_reader::{FaultKind, Pair, SgfFault};
+use std::alloc::Global;
 
 // The identifiers of the values of a root that are read.
-pub(crate) const GAME: Identifier = Identifier { first: b'G', second: b'M' };
+const GAME: Identifier = Identifier { first: b'G', second: b'M' };
 pub(crate) const SIZE: Identifier = Identifier { first: b'S', second: b'Z' };
+const BLACK_NAME: Identifier = Identifier { first: b'P', second: b'B' };
+const WHITE_NAME: Identifier = Identifier { first: b'P', second: b'W' };
+const EVENT: Identifier = Identifier { first: b'E', second: b'V' };
+const PLACE: Identifier = Identifier { first: b'P', second: b'C' };
+const DATE: Identifier = Identifier { first: b'D', second: b'T' };
+const RESULT: Identifier = Identifier { first: b'R', second: b'E' };
 
 // A fault at the `[` of a value.
 pub(crate) fn fault_of(kind: FaultKind, pair: Pair) -> SgfFault
@@ -139,5 +149,35 @@ pub(crate) fn first_fault(fault: SgfFault, other: Option<SgfFault>) -> SgfFault
         Some(other) if other.at < fault.at => other,
         Some(_) => fault,
         None => fault,
+    }
+}
+
+// The information of a game, by the first values of its root.
+pub(crate) fn information(alloc: Global, text: &[u8], pairs: &[Pair]) -> Result<Info, NoMemory>
+    requires inside { All (LiesIn (length text.now)) pairs.now }
+    ensures { IfOk result (IsInformationIn text.now pairs.now) }
+{
+    let black = text_of(alloc, text, pairs, BLACK_NAME)?;
+    let white = text_of(alloc, text, pairs, WHITE_NAME)?;
+    let event = text_of(alloc, text, pairs, EVENT)?;
+    let place = text_of(alloc, text, pairs, PLACE)?;
+    let date = text_of(alloc, text, pairs, DATE)?;
+    let result = text_of(alloc, text, pairs, RESULT)?;
+    Ok(Info::new(black, white, event, place, date, result))
+}
+
+// The first value of a property as SimpleText; the empty text where there is none.
+fn text_of(
+    alloc: Global,
+    text: &[u8],
+    pairs: &[Pair],
+    identifier: Identifier,
+) -> Result<Bytes, NoMemory>
+    requires inside { All (LiesIn (length text.now)) pairs.now }
+    ensures { IfOk result (IsTextOf text.now (first_in text.now pairs.now (letters identifier))) }
+{
+    match first_of(text, pairs, identifier) {
+        None => Ok(Bytes::new(Vec::new(alloc))),
+        Some(pair) => simple_text(alloc, bytes_of(text, pair.value)),
     }
 }
