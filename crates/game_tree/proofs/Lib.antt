@@ -22,3 +22,4 @@ pub mod Trees
 pub mod Trimming
 pub mod Values
 pub mod SecondMoves
+pub mod GameFaults

@@ -1,4 +1,5 @@
 pub mod Built
+pub mod GameFaults
 pub mod Information
 pub mod MainLine
 pub mod NodeValues
