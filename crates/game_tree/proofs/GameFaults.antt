@@ -18,7 +18,7 @@ use Rattle.sgf_reader.specs.declared.fault.SgfFault.{SgfFault}
 use Rattle.game_tree.specs.GameFaults.{HasGameFault, IsFirstGameFault, in_node, no_size, other_game, second_move}
 use Rattle.game_tree.specs.NodeValues.{Ascend, ComesFirst, HasNodeFault, HasPairFault, IsFirstNodeFault, LiesIn, bad_move, bad_setup, second_of_two}
 use Rattle.game_tree.specs.Property.{bytes_of, first_pair, identifier_of, is_of, mover_named, mover_of, offset_of, root_pairs, setter_named, setter_of}
-use Rattle.game_tree.specs.Roots.{IsGameFault, IsOtherGame, IsSecond, IsSecondMove, IsSizeFault, first_in}
+use Rattle.game_tree.specs.Roots.{IsGameFault, IsOtherGame, IsSecond, IsSecondMove, IsSizeFault, first_in, same_game}
 use Rattle.game_tree.specs.ValueFaults.{IsBoard, IsMove}
 use Rattle.game_tree.proofs.Parts.{AllPairs-across, AllPairs-back, AllPairs-front, Contains-head, Contains-later}
 use Rattle.game_tree.proofs.ReadCollections.{node_pairs}
@@ -51,6 +51,18 @@ find_there text (p ∷ pairs) name pair e = go (λ later. find_there text pairs 
         let same : p ≡ pair = cc in
         (subst (Contains (p ∷ pairs)) same (Contains-head p pairs), named (identifier_of text pair) name (subst (λ q. is_of text name q ≡ true) same so))
     go later false so e = let (there, is) = later e in (Contains-later p pairs pair there, is)
+
+-- what a list of one element more has
+cons_cases : (node : RawNode) (rest : List RawNode) (n : RawNode) → Contains (node ∷ rest) n → (node ≡ n) ⊎ Contains rest n
+cons_cases node rest n (zero, below, is) = inl is
+cons_cases node rest n (suc k, below, is) = inr (k, omega (arith, below), is)
+
+one_found : {found : Option Pair} {p q : Pair} → found ≡ Some p → found ≡ Some q → p ≡ q
+one_found e f = cc
+
+-- the first GM value of a root that says nothing else isn't of another game
+none_other : (text : List ℕ) (raw : RawGame) → IsGameFault text (root_pairs raw) None → (pair : Pair) → first_pair text raw (codes "GM") ≡ Some pair → ¬ IsOtherGame text pair
+none_other text raw (same_game none) pair found = none pair found
 
 -- ---- the values of a game
 
@@ -87,3 +99,114 @@ module _ (text : List ℕ) (raw : RawGame) (inside : All (LiesIn (length text)) 
       let order = AllPairs-across (λ (a b : Pair). a.value.from < b.value.from) node.pairs (node_pairs rest) p q tail there later in
       let some = bracket p (in_game raw.nodes node p (subst (λ ns. Contains ns node) (sym is) (Contains-append_right done (node ∷ rest) node (Contains-head node rest))) there) in
       omega (arith, order, some)
+
+  -- the value of a fault of a node
+  fault_there : (shape : Shape) (node : RawNode) (of : FaultKind) (at : ℕ) (f : HasNodeFault text shape node.pairs of at) → Contains node.pairs f.pair
+  fault_there shape node of at f = subst (λ ps. Contains ps f.pair) (sym f.split) (Contains-append_right f.before (f.pair ∷ f.after) f.pair (Contains-head f.pair f.after))
+
+  -- a fault of a node that comes first among the node's, behind nodes without one, comes first among those of all nodes
+  pub first_of_nodes : (shape : Shape) (done : List RawNode) (node : RawNode) (rest : List RawNode) (of : FaultKind) (at : ℕ) → raw.nodes ≡ done ++ node ∷ rest → ((n : RawNode) → Contains done n → (other : FaultKind) (offset : ℕ) → ¬ HasNodeFault text shape n.pairs other offset) → IsFirstNodeFault text shape node.pairs of at → (n : RawNode) → Contains raw.nodes n → (other : FaultKind) (offset : ℕ) → HasNodeFault text shape n.pairs other offset → ComesFirst of at other offset
+  first_of_nodes shape done node rest of at is clean first n there other offset f =
+      elim (Contains-append_cases done (node ∷ rest) n (subst (λ ns. Contains ns n) is there)) [
+        | inl before ↦ absurd (clean n before other offset f)
+        | inr later ↦ elim (cons_cases node rest n later) [
+          | inl same ↦ first.first other offset (subst (λ (m : RawNode). HasNodeFault text shape m.pairs other offset) (sym same) f)
+          | inr behind ↦
+              let here = first.there in
+              let order = earlier done node rest here.pair f.pair is (fault_there shape node of at here) (in_game rest n f.pair behind (fault_there shape n other offset f)) in
+              inl (omega (arith, order, here.here, f.here))
+        ]
+      ]
+
+  -- ---- a game on a board
+
+  module _ (shape : Shape) (board : IsBoard text raw shape) (once : (a b : Shape) → IsBoard text raw a → IsBoard text raw b → a ≡ b) where
+    -- what can be wrong with the game: what it is, or a node
+    pub on_board_faults : (of : FaultKind) (at : ℕ) → HasGameFault text raw of at → ((pair : Pair) × (first_pair text raw (codes "GM") ≡ Some pair) × IsOtherGame text pair × (of ≡ kind.NotGo) × (at ≡ offset_of pair)) ⊎ ((node : RawNode) × Contains raw.nodes node × HasNodeFault text shape node.pairs of at)
+    on_board_faults _ _ (other_game pair found other) = inl (pair, found, other, refl, refl)
+    on_board_faults _ _ (no_size pair found none) = absurd (none shape board)
+    on_board_faults of at (in_node shape' node board' there f) = inr (node, there, subst (λ s. HasNodeFault text s node.pairs of at) (once shape' shape board' board) f)
+    on_board_faults _ _ (second_move node pair there second) = inr (node, there, record { before = second.before; pair = pair; after = second.after; split = second.split; fault = second_of_two second.moves second.counted; here = refl })
+
+    -- no fault where the game is Go and no node has one
+    pub clean_game : IsGameFault text (root_pairs raw) None → ((n : RawNode) → Contains raw.nodes n → (other : FaultKind) (offset : ℕ) → ¬ HasNodeFault text shape n.pairs other offset) → (of : FaultKind) (at : ℕ) → ¬ HasGameFault text raw of at
+    clean_game go clean of at f =
+        elim (on_board_faults of at f) [
+          | inl (pair, found, other, _, _) ↦ none_other text raw go pair found other
+          | inr (node, there, g) ↦ clean node there of at g
+        ]
+
+    -- the first fault of a game that is Go
+    pub first_of_game : (done : List RawNode) (node : RawNode) (rest : List RawNode) (of : FaultKind) (at : ℕ) → raw.nodes ≡ done ++ node ∷ rest → IsGameFault text (root_pairs raw) None → ((n : RawNode) → Contains done n → (other : FaultKind) (offset : ℕ) → ¬ HasNodeFault text shape n.pairs other offset) → IsFirstNodeFault text shape node.pairs of at → IsFirstGameFault text raw of at
+    first_of_game done node rest of at is go clean first = record {
+      there = in_node shape node board (subst (λ ns. Contains ns node) (sym is) (Contains-append_right done (node ∷ rest) node (Contains-head node rest))) first.there;
+      first = λ other offset f. elim (on_board_faults other offset f) [
+        | inl (pair, found, bad, _, _) ↦ absurd (none_other text raw go pair found bad)
+        | inr (n, there, g) ↦ first_of_nodes shape done node rest of at is clean first n there other offset g
+      ];
+    }
+
+    -- the first fault of a game that is another one
+    module _ (root : RawNode) (others : List RawNode) (is : raw.nodes ≡ root ∷ others) (pair : Pair) (found : first_pair text raw (codes "GM") ≡ Some pair) (bad : IsOtherGame text pair) where
+      game_value_there : Contains root.pairs pair
+      game_value_there = (find_there text root.pairs (codes "GM") pair (ap (λ ns. first_in text (option_map_or (λ (n : RawNode). n.pairs) (slice_get ns 0) []) (codes "GM")) (sym is) ∙ found)).0
+
+      pub other_game_first : ((other : FaultKind) (offset : ℕ) → ¬ HasNodeFault text shape root.pairs other offset) → IsFirstGameFault text raw kind.NotGo (offset_of pair)
+      other_game_first clean = record {
+        there = other_game pair found bad;
+        first = λ other offset f. elim (on_board_faults other offset f) [
+          | inl (q, found_q, _, of, at) ↦ inr (ap offset_of (one_found found found_q) ∙ sym at, inl of)
+          | inr (n, there, g) ↦ elim (cons_cases root others n (subst (λ ns. Contains ns n) is there)) [
+            | inl same ↦ absurd (clean other offset (subst (λ (m : RawNode). HasNodeFault text shape m.pairs other offset) (sym same) g))
+            | inr behind ↦ inl (omega (arith, earlier [] root others pair g.pair is (game_value_there) (in_game others n g.pair behind (fault_there shape n other offset g)), g.here))
+          ]
+        ];
+      }
+
+      -- a fault of a root's value stands elsewhere than its GM value
+      apart_from_game : (of : FaultKind) (at : ℕ) → HasNodeFault text shape root.pairs of at → at ≢ offset_of pair
+      apart_from_game of at f same =
+          let named_so = (find_there text root.pairs (codes "GM") pair (ap (λ ns. first_in text (option_map_or (λ (n : RawNode). n.pairs) (slice_get ns 0) []) (codes "GM")) (sym is) ∙ found)).1 in
+          let whole = λ (p : Pair). λ (there : Contains root.pairs p). in_game raw.nodes root p (subst (λ ns. Contains ns root) (sym is) (Contains-head root others)) there in
+          let one = same_value f.pair pair (whole f.pair (fault_there shape root of at f)) (whole pair game_value_there) (sym f.here ∙ same) in
+          acts text shape f.before f.pair of f.fault (subst (λ p. (mover_of text p ≡ None) × (setter_of text p ≡ None)) (sym one) (does_nothing text pair (inl named_so)))
+
+      -- what comes no later than another, and elsewhere, comes first
+      before_it : {of other : FaultKind} {at offset : ℕ} → at ≤ offset → at ≢ offset → ComesFirst of at other offset
+      before_it {at = at} {offset = offset} le apart = elim (cases_order at offset) [
+        | inl e ↦ absurd (apart e)
+        | inr side ↦ elim side [ inl l ↦ inl l | inr l ↦ absurd (omega arith) ]
+      ]
+
+      -- what comes before a first fault comes before each other
+      before_all : {of first other : FaultKind} {at place offset : ℕ} → at < place → ComesFirst first place other offset → ComesFirst of at other offset
+      before_all lt (inl l) = inl (omega arith)
+      before_all lt (inr (e, _)) = inl (omega (arith, e))
+
+      -- the first of a root's faulty value and its GM value
+      pub both_first : (of : FaultKind) (at : ℕ) (result : SgfFault) → IsFirstNodeFault text shape root.pairs of at → (result ≡ record { kind = of; at = at }) ⊎ (result ≡ record { kind = kind.NotGo; at = offset_of pair }) → result.at ≤ at → result.at ≤ offset_of pair → IsFirstGameFault text raw result.kind result.at
+      both_first of at result first (inl e) le le_game = subst (λ (r : SgfFault). IsFirstGameFault text raw r.kind r.at) (sym e) (record {
+        there = in_node shape root board (subst (λ ns. Contains ns root) (sym is) (Contains-head root others)) first.there;
+        first = λ other offset f. elim (on_board_faults other offset f) [
+          | inl (q, found_q, _, _, at_q) ↦ before_it (omega (arith, le_game, ap (λ (r : SgfFault). r.at) e, at_q, ap offset_of (one_found found found_q))) (λ same. apart_from_game of at first.there (same ∙ at_q ∙ sym (ap offset_of (one_found found found_q))))
+          | inr (n, there, g) ↦ first_of_nodes shape [] root others of at is (λ m none. absurd (no_node m none)) first n there other offset g
+        ];
+      })
+        where
+          no_node : (m : RawNode) → ¬ Contains [] m
+          no_node m (k, below, same) = omega arith
+      both_first of at result first (inr e) le le_game = subst (λ (r : SgfFault). IsFirstGameFault text raw r.kind r.at) (sym e) (record {
+        there = other_game pair found bad;
+        first = λ other offset f. elim (on_board_faults other offset f) [
+          | inl (q, found_q, _, of_q, at_q) ↦ inr (ap offset_of (one_found found found_q) ∙ sym at_q, inl of_q)
+          | inr (n, there, g) ↦ before_all (strict (omega (arith, le, ap (λ (r : SgfFault). r.at) e))) (first_of_nodes shape [] root others of at is (λ m none. absurd (no_node m none)) first n there other offset g)
+        ];
+      })
+        where
+          no_node : (m : RawNode) → ¬ Contains [] m
+          no_node m (k, below, same) = omega arith
+          strict : offset_of pair ≤ at → offset_of pair < at
+          strict le = elim (cases_order (offset_of pair) at) [
+            | inl same ↦ absurd (apart_from_game of at first.there (sym same))
+            | inr side ↦ elim side [ inl l ↦ l | inr l ↦ absurd (omega arith) ]
+          ]
