@@ -18,7 +18,9 @@ use Rattle.sgf_reader.specs.declared.fault.SgfFault.{SgfFault}
 use Rattle.game_tree.specs.GameFaults.{HasGameFault, IsFirstGameFault, in_node, no_size, other_game, second_move}
 use Rattle.game_tree.specs.NodeValues.{Ascend, ComesFirst, HasNodeFault, HasPairFault, IsFirstNodeFault, LiesIn, bad_move, bad_setup, second_of_two}
 use Rattle.game_tree.specs.Property.{bytes_of, first_pair, identifier_of, is_of, mover_named, mover_of, offset_of, root_pairs, setter_named, setter_of}
-use Rattle.game_tree.specs.Roots.{IsGameFault, IsOtherGame, IsSecond, IsSecondMove, IsSizeFault, first_in, same_game}
+use Rattle.game_tree.specs.Roots.{IsGameFault, IsOtherGame, IsSecond, IsSecondMove, IsSizeFault, first_in, one_at_most, same_game, second_stands}
+use Rattle.game_tree.specs.Roots as roots
+use Rattle.game_tree.proofs.SecondMoves.{second_once}
 use Rattle.game_tree.specs.ValueFaults.{IsBoard, IsMove}
 use Rattle.game_tree.proofs.Parts.{AllPairs-across, AllPairs-back, AllPairs-front, Contains-head, Contains-later}
 use Rattle.game_tree.proofs.ReadCollections.{node_pairs}
@@ -28,6 +30,9 @@ use Rattle.game_tree.proofs.ReadCollections.{node_pairs}
 -- a value with this identifier has no other
 named : (name other : List ℕ) → bytes_eq name other ≡ true → name ≡ other
 named name other e = (bytes_eq-Decides name other).0 e
+
+letters_differ : ¬ (codes "SZ" ≡ codes "GM")
+letters_differ e = let first : ◌≡◌ {A = ℕ} 83 71 = ap (λ (l : List ℕ). get_or l 0 0) e in omega (arith, first)
 
 -- what does something at a node is neither a GM nor an SZ value
 does_nothing : (text : List ℕ) (pair : Pair) → (identifier_of text pair ≡ codes "GM") ⊎ (identifier_of text pair ≡ codes "SZ") → (mover_of text pair ≡ None) × (setter_of text pair ≡ None)
@@ -210,3 +215,113 @@ module _ (text : List ℕ) (raw : RawGame) (inside : All (LiesIn (length text)) 
             | inl same ↦ absurd (apart_from_game of at first.there (sym same))
             | inr side ↦ elim side [ inl l ↦ l | inr l ↦ absurd (omega arith) ]
           ]
+
+  -- ---- a game without a board
+
+  module _ (root : RawNode) (others : List RawNode) (is : raw.nodes ≡ root ∷ others) (sized : Pair) (found_size : first_pair text raw (codes "SZ") ≡ Some sized) (none : (shape : Shape) → ¬ IsBoard text raw shape) where
+    -- the first of a root's values with this identifier is one of its values
+    in_root : (name : List ℕ) (pair : Pair) → first_pair text raw name ≡ Some pair → Contains root.pairs pair × (identifier_of text pair ≡ name)
+    in_root name pair found = find_there text root.pairs name pair (ap (λ ns. first_in text (option_map_or (λ (n : RawNode). n.pairs) (slice_get ns 0) []) name) (sym is) ∙ found)
+
+    one_place : (p q : Pair) → Contains root.pairs p → Contains root.pairs q → offset_of p ≡ offset_of q → p ≡ q
+    one_place p q there here same =
+        let root_there = subst (λ ns. Contains ns root) (sym is) (Contains-head root others) in
+        same_value p q (in_game raw.nodes root p root_there there) (in_game raw.nodes root q root_there here) same
+
+    second_there : (pair : Pair) → IsSecond text root.pairs pair → Contains root.pairs pair
+    second_there pair second = subst (λ ps. Contains ps pair) (sym second.split) (Contains-append_right second.before (pair ∷ second.after) pair (Contains-head pair second.after))
+
+    -- what the answer is: the size, the game, or a second move
+    pub data IsRootFault : FaultKind → ℕ → Type 0 where
+      of_size : IsRootFault kind.BadSize (offset_of sized)
+      of_game : (pair : Pair) → first_pair text raw (codes "GM") ≡ Some pair → IsOtherGame text pair → IsRootFault kind.NotGo (offset_of pair)
+      of_moves : (pair : Pair) → IsSecond text root.pairs pair → IsRootFault kind.TwoMoves (offset_of pair)
+
+    -- it is a fault of the game
+    root_fault : (of : FaultKind) (at : ℕ) → IsRootFault of at → HasGameFault text raw of at
+    root_fault _ _ of_size = no_size sized found_size none
+    root_fault _ _ (of_game pair found bad) = other_game pair found bad
+    root_fault _ _ (of_moves pair second) = second_move root pair (subst (λ ns. Contains ns root) (sym is) (Contains-head root others)) second
+
+    root_value : (of : FaultKind) (at : ℕ) → IsRootFault of at → (pair : Pair) × Contains root.pairs pair × (at ≡ offset_of pair)
+    root_value _ _ of_size = (sized, (in_root (codes "SZ") sized found_size).0, refl)
+    root_value _ _ (of_game pair found bad) = (pair, (in_root (codes "GM") pair found).0, refl)
+    root_value _ _ (of_moves pair second) = (pair, second_there pair second, refl)
+
+    -- a GM value isn't the SZ value
+    sized_game : (pair : Pair) → first_pair text raw (codes "GM") ≡ Some pair → offset_of sized ≡ offset_of pair → ⊥
+    sized_game pair found same =
+        let (game_there, game_named) = in_root (codes "GM") pair found in
+        let (size_there, size_named) = in_root (codes "SZ") sized found_size in
+        let one = one_place sized pair size_there game_there same in
+        letters_differ (sym size_named ∙ ap (identifier_of text) one ∙ game_named)
+
+    -- a value that does nothing isn't a second move
+    quiet : (pair other : Pair) → (identifier_of text pair ≡ codes "GM") ⊎ (identifier_of text pair ≡ codes "SZ") → Contains root.pairs pair → IsSecond text root.pairs other → offset_of pair ≡ offset_of other → ⊥
+    quiet pair other so there second same =
+        let one = one_place pair other there (second_there other second) same in
+        let still = (does_nothing text pair so).0 in
+        let never : is_some (mover_of text other) ≡ false = ap is_some (subst (λ p. mover_of text p ≡ None) one still) in
+        let moves = second.moves in cc
+
+    -- two such faults at one place are of one kind
+    one_kind : (of other : FaultKind) (at offset : ℕ) → IsRootFault of at → IsRootFault other offset → at ≡ offset → other ≡ of
+    one_kind _ _ _ _ of_size of_size same = refl
+    one_kind _ _ _ _ of_size (of_game pair found bad) same = absurd (sized_game pair found same)
+    one_kind _ _ _ _ of_size (of_moves pair second) same = absurd (quiet sized pair (inr (in_root (codes "SZ") sized found_size).1) (in_root (codes "SZ") sized found_size).0 second same)
+    one_kind _ _ _ _ (of_game pair found bad) of_size same = absurd (sized_game pair found (sym same))
+    one_kind _ _ _ _ (of_game pair found bad) (of_game other found' bad') same = refl
+    one_kind _ _ _ _ (of_game pair found bad) (of_moves other second) same = absurd (quiet pair other (inl (in_root (codes "GM") pair found).1) (in_root (codes "GM") pair found).0 second same)
+    one_kind _ _ _ _ (of_moves pair second) of_size same = absurd (quiet sized pair (inr (in_root (codes "SZ") sized found_size).1) (in_root (codes "SZ") sized found_size).0 second (sym same))
+    one_kind _ _ _ _ (of_moves pair second) (of_game other found bad) same = absurd (quiet other pair (inl (in_root (codes "GM") other found).1) (in_root (codes "GM") other found).0 second (sym same))
+    one_kind _ _ _ _ (of_moves pair second) (of_moves other second') same = refl
+
+    -- what comes no later than each such fault of the root comes first
+    pub no_board_first : (of : FaultKind) (at : ℕ) → IsRootFault of at → ((other : FaultKind) (offset : ℕ) → IsRootFault other offset → at ≤ offset) → IsFirstGameFault text raw of at
+    no_board_first of at answer least = record { there = root_fault of at answer; first = first }
+      where
+        beside : (other : FaultKind) (offset : ℕ) → IsRootFault other offset → ComesFirst of at other offset
+        beside other offset f = elim (cases_order at offset) [
+          | inl same ↦ inr (same, inl (one_kind of other at offset answer f same))
+          | inr side ↦ elim side [ inl l ↦ inl l | inr l ↦ absurd (omega (arith, least other offset f)) ]
+        ]
+        behind : (node : RawNode) (pair : Pair) → Contains others node → IsSecond text node.pairs pair → at < offset_of pair
+        behind node pair there second =
+            let (value, here, place) = root_value of at answer in
+            let order = earlier [] root others value pair is here (in_game others node pair there (subst (λ ps. Contains ps pair) (sym second.split) (Contains-append_right second.before (pair ∷ second.after) pair (Contains-head pair second.after)))) in
+            omega (arith, order, place)
+        first : (other : FaultKind) (offset : ℕ) → HasGameFault text raw other offset → ComesFirst of at other offset
+        first _ _ (other_game pair found bad) = beside kind.NotGo (offset_of pair) (of_game pair found bad)
+        first _ _ (no_size pair found board) = subst (λ p. ComesFirst of at kind.BadSize (offset_of p)) (one_found found_size found) (beside kind.BadSize (offset_of sized) of_size)
+        first other offset (in_node shape node board there f) = absurd (none shape board)
+        first _ _ (second_move node pair there second) = elim (cons_cases root others node (subst (λ ns. Contains ns node) is there)) [
+          | inl same ↦ beside kind.TwoMoves (offset_of pair) (of_moves pair (subst (λ (n : RawNode). IsSecond text n.pairs pair) (sym same) second))
+          | inr later ↦ inl (behind node pair later second)
+        ]
+
+    -- the answer of a game without a board: the first of the size, the game and a second move of the root
+    pub without_board : (game second : Option SgfFault) (size between result : SgfFault) → IsGameFault text (root_pairs raw) game → IsSecondMove text root.pairs second → size ≡ record { kind = kind.BadSize; at = offset_of sized } → (between ≡ size) ⊎ (game ≡ Some between) → between.at ≤ size.at → IfSome game (λ (g : SgfFault). between.at ≤ g.at) → (result ≡ between) ⊎ (second ≡ Some result) → result.at ≤ between.at → IfSome second (λ (t : SgfFault). result.at ≤ t.at) → IsFirstGameFault text raw result.kind result.at
+    without_board game second size between result game_is second_is size_is one_of le_size le_game last le_between le_second = no_board_first result.kind result.at (answer last) least
+      where
+        game_part : (g : Option SgfFault) → IsGameFault text (root_pairs raw) g → g ≡ Some between → IsRootFault between.kind between.at
+        game_part _ (same_game none_found) e = absurd (cc)
+        game_part _ (roots.other_game pair found bad) e = let same : record { kind = kind.NotGo; at = offset_of pair } ≡ between = cc in subst (λ (f : SgfFault). IsRootFault f.kind f.at) same (of_game pair found bad)
+        between_part : (between ≡ size) ⊎ (game ≡ Some between) → IsRootFault between.kind between.at
+        between_part (inl e) = subst (λ (f : SgfFault). IsRootFault f.kind f.at) (sym (e ∙ size_is)) of_size
+        between_part (inr e) = game_part game game_is e
+        second_part : (t : Option SgfFault) → IsSecondMove text root.pairs t → t ≡ Some result → IsRootFault result.kind result.at
+        second_part _ (one_at_most few) e = absurd (cc)
+        second_part _ (second_stands pair stands) e = let same : record { kind = kind.TwoMoves; at = offset_of pair } ≡ result = cc in subst (λ (f : SgfFault). IsRootFault f.kind f.at) same (of_moves pair stands)
+        answer : (result ≡ between) ⊎ (second ≡ Some result) → IsRootFault result.kind result.at
+        answer (inl e) = subst (λ (f : SgfFault). IsRootFault f.kind f.at) (sym e) (between_part one_of)
+        answer (inr e) = second_part second second_is e
+        game_least : (g : Option SgfFault) → IsGameFault text (root_pairs raw) g → IfSome g (λ (f : SgfFault). between.at ≤ f.at) → (pair : Pair) → first_pair text raw (codes "GM") ≡ Some pair → IsOtherGame text pair → between.at ≤ offset_of pair
+        game_least _ (same_game none_found) le pair found bad = absurd (none_found pair found bad)
+        game_least _ (roots.other_game other found' bad') le pair found bad = subst (λ p. between.at ≤ offset_of p) (one_found found' found) le
+        second_least : (t : Option SgfFault) → IsSecondMove text root.pairs t → IfSome t (λ (f : SgfFault). result.at ≤ f.at) → (pair : Pair) → IsSecond text root.pairs pair → result.at ≤ offset_of pair
+        second_least _ (one_at_most few) le pair stands = absurd (few pair stands)
+        second_least _ (second_stands other stands') le pair stands = subst (λ p. result.at ≤ offset_of p) (second_once text root.pairs other pair stands' stands) le
+        least : (other : FaultKind) (offset : ℕ) → IsRootFault other offset → result.at ≤ offset
+        least _ _ of_size = omega (arith, le_between, le_size, ap (λ (f : SgfFault). f.at) size_is)
+        least _ _ (of_game pair found bad) = omega (arith, le_between, game_least game game_is le_game pair found bad)
+        least _ _ (of_moves pair stands) = second_least second second_is le_second pair stands
