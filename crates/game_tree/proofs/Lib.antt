@@ -5,6 +5,7 @@ pub mod Branchings
 pub mod Climbs
 pub mod Colons
 pub mod Growth
+pub mod HungTrees
 pub mod MainLines
 pub mod NodeValues
 pub mod Parts
