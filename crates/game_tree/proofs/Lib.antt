@@ -5,9 +5,11 @@ pub mod Branchings
 pub mod Climbs
 pub mod Colons
 pub mod Growth
+pub mod HungTrees
 pub mod MainLines
 pub mod NodeValues
 pub mod Parts
+pub mod OneTree
 pub mod Passes
 pub mod Paths
 pub mod Properties

@@ -1,6 +1,8 @@
 -- How the first bytes of a value are read as SimpleText.
 use Rattle.std.proofs.Common.{◌≡◌, ◌≢◌, ◌≤◌, ◌<◌, ◌⊎◌, ◌++◌, ◌∙◌, ◌-◌, ℕ, List, [], ◌∷◌, length, take, drop, get_or, Option, Some, None, refl, sym, ap, subst, inl, inr, arith}
 use Rattle.std.proofs.lemmas.List.{append-nil, take_all}
+use Rattle.std.proofs.lemmas.List.Elements.{All-cons, All-nil}
+use Rattle.game_tree.specs.Information.{HasNoControls}
 use Rattle.game_tree.specs.SimpleText.{BreaksLine, IsReadAs, IsSimpleText, byte, carriage_return, carriage_return_line_feed, hidden_break, hidden_byte, itself, last_backslash, line_break, line_feed, line_feed_carriage_return, nothing, white}
 
 -- a text is its first byte and what stands behind it
@@ -50,3 +52,18 @@ pub all_read : (value rest items read : List ℕ) → ((more : List ℕ) → IsS
 all_read value rest items read so_far is same =
     let whole = so_far [] (subst (λ r. IsSimpleText r []) (sym is) nothing) in
     subst (IsSimpleText value) (append-nil items ∙ sym same) whole
+
+-- ---- no control characters
+
+read-no_control : (b c : ℕ) → IsReadAs b c → 32 ≤ c
+read-no_control b _ (white low no_feed no_return) = omega arith
+read-no_control b _ (itself high) = omega (arith, high)
+
+-- no byte of a text that a value is read as is below 32
+pub simple_text-no_controls : (value text : List ℕ) → IsSimpleText value text → HasNoControls text
+simple_text-no_controls _ _ nothing = All-nil (λ (b : ℕ). 32 ≤ b)
+simple_text-no_controls _ text (hidden_break {rest = rest} breaks more) = simple_text-no_controls rest text more
+simple_text-no_controls _ _ (hidden_byte {b = b} {c = c} {rest = rest} {text = text} read more) = All-cons (λ (b : ℕ). 32 ≤ b) c text (read-no_control b c read) (simple_text-no_controls rest text more)
+simple_text-no_controls _ _ (line_break {rest = rest} {text = text} breaks more) = All-cons (λ (b : ℕ). 32 ≤ b) 32 text (omega arith) (simple_text-no_controls rest text more)
+simple_text-no_controls _ _ (byte {b = b} {c = c} {rest = rest} {text = text} shown read more) = All-cons (λ (b : ℕ). 32 ≤ b) c text (read-no_control b c read) (simple_text-no_controls rest text more)
+simple_text-no_controls _ _ last_backslash = All-nil (λ (b : ℕ). 32 ≤ b)
