@@ -4,12 +4,13 @@ mod StoredTrees
 pub mod Branchings
 pub mod Climbs
 pub mod Colons
+pub mod GameFaults
 pub mod Growth
 pub mod HungTrees
 pub mod MainLines
 pub mod NodeValues
-pub mod Parts
 pub mod OneTree
+pub mod Parts
 pub mod Passes
 pub mod Paths
 pub mod Properties
@@ -17,11 +18,10 @@ pub mod Ranges
 pub mod ReadCollections
 pub mod ReadValues
 pub mod Roots
+pub mod SecondMoves
 pub mod SimpleTexts
 pub mod Splits
 pub mod Subtrees
 pub mod Trees
 pub mod Trimming
 pub mod Values
-pub mod SecondMoves
-pub mod GameFaults
