@@ -25,3 +25,4 @@ pub mod Subtrees
 pub mod Trees
 pub mod Trimming
 pub mod Values
+pub mod BuiltGames

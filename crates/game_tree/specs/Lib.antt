@@ -5,6 +5,7 @@ pub mod MainLine
 pub mod NodeValues
 pub mod Position
 pub mod Property
+pub mod RawGames
 pub mod Result
 pub mod Roots
 pub mod SimpleText

@@ -8,6 +8,7 @@ ghost use Rattle.game_tree.specs.Trees.{AreTreesOf};
 ghost use Rattle.game_tree.specs.ValueFaults.{HasValueFault, IsFirstValueFault};
 
 use crate::GameTree;
+use crate::game::build_game;
 use sgf_reader::{Collection, SgfFault};
 use std::alloc::{AllocError, AllocFailed, Global};
 use std::error::Error;
@@ -72,5 +73,9 @@ pub fn build(
     ensures no_fault { IfOk result (λ _. (kind : FaultKind) (at : ℕ) → ¬ HasValueFault text.now collection.now kind at) }
     ensures fault { (f : SgfFault) → result ≡ Err (Fault f) → IsFirstValueFault text.now collection.now f.kind f.at }
 {
-    Err(BuildError::NoMemory)
+    let mut trees = Vec::new(alloc);
+    for raw in collection.games.as_slice() {
+        trees.push(build_game(alloc, text, raw)?)?;
+    }
+    Ok(trees)
 }

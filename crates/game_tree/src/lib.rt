@@ -8,6 +8,7 @@ mod building;
 mod builder;
 mod bytes;
 mod children;
+mod game;
 mod info;
 mod node;
 mod node_values;
