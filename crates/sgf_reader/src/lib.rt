@@ -8,7 +8,9 @@
 mod collection;
 mod fault;
 mod limits;
+mod place;
 mod reader;
+mod turn;
 
 pub use collection::{
     Collection, Pair, PairList, RawGame, RawGameList, RawNode, RawNodeList, Span,
