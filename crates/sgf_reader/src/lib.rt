@@ -10,6 +10,7 @@ mod fault;
 mod limits;
 mod place;
 mod reader;
+mod reading;
 mod turn;
 
 pub use collection::{
