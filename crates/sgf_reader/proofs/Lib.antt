@@ -1,1 +1,8 @@
+pub mod LimitLaws
+pub mod ReadBounds
 mod ReadingLemmas
+pub mod ScanEnds
+pub mod Scans
+pub mod ScansSpelled
+pub mod SpelledScans
+pub mod SpellsOne

@@ -154,3 +154,8 @@ scan s at (b ∷ bytes) = option_and_then (λ t. scan t (at + 1) bytes) (step s.
 -- at the start of a text
 abbrev pub at_start : Scan
 at_start = record { games = []; place = Outside }
+
+-- The place is outside trees.
+pub data IsOutside : Place → Type 0 where
+  outside : IsOutside Outside
+  before : {at : ℕ} → IsOutside (Before at)
