@@ -6,3 +6,4 @@ pub mod Scans
 pub mod ScansSpelled
 pub mod SpelledScans
 pub mod SpellsOne
+mod StepLemmas

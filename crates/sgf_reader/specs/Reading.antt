@@ -12,7 +12,7 @@ use Rattle.sgf_reader.specs.declared.place.Place as places
 use Rattle.sgf_reader.specs.declared.place.Place.TheVariants as stands
 use Rattle.sgf_reader.specs.Grammar.{raw_node, raw_game}
 use Rattle.sgf_reader.specs.Scan.{Inside, Place, Outside, Before, Within, Scan, step, within, with_node, with_bracket, begun}
-use Rattle.sgf_reader.specs.Turn.{phase_of}
+use Rattle.sgf_reader.specs.Turn.{phase_of, is_in_node}
 
 -- What was read so far: the games that have ended; the nodes of the game that has not; whether more values of the last
 -- one may follow; for each open bracket the parent of its first node, the innermost first; the parent of the next node.
@@ -53,12 +53,6 @@ closed_place [] = stands.Outside
 closed_place (parent ∷ []) = stands.Outside
 closed_place (parent ∷ other ∷ parents) = stands.Within at.AfterTree
 
--- whether values of the last node may follow in this phase
-abbrev pub is_in_node : phases.Phase → Bool
-is_in_node (at.Opened from) = false
-is_in_node at.AfterTree = false
-is_in_node _ = true
-
 -- inside a tree: this is what the scan has read
 pub record ShowsInside (v : View) (now : phases.Phase) (s : Inside) : Type 0 where
   pub nodes : v.nodes ≡ map raw_node s.nodes
@@ -81,9 +75,9 @@ pub record Shows (v : View) (now : places.Place) (s : Scan) : Type 0 where
 
 -- the limits hold at this place, behind so many games
 pub data IsWithinLimits (games : ℕ) : Place → Type 0 where
-  outside : games ≤ MAX_GAMES → IsWithinLimits games Outside
-  before : {from : ℕ} → games ≤ MAX_GAMES → IsWithinLimits games (Before from)
-  inside : {s : Inside} → games < MAX_GAMES → length s.parents ≤ MAX_OPEN → length s.nodes ≤ MAX_NODES → IsWithinLimits games (Within s)
+  few_outside : games ≤ MAX_GAMES → IsWithinLimits games Outside
+  few_before : {from : ℕ} → games ≤ MAX_GAMES → IsWithinLimits games (Before from)
+  few_inside : {s : Inside} → games < MAX_GAMES → length s.parents ≤ MAX_OPEN → length s.nodes ≤ MAX_NODES → IsWithinLimits games (Within s)
 
 -- The scan goes on over this byte, to what was then read, and the limits hold.
 pub record Leads (s : Scan) (offset byte : ℕ) (v : View) (now : places.Place) : Type 0 where
@@ -98,3 +92,11 @@ pub data Fails (s : Scan) (offset byte : ℕ) : SgfFault → Type 0 where
   too_deep : (i : Inside) → step s.games s.place offset byte ≡ within s.games (with_bracket i offset) → length i.parents ≡ MAX_OPEN → Fails s offset byte (record { kind = kind.TooDeep; at = offset })
   too_many_nodes : (i : Inside) (opened : Option ℕ) → step s.games s.place offset byte ≡ within s.games (with_node i opened offset) → length i.nodes ≡ MAX_NODES → Fails s offset byte (record { kind = kind.TooManyNodes; at = offset })
   too_many_games : (from : ℕ) → s.place ≡ Before from → step s.games s.place offset byte ≡ within s.games (begun from offset) → length s.games ≡ MAX_GAMES → Fails s offset byte (record { kind = kind.TooManyGames; at = from })
+
+-- From here this byte leads each scan that the reader shows on, to what was then read.
+abbrev pub StepsOn : View → places.Place → ℕ → ℕ → View → places.Place → Type 0
+StepsOn v now offset byte read next = (s : Scan) → Shows v now s → IsWithinLimits (length s.games) s.place → Leads s offset byte read next
+
+-- From here this byte is a fault of each scan that the reader shows.
+abbrev pub StepFails : View → places.Place → ℕ → ℕ → SgfFault → Type 0
+StepFails v now offset byte fault = (s : Scan) → Shows v now s → IsWithinLimits (length s.games) s.place → Fails s offset byte fault

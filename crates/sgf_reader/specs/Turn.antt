@@ -1,5 +1,5 @@
 -- For the reader's private functions: what the reader's own words for phases and turns mean to the scan.
-use Rattle.std.specs.Prelude.{ℕ, ◌++◌, List, ◌∷◌, Option, Some, None}
+use Rattle.std.specs.Prelude.{◌≡◌, ℕ, List, Option, Some, None, Bool, true, false}
 use Rattle.sgf_reader.specs.declared.place.Phase as phases
 use Rattle.sgf_reader.specs.declared.place.Phase.TheVariants as at
 use Rattle.sgf_reader.specs.declared.turn.Turn as turns
@@ -32,3 +32,15 @@ apply_turn games s offset (turn.BeginNode opened) = within games (with_node s op
 apply_turn games s offset turn.Open = within games (with_bracket s offset)
 apply_turn games s offset turn.Close = Some (closed games s s.parents)
 apply_turn games s offset turn.Refuse = None
+
+-- whether values of the last node may follow in this phase
+abbrev pub is_in_node : phases.Phase → Bool
+is_in_node (at.Opened from) = false
+is_in_node at.AfterTree = false
+is_in_node _ = true
+
+-- Only in a node does a phase follow another one, and a value end.
+abbrev pub StaysInNode : Bool → turns.Turn → Type 0
+StaysInNode in_node (turn.To phase) = (in_node ≡ true) × (is_in_node phase ≡ true)
+StaysInNode in_node (turn.EndValue name from) = in_node ≡ true
+StaysInNode in_node _ = Unit {0}

@@ -12,6 +12,7 @@ mod limits;
 mod place;
 mod reader;
 mod reading;
+mod step;
 mod turn;
 
 pub use collection::{

@@ -42,7 +42,7 @@ impl Model for Reading {
 }
 
 // This fault at this offset.
-fn fault(kind: FaultKind, at: u32) -> ReadError
+pub(crate) fn fault(kind: FaultKind, at: u32) -> ReadError
     ensures { result ≡ Fault (record { kind = kind; at = at }) }
 {
     ReadError::Fault(SgfFault { kind, at })
