@@ -1,4 +1,5 @@
 pub mod LimitLaws
+mod OutsideLemmas
 pub mod ReadBounds
 mod ReadingLemmas
 pub mod ScanEnds
