@@ -2,4 +2,5 @@ pub mod Faults
 pub mod Grammar
 pub mod Reading
 pub mod Scan
+pub mod Stays
 pub mod Turn

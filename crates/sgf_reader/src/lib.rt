@@ -12,6 +12,7 @@ mod limits;
 mod place;
 mod reader;
 mod reading;
+mod stays;
 mod step;
 mod turn;
 

@@ -1,11 +1,38 @@
 // Reading of a text.
-ghost use Rattle.std.specs.Prelude.{◌≡◌, IfOk, Err};
+ghost use Rattle.std.specs.Prelude.{◌≡◌, ◌≤◌, ◌⊎◌, length, IfOk, Err};
 ghost use Rattle.sgf_reader.specs.declared.fault.ReadError.TheVariants.{Fault};
 ghost use Rattle.sgf_reader.specs.declared.fault.SgfFault.{SgfFault};
+ghost use Rattle.sgf_reader.specs.declared.fault.FaultKind.TheVariants as kind;
 ghost use Rattle.sgf_reader.specs.Faults.{IsRead, IsFirstFault};
+ghost use Rattle.sgf_reader.specs.Stays.{HasReadTo, FailsIn, IsNodeNext, nothing};
 
-use crate::{Collection, ReadError};
+use crate::limits::{MAX_FILE, MAX_GAMES};
+use crate::place::Place;
+use crate::reading::{Reading, fault};
+use crate::stays::{is_node_next, next_from};
+use crate::step::step;
+use crate::{Collection, FaultKind, ReadError};
 use std::alloc::Global;
+
+// Reads the first bytes, so many. The answer is where the reader then stands.
+fn read_bytes(reading: &mut Reading, text: &[u8], end: usize) -> Result<Place, ReadError>
+    requires fresh { reading.old ≡ nothing }
+    requires within { end ≤ length text.now }
+    requires short { end ≤ MAX_FILE }
+    ensures ok { IfOk result (HasReadTo text.now end reading.new) }
+    ensures fault { (f : SgfFault) → result ≡ Err (Fault f) → FailsIn text.now f }
+{
+    let mut place = Place::Outside;
+    let mut at = 0;
+    while at < end {
+        at = next_from(text, at, end, place);
+        if at < end {
+            place = step(reading, place, at as u32, text[at])?;
+            at += 1;
+        }
+    }
+    Ok(place)
+}
 
 /// Reads a text: the collection that it spells, or its first fault.
 ///
