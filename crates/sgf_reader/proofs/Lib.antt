@@ -1,6 +1,7 @@
 pub mod LimitLaws
 mod OutsideLemmas
 pub mod ReadBounds
+mod ReadTo
 mod ReadingLemmas
 pub mod ScanEnds
 pub mod Scans
