@@ -9,3 +9,7 @@ pub mod ScansSpelled
 pub mod SpelledScans
 pub mod SpellsOne
 mod StepLemmas
+mod Shapes
+pub mod SpelledNodes
+pub mod Steps
+pub mod Ways
