@@ -1,3 +1,4 @@
+mod EndLemmas
 pub mod LimitLaws
 mod OutsideLemmas
 pub mod ReadBounds

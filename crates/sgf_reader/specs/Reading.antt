@@ -100,3 +100,13 @@ StepsOn v now offset byte read next = (s : Scan) → Shows v now s → IsWithinL
 -- From here this byte is a fault of each scan that the reader shows.
 abbrev pub StepFails : View → places.Place → ℕ → ℕ → SgfFault → Type 0
 StepFails v now offset byte fault = (s : Scan) → Shows v now s → IsWithinLimits (length s.games) s.place → Fails s offset byte fault
+
+-- outside trees
+abbrev pub IsPlaceOutside : places.Place → Type 0
+IsPlaceOutside (stands.Within phase) = ⊥
+IsPlaceOutside _ = Unit {0}
+
+-- the text ends at this offset with this fault
+pub data IsEndFault (v : View) (now : places.Place) (offset : ℕ) : SgfFault → Type 0 where
+  has_ended : (phase : phases.Phase) → now ≡ stands.Within phase → IsEndFault v now offset (record { kind = kind.Ended; at = offset })
+  has_no_game : IsPlaceOutside now → v.games ≡ [] → IsEndFault v now offset (record { kind = kind.NoGame; at = offset })

@@ -1,6 +1,10 @@
 -- For the reader's private functions: bytes that leave a reader where it stands, and how far it has read.
 use Rattle.std.specs.Prelude.{◌≡◌, ◌≢◌, ℕ, ◌+◌, ◌<◌, ◌≤◌, List, [], length, take, slice_index, Option, Some, None, false}
+use Rattle.sgf_reader.specs.declared.fault.FaultKind.TheVariants as kind
+use Rattle.sgf_reader.specs.declared.fault.ReadError.{ReadError}
+use Rattle.sgf_reader.specs.declared.fault.ReadError.TheVariants.{Fault}
 use Rattle.sgf_reader.specs.declared.fault.SgfFault.{SgfFault}
+use Rattle.sgf_reader.specs.declared.limits.TheConstants.{MAX_FILE, MAX_GAMES}
 use Rattle.sgf_reader.specs.declared.place.Phase as phases
 use Rattle.sgf_reader.specs.declared.place.Phase.TheVariants as at
 use Rattle.sgf_reader.specs.declared.place.Place as places
@@ -55,6 +59,11 @@ pub record IsNodeNext (text : List ℕ) (from : ℕ) : Type 0 where
   pub there : semicolon < length text
   pub white : EachFrom text from semicolon (λ b. b ≤ 32)
   pub here : slice_index text semicolon ≡ 59
+
+-- the fault of a text that goes on at this offset, past its greatest length
+pub data IsPastEnd (v : View) (now : places.Place) (text : List ℕ) (end : ℕ) : ReadError → Type 0 where
+  too_many_games : (from : ℕ) → now ≡ stands.Before from → MAX_GAMES ≤ length v.games → IsNodeNext text end → IsPastEnd v now text end (Fault (record { kind = kind.TooManyGames; at = from }))
+  too_long : ((from : ℕ) → now ≡ stands.Before from → MAX_GAMES ≤ length v.games → ¬ IsNodeNext text end) → IsPastEnd v now text end (Fault (record { kind = kind.TooLong; at = MAX_FILE }))
 
 -- nothing was read so far
 abbrev pub nothing : View

@@ -4,7 +4,7 @@ ghost use Rattle.sgf_reader.specs.declared.fault.ReadError.TheVariants.{Fault};
 ghost use Rattle.sgf_reader.specs.declared.fault.SgfFault.{SgfFault};
 ghost use Rattle.sgf_reader.specs.declared.fault.FaultKind.TheVariants as kind;
 ghost use Rattle.sgf_reader.specs.Faults.{IsRead, IsFirstFault};
-ghost use Rattle.sgf_reader.specs.Stays.{HasReadTo, FailsIn, IsNodeNext, nothing};
+ghost use Rattle.sgf_reader.specs.Stays.{HasReadTo, FailsIn, IsPastEnd, nothing};
 
 use crate::limits::{MAX_FILE, MAX_GAMES};
 use crate::place::Place;
@@ -34,6 +34,24 @@ fn read_bytes(reading: &mut Reading, text: &[u8], end: usize) -> Result<Place, R
     Ok(place)
 }
 
+// The fault of a text that goes on at this offset, past its greatest length. Of two that are possible here the
+// one of a game past the limit comes first: its `(` was read, and only white space and its `;` are left.
+fn fault_past_end(reading: &Reading, place: Place, text: &[u8], end: usize) -> ReadError
+    requires { end ≤ length text.now }
+    ensures { IsPastEnd reading.now place text.now end result }
+{
+    let Place::Before(from) = place else {
+        return fault(FaultKind::TooLong, MAX_FILE);
+    };
+    if reading.game_count() < MAX_GAMES as usize {
+        return fault(FaultKind::TooLong, MAX_FILE);
+    }
+    if !is_node_next(text, end) {
+        return fault(FaultKind::TooLong, MAX_FILE);
+    }
+    fault(FaultKind::TooManyGames, from)
+}
+
 /// Reads a text: the collection that it spells, or its first fault.
 ///
 /// The grammar is that of SGF FF[4] for collections of game trees, where lower-case letters in identifiers are
@@ -43,5 +61,11 @@ pub fn read(alloc: Global, text: &[u8]) -> Result<Collection, ReadError>
     ensures ok { IfOk result (λ collection. IsRead text.now collection) }
     ensures fault { (f : SgfFault) → result ≡ Err (Fault f) → IsFirstFault text.now f.kind f.at }
 {
-    Err(ReadError::NoMemory)
+    let end = text.len().min(MAX_FILE as usize);
+    let mut reading = Reading::new(alloc);
+    let place = read_bytes(&mut reading, text, end)?;
+    if end < text.len() {
+        return Err(fault_past_end(&reading, place, text, end));
+    }
+    reading.finish(place, end as u32)
 }

@@ -3,11 +3,14 @@ ghost use Rattle.std.specs.Prelude.{◌≡◌, ◌+◌, ◌<◌, ◌≤◌, ◌�
 ghost use Rattle.sgf_reader.specs.declared.fault.ReadError.TheVariants.{Fault};
 ghost use Rattle.sgf_reader.specs.declared.fault.SgfFault.{SgfFault};
 ghost use Rattle.sgf_reader.specs.declared.fault.FaultKind.TheVariants as kind;
-ghost use Rattle.sgf_reader.specs.Reading.{with_raw_pair, with_raw_node, with_raw_bracket, closed_view, closed_place};
+ghost use Rattle.sgf_reader.specs.Reading.{with_raw_pair, with_raw_node, with_raw_bracket, closed_view, closed_place, IsPlaceOutside, IsEndFault};
 
 use crate::limits::{MAX_GAMES, MAX_NODES, MAX_OPEN};
 use crate::place::{Phase, Place};
-use crate::{FaultKind, Pair, PairList, RawGame, RawNode, RawNodeList, ReadError, SgfFault};
+use crate::{
+    Collection, FaultKind, Pair, PairList, RawGame, RawGameList, RawNode, RawNodeList, ReadError,
+    SgfFault,
+};
 use std::alloc::Global;
 use std::marker::Model;
 use std::mem;
@@ -49,6 +52,13 @@ pub(crate) fn fault(kind: FaultKind, at: u32) -> ReadError
 }
 
 impl Reading {
+    // How many games have ended.
+    pub(crate) fn game_count(&self) -> usize
+        ensures { result ≡ length self.now.games }
+    {
+        self.games.len()
+    }
+
     // Nothing so far.
     pub(crate) fn new(alloc: Global) -> Self
         ensures { result ≡ record { games = []; nodes = []; is_reading = false; parents = []; last = None } }
@@ -154,5 +164,21 @@ impl Reading {
         self.parents.push(None)?;
         self.last = None;
         self.begin_node(at)
+    }
+
+    // The text ends at this offset. The games are its collection where it ends outside trees, behind one or more.
+    pub(crate) fn finish(self, place: Place, at: u32) -> Result<Collection, ReadError>
+        ensures ok { IfOk result (λ collection. (collection ≡ record { games = self.games }) × (1 ≤ length self.games) × IsPlaceOutside place) }
+        ensures fault { (f : SgfFault) → result ≡ Err (Fault f) → IsEndFault self place at f }
+    {
+        if let Place::Within(_) = place {
+            return Err(fault(FaultKind::Ended, at));
+        }
+        if self.games.is_empty() {
+            return Err(fault(FaultKind::NoGame, at));
+        }
+        Ok(Collection {
+            games: RawGameList::new(self.games),
+        })
     }
 }
