@@ -4,6 +4,7 @@ mod OutsideLemmas
 pub mod ReadBounds
 mod ReadTo
 mod ReadingLemmas
+pub mod Reached
 pub mod ScanEnds
 pub mod Scans
 pub mod ScansSpelled
