@@ -1,3 +1,4 @@
+mod BeforeLaws
 mod EndLemmas
 pub mod LimitLaws
 mod OutsideLemmas

@@ -14,6 +14,7 @@ mod reader;
 mod reading;
 mod stays;
 mod step;
+mod tmp_law;
 mod turn;
 
 pub use collection::{
