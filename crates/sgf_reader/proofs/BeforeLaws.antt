@@ -158,7 +158,7 @@ closed-not_before games s [] from is = cc
 closed-not_before games s (parent ∷ []) from is = cc
 closed-not_before games s (parent ∷ other ∷ parents) from is = cc
 
-change-not_before : (games : List SpelledGame) (s : Inside) (at : ℕ) (t : Scan) (from : ℕ) → Change games s at t → t.place ≡ Before from → ⊥
+pub change-not_before : (games : List SpelledGame) (s : Inside) (at : ℕ) (t : Scan) (from : ℕ) → Change games s at t → t.place ≡ Before from → ⊥
 change-not_before games s at t from (Change.moves m) is = cc
 change-not_before games s at t from (Change.gains e) is = cc
 change-not_before games s at t from (Change.begins n) is = cc

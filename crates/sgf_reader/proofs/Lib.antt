@@ -16,3 +16,4 @@ mod Shapes
 pub mod SpelledNodes
 pub mod Steps
 pub mod Ways
+mod TreeStarts
