@@ -17,3 +17,5 @@ pub mod SpelledNodes
 pub mod Steps
 pub mod Ways
 mod TreeStarts
+mod FaultsHere
+mod FirstFaults

@@ -66,8 +66,8 @@ HasReadTo-more text count v next now then h there steps =
     record { reached = l.next; read = IsReadTo-more text count h.reached l.next h.read there l.goes l.limits; shows = l.shows }
 
 -- at the next byte is a fault
-pub FailsIn-next : (text : List ℕ) (count : ℕ) (v : View) (now : places.Place) (f : SgfFault) → HasReadTo text count v now → count < length text → StepFails v now count (slice_index text count) f → FailsIn text f
-FailsIn-next text count v now f h there fails =
+pub FailsIn-next : (text : List ℕ) (end count : ℕ) (v : View) (now : places.Place) (f : SgfFault) → HasReadTo text count v now → count < end → StepFails v now count (slice_index text count) f → FailsIn text end f
+FailsIn-next text end count v now f h there fails =
     let limits = h.read.limits count h.reached (omega arith) h.read.scans in
     record { count = count; reached = h.reached; there = there; read = h.read; fails = fails h.reached h.shows limits }
 

@@ -44,11 +44,11 @@ pub record HasReadTo (text : List ℕ) (count : ℕ) (v : View) (now : places.Pl
   pub read : IsReadTo text count reached
   pub shows : Shows v now reached
 
--- at one of these bytes is this fault, and all before it was read
-pub record FailsIn (text : List ℕ) (fault : SgfFault) : Type 0 where
+-- at one of the first bytes, so many, is this fault, and all before it was read
+pub record FailsIn (text : List ℕ) (end : ℕ) (fault : SgfFault) : Type 0 where
   pub count : ℕ
   pub reached : Scan
-  pub there : count < length text
+  pub there : count < end
   pub read : IsReadTo text count reached
   pub fails : Fails reached count (slice_index text count) fault
 

@@ -20,7 +20,7 @@ fn read_bytes(reading: &mut Reading, text: &[u8], end: usize) -> Result<Place, R
     requires within { end ≤ length text.now }
     requires short { end ≤ MAX_FILE }
     ensures ok { IfOk result (HasReadTo text.now end reading.new) }
-    ensures fault { (f : SgfFault) → result ≡ Err (Fault f) → FailsIn text.now f }
+    ensures fault { (f : SgfFault) → result ≡ Err (Fault f) → FailsIn text.now end f }
 {
     let mut place = Place::Outside;
     let mut at = 0;

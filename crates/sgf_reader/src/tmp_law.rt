@@ -1,7 +1,8 @@
 ghost use Rattle.std.specs.Prelude.{◌≡◌, ◌<◌, ◌+◌, ◌≤◌, List, ℕ, length, take, Some, slice_index};
-ghost use Rattle.sgf_reader.specs.Grammar.{SpelledGame};
-ghost use Rattle.sgf_reader.specs.Faults.{HasTreeStart};
-ghost use Rattle.sgf_reader.specs.Scan.{scan, at_start, Before, Within, Inside, begun};
+ghost use Rattle.sgf_reader.specs.Faults.{IsFirstFault};
+ghost use Rattle.sgf_reader.specs.Stays.{FailsIn};
+ghost use Rattle.sgf_reader.specs.declared.fault.SgfFault.{SgfFault};
+use crate::limits::MAX_FILE;
 pub fn tmp()
-    ensures { (text : List ℕ) (games : List SpelledGame) (i : Inside) → scan at_start 0 (take (length text) text) ≡ Some (record { games = games; place = Within i }) → HasTreeStart text }
+    ensures { (text : List ℕ) (end : ℕ) (f : SgfFault) → end ≤ length text → end ≤ MAX_FILE → FailsIn text end f → IsFirstFault text f.kind f.at }
 {}

@@ -16,7 +16,7 @@ pub returns-in_err-place-clause-fault : goal.returns-in_err-place-clause-fault
 returns-in_err-place-clause-fault c = λ f is.
     let e = c.next_from-at.ensures in
     let here = HasReadTo-up_to _ _ _ _ _ c.loop-at.invariant.read e.least (omega arith) e.stays in
-    FailsIn-next _ _ _ _ f here (omega arith) (c.step.ensures.fault f (same_error _ _ _ _ c.from_residual.ensures.1 c.in_err-place.was is))
+    FailsIn-next _ _ _ _ _ f here c.if-at-end.true (c.step.ensures.fault f (same_error _ _ _ _ c.from_residual.ensures.1 c.in_err-place.was is))
 
 pub loop-at-preserved-then-at-end : goal.loop-at-preserved-then-at-end
 loop-at-preserved-then-at-end c =

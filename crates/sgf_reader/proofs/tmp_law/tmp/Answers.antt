@@ -1,5 +1,5 @@
-use Rattle.sgf_reader.proofs.TreeStarts.{start-from_within, no_start-from_games}
+use Rattle.sgf_reader.proofs.FaultsHere.{IsFirstFault-in}
 use Rattle.sgf_reader.proofs.tmp_law.tmp.Goals as goal
 
 pub returns : goal.returns
-returns c = start-from_within
+returns c = IsFirstFault-in
