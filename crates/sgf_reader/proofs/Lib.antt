@@ -19,3 +19,4 @@ pub mod Ways
 mod TreeStarts
 mod FaultsHere
 mod FirstFaults
+mod EndFaults

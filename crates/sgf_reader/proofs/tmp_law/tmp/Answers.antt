@@ -1,5 +1,5 @@
-use Rattle.sgf_reader.proofs.FaultsHere.{IsFirstFault-in}
+use Rattle.sgf_reader.proofs.EndFaults.{past_end-first}
 use Rattle.sgf_reader.proofs.tmp_law.tmp.Goals as goal
 
 pub returns : goal.returns
-returns c = IsFirstFault-in
+returns c = past_end-first
