@@ -5,6 +5,8 @@ mod OutsideLemmas
 pub mod ReadBounds
 mod ReadTo
 mod ReadingLemmas
+pub mod NodeParents
+pub mod ReadParents
 pub mod Reached
 pub mod ScanEnds
 pub mod Scans
@@ -15,6 +17,7 @@ mod StepLemmas
 mod Shapes
 pub mod SpelledNodes
 pub mod Steps
+pub mod Traces
 pub mod Ways
 mod TreeStarts
 mod FaultsHere
