@@ -34,12 +34,12 @@ shown-before (none_open a b c) from is = absurd (cc)
 shown-before (may_begin a b c) from is = cc
 shown-before (inside h) from is = absurd (cc)
 
-shown-within : {v : View} {now : places.Place} {place : Place} → ShowsPlace v now place → (phase : phases.Phase) → now ≡ stands.Within phase → (i : Inside) × (place ≡ Within i)
+pub shown-within : {v : View} {now : places.Place} {place : Place} → ShowsPlace v now place → (phase : phases.Phase) → now ≡ stands.Within phase → (i : Inside) × (place ≡ Within i)
 shown-within (none_open a b c) phase is = absurd (cc)
 shown-within (may_begin a b c) phase is = absurd (cc)
 shown-within (inside {s = i} h) phase is = (i, refl)
 
-shown-outside : {v : View} {now : places.Place} {place : Place} → ShowsPlace v now place → IsPlaceOutside now → IsOutside place
+pub shown-outside : {v : View} {now : places.Place} {place : Place} → ShowsPlace v now place → IsPlaceOutside now → IsOutside place
 shown-outside (none_open a b c) out = IsOutside.outside
 shown-outside (may_begin a b c) out = IsOutside.before
 shown-outside (inside h) out = absurd out
@@ -50,7 +50,7 @@ before-few (few_before a) = a
 same_bracket : (games others : List SpelledGame) (a b : ℕ) → ways.out games (Before a) ≡ ways.out others (Before b) → a ≡ b
 same_bracket games others a b e = let placed : Before a ≡ Before b = ap (λ (u : Scan). u.place) e in cc
 
-game_count : (v : View) (now : places.Place) (s : Scan) → Shows v now s → length v.games ≡ length s.games
+pub game_count : (v : View) (now : places.Place) (s : Scan) → Shows v now s → length v.games ≡ length s.games
 game_count v now s shows = ap length shows.games ∙ length-map s.games raw_game
 
 -- ---- at the greatest length

@@ -23,3 +23,4 @@ mod TreeStarts
 mod FaultsHere
 mod FirstFaults
 mod EndFaults
+mod Endings

@@ -14,7 +14,6 @@ mod reader;
 mod reading;
 mod stays;
 mod step;
-mod tmp_law;
 mod turn;
 
 pub use collection::{
