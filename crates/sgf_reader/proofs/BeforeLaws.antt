@@ -1,15 +1,15 @@
 -- How a reader comes to stand behind a `(` where a tree may begin, and to a game's first node.
-use Rattle.std.proofs.Common.{◌≡◌, ◌≢◌, ◌⊎◌, ℕ, zero, suc, ◌+◌, ◌<◌, ◌≤◌, List, [], ◌∷◌, ◌++◌, length, take, slice_index, get_or, Option, Some, None, option_and_then, refl, sym, ap, ◌∙◌, subst, arith, inl, inr, add-one, add-zero, ◌-◌, length-take}
+use Rattle.std.proofs.Common.{◌≡◌, ◌⊎◌, ℕ, zero, suc, ◌+◌, ◌<◌, ◌≤◌, List, [], ◌∷◌, ◌++◌, length, take, slice_index, Option, Some, None, option_and_then, refl, sym, ap, ◌∙◌, subst, arith, inl, inr, add-one, add-zero, ◌-◌}
 use Rattle.std.specs.Prelude.{⊤}
 use Rattle.std.proofs.Math.Seq.{take-suc}
 use Rattle.std.proofs.lemmas.Bool.{cases_lt}
 use Rattle.sgf_reader.specs.declared.collection.Pair.{Pair}
 use Rattle.sgf_reader.specs.Grammar.{SpelledGame, SpelledNode}
-use Rattle.sgf_reader.specs.Scan.{Scan, Place, Outside, Before, Within, Inside, with_pair, with_node, closed, step, scan, at_start, begun}
+use Rattle.sgf_reader.specs.Scan.{Scan, Place, Outside, Before, Within, Inside, with_pair, closed, scan, at_start, begun}
 use Rattle.sgf_reader.proofs.Scans.{scan-append}
 use Rattle.sgf_reader.proofs.ReadTo.{scan-more}
 use Rattle.sgf_reader.proofs.Ways.{Way, step-way, inside, out}
-use Rattle.sgf_reader.proofs.Reached.{Reached, Steps, keeps, Change, changes}
+use Rattle.sgf_reader.proofs.Reached.{keeps, Change, changes}
 
 some_or_none : {A : Type 0} (o : Option A) → (o ≡ None) ⊎ ((x : A) × (o ≡ Some x))
 some_or_none None = inl refl

@@ -1,30 +1,25 @@
 -- What a text is, by where its reader stands at the end, or at the greatest length.
-use Rattle.std.proofs.Common.{◌≡◌, ◌≢◌, ◌⊎◌, ℕ, zero, suc, ◌+◌, ◌-◌, ◌<◌, ◌≤◌, List, [], ◌∷◌, ◌++◌, length, map, take, slice_index, Option, Some, None, refl, sym, ap, ◌∙◌, subst, arith, inl, inr}
+use Rattle.std.proofs.Common.{◌≡◌, ℕ, ◌<◌, ◌≤◌, List, length, take, slice_index, Some, refl, sym, ap, ◌∙◌, subst, arith, inl, inr}
 use Rattle.std.proofs.lemmas.Bool.{cases_lt}
-use Rattle.std.proofs.lemmas.List.{length-map, take_all}
-use Rattle.sgf_reader.specs.declared.collection.Collection.{Collection}
-use Rattle.sgf_reader.specs.declared.collection.RawGame.{RawGame}
+use Rattle.std.proofs.lemmas.List.{length-map}
 use Rattle.sgf_reader.specs.declared.fault.FaultKind.{FaultKind}
 use Rattle.sgf_reader.specs.declared.fault.FaultKind.TheVariants as kind
 use Rattle.sgf_reader.specs.declared.fault.ReadError.TheVariants.{Fault}
 use Rattle.sgf_reader.specs.declared.fault.SgfFault.{SgfFault}
-use Rattle.sgf_reader.specs.declared.limits.TheConstants.{MAX_FILE, MAX_GAMES, MAX_NODES, MAX_OPEN}
+use Rattle.sgf_reader.specs.declared.limits.TheConstants.{MAX_FILE, MAX_GAMES}
 use Rattle.sgf_reader.specs.declared.place.Phase as phases
 use Rattle.sgf_reader.specs.declared.place.Place as places
 use Rattle.sgf_reader.specs.declared.place.Place.TheVariants as stands
-use Rattle.sgf_reader.specs.Grammar.{SpelledGame, SpelledNode, Spells, HasGames, raw_game}
-use Rattle.sgf_reader.specs.Faults.{IsLive, HasTreeStart, HasFault, IsFirstFault, HasRead, IsRead}
-use Rattle.sgf_reader.specs.Scan.{Scan, Place, Outside, Before, Within, Inside, IsOutside, begun, step, within, scan, at_start}
-use Rattle.sgf_reader.specs.Reading.{View, ShowsPlace, none_open, may_begin, inside, Shows, IsWithinLimits, few_outside, few_before, few_inside, IsPlaceOutside, IsEndFault, has_ended, has_no_game}
-use Rattle.sgf_reader.specs.Stays.{IsReadTo, HasReadTo, IsNodeNext, IsPastEnd, too_many_games, too_long, StaysAt}
-use Rattle.sgf_reader.proofs.SpellsOne.{live-scans, spells-scans}
-use Rattle.sgf_reader.proofs.ScansSpelled.{scans-spelled}
+use Rattle.sgf_reader.specs.Grammar.{SpelledGame, raw_game}
+use Rattle.sgf_reader.specs.Faults.{HasFault, IsFirstFault}
+use Rattle.sgf_reader.specs.Scan.{Scan, Place, Before, Within, Inside, IsOutside, begun, step, within, scan, at_start}
+use Rattle.sgf_reader.specs.Reading.{View, ShowsPlace, none_open, may_begin, inside, Shows, IsWithinLimits, few_before, IsPlaceOutside}
+use Rattle.sgf_reader.specs.Stays.{HasReadTo, IsNodeNext, IsPastEnd, too_many_games, too_long, StaysAt}
 use Rattle.sgf_reader.proofs.LimitLaws.{ScansGameTooMany, game_too_many-at}
 use Rattle.sgf_reader.proofs.Ways as ways
 use Rattle.sgf_reader.proofs.ReadTo.{scan-more, HasReadTo-up_to}
 use Rattle.sgf_reader.proofs.BeforeLaws.{before-back, begun-back}
 use Rattle.sgf_reader.proofs.FirstFaults.{Later, at_no_game, at_ended, at_unexpected, at_limit, at_deep, at_nodes, at_games, later, Comes, not_sooner, same_scan}
-use Rattle.sgf_reader.proofs.TreeStarts.{start-from_within, no_start-from_games}
 
 before-shown : {v : View} {now : places.Place} {from : ℕ} → ShowsPlace v now (Before from) → now ≡ stands.Before from
 before-shown (may_begin a b c) = refl

@@ -1,5 +1,5 @@
 -- What a text is, by where its reader stands at its end.
-use Rattle.std.proofs.Common.{◌≡◌, ◌⊎◌, ℕ, ◌+◌, ◌<◌, ◌≤◌, List, [], ◌∷◌, length, map, take, Option, Some, None, refl, sym, ap, ◌∙◌, subst, arith, inl, inr}
+use Rattle.std.proofs.Common.{◌≡◌, ℕ, ◌≤◌, List, length, take, Some, refl, sym, ap, ◌∙◌, subst, arith, inl, inr}
 use Rattle.std.proofs.lemmas.List.{take_all}
 use Rattle.sgf_reader.specs.declared.collection.Collection.{Collection}
 use Rattle.sgf_reader.specs.declared.collection.RawGame.{RawGame}
@@ -7,17 +7,14 @@ use Rattle.sgf_reader.specs.declared.fault.FaultKind.{FaultKind}
 use Rattle.sgf_reader.specs.declared.fault.FaultKind.TheVariants as kind
 use Rattle.sgf_reader.specs.declared.fault.SgfFault.{SgfFault}
 use Rattle.sgf_reader.specs.declared.limits.TheConstants.{MAX_FILE}
-use Rattle.sgf_reader.specs.declared.place.Phase as phases
 use Rattle.sgf_reader.specs.declared.place.Place as places
-use Rattle.sgf_reader.specs.declared.place.Place.TheVariants as stands
-use Rattle.sgf_reader.specs.Grammar.{SpelledGame, Spells, HasGames, raw_game}
+use Rattle.sgf_reader.specs.Grammar.{SpelledGame, Spells}
 use Rattle.sgf_reader.specs.Faults.{IsLive, HasTreeStart, HasFault, IsFirstFault, HasRead, IsRead}
 use Rattle.sgf_reader.specs.Scan.{Scan, Place, Within, Inside, IsOutside, scan, at_start}
 use Rattle.sgf_reader.specs.Reading.{View, IsPlaceOutside, IsEndFault, has_ended, has_no_game}
 use Rattle.sgf_reader.specs.Stays.{HasReadTo}
 use Rattle.sgf_reader.proofs.SpellsOne.{live-scans, spells-scans}
 use Rattle.sgf_reader.proofs.ScansSpelled.{scans-spelled}
-use Rattle.sgf_reader.proofs.Ways as ways
 use Rattle.sgf_reader.proofs.EndFaults.{game_count, shown-within, shown-outside}
 use Rattle.sgf_reader.proofs.FirstFaults.{Later, at_no_game, at_ended, at_unexpected, at_limit, at_deep, at_nodes, at_games, later, Comes}
 use Rattle.sgf_reader.proofs.TreeStarts.{start-from_within, no_start-from_games}

@@ -1,21 +1,20 @@
 -- The fault at the first byte that leads the scan no further, or past a limit, is the text's first.
-use Rattle.std.proofs.Common.{◌≡◌, ◌≢◌, ◌⊎◌, ℕ, zero, suc, ◌+◌, ◌-◌, ◌<◌, ◌≤◌, List, [], ◌∷◌, ◌++◌, length, map, take, slice_index, Option, Some, None, refl, sym, ap, ◌∙◌, subst, arith, inl, inr, length-append}
+use Rattle.std.proofs.Common.{◌≡◌, ℕ, ◌+◌, ◌<◌, ◌≤◌, List, [], ◌∷◌, length, take, slice_index, Option, Some, None, refl, sym, ap, ◌∙◌, subst, arith, inl, inr, length-append}
 use Rattle.std.proofs.lemmas.Bool.{cases_lt}
 use Rattle.sgf_reader.specs.declared.fault.FaultKind.{FaultKind}
 use Rattle.sgf_reader.specs.declared.fault.FaultKind.TheVariants as kind
 use Rattle.sgf_reader.specs.declared.fault.SgfFault.{SgfFault}
 use Rattle.sgf_reader.specs.declared.limits.TheConstants.{MAX_FILE, MAX_GAMES, MAX_NODES, MAX_OPEN}
-use Rattle.sgf_reader.specs.Grammar.{SpelledGame, SpelledNode}
 use Rattle.sgf_reader.specs.Faults.{IsLive, HasFault, IsFirstFault}
-use Rattle.sgf_reader.specs.Scan.{Scan, Place, Outside, Before, Within, Inside, Phase, Opened, InNode, with_node, with_bracket, begun, step, within, scan, at_start}
+use Rattle.sgf_reader.specs.Scan.{Scan, Place, Before, Inside, Opened, InNode, with_node, with_bracket, begun, step, within, scan, at_start}
 use Rattle.sgf_reader.specs.Reading.{Fails, refused, too_deep, too_many_nodes, too_many_games}
 use Rattle.sgf_reader.specs.Stays.{IsReadTo, FailsIn}
 use Rattle.sgf_reader.proofs.SpellsOne.{live-scans}
-use Rattle.sgf_reader.proofs.LimitLaws.{ScansTooDeep, ScansNodeTooMany, ScansGameTooMany, too_deep-at, node_too_many-at, game_too_many-at}
+use Rattle.sgf_reader.proofs.LimitLaws.{too_deep-at, node_too_many-at, game_too_many-at}
 use Rattle.sgf_reader.proofs.Ways.{inside, out}
 use Rattle.sgf_reader.proofs.ReadTo.{scan-more}
-use Rattle.sgf_reader.proofs.BeforeLaws.{before-back, begun-back, scans-prefix}
-use Rattle.sgf_reader.proofs.FirstFaults.{Later, at_no_game, at_ended, at_unexpected, at_limit, at_deep, at_nodes, at_games, later, Comes, not_sooner, same_scan, same_inside, not_within, begins_here}
+use Rattle.sgf_reader.proofs.BeforeLaws.{before-back, scans-prefix}
+use Rattle.sgf_reader.proofs.FirstFaults.{Later, at_no_game, at_ended, at_unexpected, at_limit, at_deep, at_nodes, at_games, later, Comes, not_sooner, same_scan, same_inside, begins_here}
 
 no_scan : (s : Scan) → None ≡ Some s → ⊥
 no_scan s e = cc

@@ -1,20 +1,18 @@
 -- Which fault of a text is the first.
-use Rattle.std.proofs.Common.{◌≡◌, ◌≢◌, ◌⊎◌, ℕ, zero, suc, ◌+◌, ◌-◌, ◌<◌, ◌≤◌, List, [], ◌∷◌, ◌++◌, length, map, take, slice_index, Option, Some, None, refl, sym, ap, ◌∙◌, subst, arith, inl, inr, length-append}
+use Rattle.std.proofs.Common.{◌≡◌, ◌⊎◌, ℕ, ◌+◌, ◌<◌, ◌≤◌, List, [], ◌∷◌, length, take, Some, refl, sym, ap, ◌∙◌, subst, arith, inl, inr, length-append}
 use Rattle.std.proofs.Math.Nat.{eq-or-lt_of_le}
 use Rattle.std.proofs.lemmas.Bool.{cases_lt}
 use Rattle.sgf_reader.specs.declared.fault.FaultKind.{FaultKind}
 use Rattle.sgf_reader.specs.declared.fault.FaultKind.TheVariants as kind
-use Rattle.sgf_reader.specs.declared.fault.SgfFault.{SgfFault}
 use Rattle.sgf_reader.specs.declared.limits.TheConstants.{MAX_FILE, MAX_GAMES, MAX_NODES, MAX_OPEN}
-use Rattle.sgf_reader.specs.Grammar.{SpelledGame, SpelledNode, Spells}
-use Rattle.sgf_reader.specs.Faults.{IsLive, HasTreeStart, HasFault, IsFirstFault}
-use Rattle.sgf_reader.specs.Scan.{Scan, Place, Outside, Before, Within, Inside, Phase, Opened, InNode, with_node, with_bracket, begun, step, within, scan, at_start}
-use Rattle.sgf_reader.specs.Reading.{IsWithinLimits, few_outside, few_before, few_inside, Fails, refused, too_deep, too_many_nodes, too_many_games}
-use Rattle.sgf_reader.specs.Stays.{IsReadTo, FailsIn}
+use Rattle.sgf_reader.specs.Grammar.{SpelledGame, Spells}
+use Rattle.sgf_reader.specs.Faults.{IsLive, HasTreeStart, HasFault}
+use Rattle.sgf_reader.specs.Scan.{Scan, Before, Within, Inside, begun, within, scan, at_start}
+use Rattle.sgf_reader.specs.Reading.{IsWithinLimits, few_inside}
+use Rattle.sgf_reader.specs.Stays.{IsReadTo}
 use Rattle.sgf_reader.proofs.SpellsOne.{live-scans}
 use Rattle.sgf_reader.proofs.LimitLaws.{ScansTooDeep, ScansNodeTooMany, ScansGameTooMany, too_deep-at, node_too_many-at, game_too_many-at}
 use Rattle.sgf_reader.proofs.Ways.{inside, out}
-use Rattle.sgf_reader.proofs.ReadTo.{scan-more}
 use Rattle.sgf_reader.proofs.BeforeLaws.{before-back, begun-back, scans-prefix}
 
 -- A fault of a text of which the first bytes, so many, are within the limits. It stands there or later, but for the

@@ -1,16 +1,16 @@
 -- One byte outside trees leads the reader to what the scan's step gives.
-use Rattle.std.proofs.Common.{◌≡◌, ◌≢◌, ◌⊎◌, ℕ, ◌+◌, ◌<◌, ◌≤◌, List, [], ◌∷◌, ◌++◌, length, map, Option, Some, None, Bool, true, false, refl, sym, ap, ◌∙◌, subst, arith, inl, inr, nat_le, nat_eq, ◌==◌, if◌then◌else◌}
+use Rattle.std.proofs.Common.{◌≡◌, ◌≢◌, ◌⊎◌, ℕ, ◌<◌, ◌≤◌, List, [], ◌∷◌, length, map, Some, None, Bool, true, false, refl, ap, ◌∙◌, arith, inl, inr, ◌==◌, if◌then◌else◌}
 use Rattle.std.proofs.lemmas.List.{length-map}
 use Rattle.std.proofs.lemmas.Bool.{le-leb, lt-leb, ne_eqb}
 use Rattle.sgf_reader.specs.declared.fault.FaultKind.TheVariants as kind
 use Rattle.sgf_reader.specs.declared.fault.SgfFault.{SgfFault}
-use Rattle.sgf_reader.specs.declared.limits.TheConstants.{MAX_GAMES, MAX_NODES, MAX_OPEN}
+use Rattle.sgf_reader.specs.declared.limits.TheConstants.{MAX_GAMES, MAX_NODES}
 use Rattle.sgf_reader.specs.declared.place.Phase.TheVariants as at
 use Rattle.sgf_reader.specs.declared.place.Place as places
 use Rattle.sgf_reader.specs.declared.place.Place.TheVariants as stands
-use Rattle.sgf_reader.specs.Grammar.{SpelledGame, raw_node, raw_game}
-use Rattle.sgf_reader.specs.Scan.{Inside, Place, Outside, Before, Within, Scan, step, within, begun, is_white}
-use Rattle.sgf_reader.specs.Reading.{View, with_raw_node, ShowsInside, ShowsPlace, none_open, may_begin, inside, Shows, IsWithinLimits, few_outside, few_before, few_inside, Leads, Fails, refused, too_deep, too_many_nodes, too_many_games, StepsOn, StepFails}
+use Rattle.sgf_reader.specs.Grammar.{SpelledGame, raw_game}
+use Rattle.sgf_reader.specs.Scan.{Place, Outside, Before, Within, Scan, step, within, begun}
+use Rattle.sgf_reader.specs.Reading.{View, with_raw_node, ShowsInside, ShowsPlace, none_open, may_begin, inside, IsWithinLimits, few_outside, few_before, few_inside, Leads, too_many_games, StepsOn, StepFails}
 
 -- a scan outside trees, and the reader that shows it
 pub record IsShownOutside (v : View) (at : Place) (s : Scan) : Type 0 where

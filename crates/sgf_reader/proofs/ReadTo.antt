@@ -1,19 +1,17 @@
 -- How far a text was read.
-use Rattle.std.proofs.Common.{◌≡◌, ◌≢◌, ◌⊎◌, ℕ, zero, suc, ◌+◌, ◌<◌, ◌≤◌, List, [], ◌∷◌, ◌++◌, length, map, take, slice_index, get_or, ◌-◌, Option, Some, None, Bool, true, false, option_and_then, refl, sym, ap, ◌∙◌, subst, arith, inl, inr, add-one, add-zero, zero-add, length-take}
+use Rattle.std.proofs.Common.{◌≡◌, ◌≢◌, ℕ, zero, suc, ◌+◌, ◌<◌, ◌≤◌, List, [], ◌∷◌, ◌++◌, length, take, slice_index, ◌-◌, Option, Some, None, option_and_then, refl, sym, ap, ◌∙◌, subst, arith, inl, inr, add-one, add-zero, length-take}
 use Rattle.std.proofs.Math.Seq.{take-suc}
 use Rattle.std.proofs.lemmas.Bool.{cases_lt, le-leb, ne_eqb}
-use Rattle.sgf_reader.specs.declared.collection.Span.{Span}
 use Rattle.sgf_reader.specs.declared.fault.SgfFault.{SgfFault}
-use Rattle.sgf_reader.specs.declared.limits.TheConstants.{MAX_GAMES, MAX_NODES, MAX_OPEN}
 use Rattle.sgf_reader.specs.declared.place.Phase as phases
 use Rattle.sgf_reader.specs.declared.place.Phase.TheVariants as at
 use Rattle.sgf_reader.specs.declared.place.Place as places
 use Rattle.sgf_reader.specs.declared.place.Place.TheVariants as stands
-use Rattle.sgf_reader.specs.Grammar.{SpelledGame, raw_game}
-use Rattle.sgf_reader.specs.Scan.{Inside, Place, Outside, Before, Within, Scan, Phase, step, step_within, within, scan, at_start}
+use Rattle.sgf_reader.specs.Grammar.{SpelledGame}
+use Rattle.sgf_reader.specs.Scan.{Inside, Place, Outside, Before, Scan, Phase, step, step_within, within, scan, at_start}
 use Rattle.sgf_reader.specs.Turn.{phase_of}
-use Rattle.sgf_reader.specs.Reading.{View, ShowsInside, ShowsPlace, none_open, may_begin, inside, Shows, IsWithinLimits, few_outside, Leads, Fails, StepsOn, StepFails}
-use Rattle.sgf_reader.specs.Stays.{StaysAt, StaysIn, IsPlain, EachFrom, IsReadTo, HasReadTo, FailsIn, nothing}
+use Rattle.sgf_reader.specs.Reading.{View, ShowsPlace, none_open, may_begin, inside, IsWithinLimits, few_outside, StepsOn, StepFails}
+use Rattle.sgf_reader.specs.Stays.{StaysAt, StaysIn, EachFrom, IsReadTo, HasReadTo, FailsIn, nothing}
 use Rattle.sgf_reader.proofs.Scans.{scan-append}
 
 some_same : {A : Type 0} (o : Option A) → option_and_then (λ (x : A). Some x) o ≡ o

@@ -1,5 +1,5 @@
 -- What was read so far, and how it shows the scan's steps.
-use Rattle.std.proofs.Common.{◌≡◌, ℕ, ◌+◌, ◌<◌, ◌≤◌, List, [], ◌∷◌, ◌++◌, length, Option, Some, None, Bool, true, false, refl, sym, ap, ◌∙◌, arith}
+use Rattle.std.proofs.Common.{◌≡◌, ℕ, List, [], ◌∷◌, ◌++◌, Option, Bool, true, false, refl, sym, ap}
 use Rattle.sgf_reader.specs.declared.collection.Pair.{Pair}
 use Rattle.sgf_reader.specs.declared.collection.RawNode.{RawNode}
 use Rattle.sgf_reader.specs.Reading.{all_nodes, with_raw_pair}

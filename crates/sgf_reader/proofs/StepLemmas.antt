@@ -1,5 +1,5 @@
 -- One byte leads the reader to what the scan's step gives.
-use Rattle.std.proofs.Common.{◌≡◌, ℕ, suc, ◌+◌, ◌<◌, ◌≤◌, List, [], ◌∷◌, ◌++◌, length, map, Option, Some, None, Bool, true, false, refl, sym, ap, ◌∙◌, subst, arith, length-append, nat_le, nat_eq, ◌==◌, if◌then◌else◌}
+use Rattle.std.proofs.Common.{◌≡◌, ℕ, suc, ◌<◌, ◌≤◌, List, [], ◌∷◌, ◌++◌, length, map, Option, Some, true, refl, sym, ap, ◌∙◌, subst, arith, length-append}
 use Rattle.std.proofs.Common.{Result, Ok, Err}
 use Rattle.std.specs.Result.{IsErrAnd}
 use Rattle.std.proofs.lemmas.List.{map-append, length-map}
@@ -17,9 +17,9 @@ use Rattle.sgf_reader.specs.declared.place.Place.TheVariants as stands
 use Rattle.sgf_reader.specs.declared.turn.Turn as turns
 use Rattle.sgf_reader.specs.declared.turn.Turn.TheVariants as turn
 use Rattle.sgf_reader.specs.Grammar.{SpelledGame, SpelledNode, raw_node, raw_game}
-use Rattle.sgf_reader.specs.Scan.{Inside, Place, Outside, Before, Within, Scan, Phase, Opened, InNode, AfterValue, AfterTree, step, step_within, within, at_phase, with_pair, with_node, with_bracket, closed, begun, is_white}
+use Rattle.sgf_reader.specs.Scan.{Inside, Place, Outside, Within, Scan, Phase, AfterTree, step, step_within, at_phase, with_pair, with_node, with_bracket, closed}
 use Rattle.sgf_reader.specs.Turn.{phase_of, apply_turn, is_in_node, StaysInNode, with_value}
-use Rattle.sgf_reader.specs.Reading.{View, with_raw_pair, with_raw_node, with_raw_bracket, closed_view, closed_place, ShowsInside, ShowsPlace, none_open, may_begin, inside, Shows, IsWithinLimits, few_outside, few_before, few_inside, Leads, Fails, refused, too_deep, too_many_nodes, too_many_games, StepsOn, StepFails}
+use Rattle.sgf_reader.specs.Reading.{View, with_raw_pair, with_raw_node, with_raw_bracket, closed_view, closed_place, ShowsInside, ShowsPlace, none_open, inside, Shows, IsWithinLimits, few_outside, few_inside, Leads, refused, too_deep, too_many_nodes, StepsOn, StepFails}
 
 -- an error that is passed on is the same one
 pub same_error : {A B E : Type 0} (q : Result A E) (r : Result B E) (e f : E) → IsErrAnd r (λ x. x ≡ e) → q ≡ Err e → r ≡ Err f → q ≡ Err f

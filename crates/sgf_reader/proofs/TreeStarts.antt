@@ -1,14 +1,14 @@
 -- Where a tree starts in a text, by the scan and by the grammar.
-use Rattle.std.proofs.Common.{◌≡◌, ◌≢◌, ◌⊎◌, ℕ, zero, suc, ◌+◌, ◌<◌, ◌≤◌, List, [], ◌∷◌, ◌++◌, length, take, slice_index, get_or, Option, Some, None, refl, sym, ap, ◌∙◌, subst, arith, inl, inr, add-one, All, append_assoc}
+use Rattle.std.proofs.Common.{◌≡◌, ℕ, zero, suc, ◌+◌, ◌<◌, ◌≤◌, List, [], ◌∷◌, ◌++◌, length, take, slice_index, get_or, Some, refl, sym, ap, ◌∙◌, subst, arith, append_assoc}
 use Rattle.std.specs.Prelude.{⊤}
 use Rattle.std.proofs.Math.Seq.{take-suc}
 use Rattle.std.proofs.lemmas.List.{take_all}
 use Rattle.std.proofs.lemmas.List.Elements.{All-append}
-use Rattle.sgf_reader.specs.Grammar.{SpelledGame, HasGames, IsTree, IsWhite, StartsTree}
+use Rattle.sgf_reader.specs.Grammar.{SpelledGame, HasGames, IsWhite, StartsTree}
 use Rattle.sgf_reader.specs.Faults.{HasTreeStart}
 use Rattle.sgf_reader.specs.Scan.{Scan, Place, Outside, Before, Within, Inside, scan, at_start}
-use Rattle.sgf_reader.proofs.Ways.{Way, inside, out}
-use Rattle.sgf_reader.proofs.Reached.{Change, changes}
+use Rattle.sgf_reader.proofs.Ways.{Way, inside}
+use Rattle.sgf_reader.proofs.Reached.{changes}
 use Rattle.sgf_reader.proofs.BeforeLaws.{back, change-not_before}
 
 no_bytes : (before white after : List ℕ) → [] ≡ before ++ (40 ∷ white ++ 59 ∷ after) → ⊥

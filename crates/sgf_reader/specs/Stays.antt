@@ -1,5 +1,5 @@
 -- For the reader's private functions: bytes that leave a reader where it stands, and how far it has read.
-use Rattle.std.specs.Prelude.{◌≡◌, ◌≢◌, ℕ, ◌+◌, ◌<◌, ◌≤◌, List, [], length, take, slice_index, Option, Some, None, false}
+use Rattle.std.specs.Prelude.{◌≡◌, ◌≢◌, ℕ, ◌<◌, ◌≤◌, List, [], length, take, slice_index, Some, None, false}
 use Rattle.sgf_reader.specs.declared.fault.FaultKind.TheVariants as kind
 use Rattle.sgf_reader.specs.declared.fault.ReadError.{ReadError}
 use Rattle.sgf_reader.specs.declared.fault.ReadError.TheVariants.{Fault}

@@ -1,8 +1,7 @@
-use Rattle.std.proofs.Common.{◌≡◌, ◌≤◌, ℕ, length, arith, subst}
+use Rattle.std.proofs.Common.{◌≡◌, ℕ, length, arith, subst}
 use Rattle.std.proofs.lemmas.Result.{IfOk-weaker}
 use Rattle.sgf_reader.specs.declared.fault.ReadError.{ReadError}
 use Rattle.sgf_reader.specs.declared.fault.ReadError.TheVariants.{Fault}
-use Rattle.sgf_reader.specs.declared.limits.TheConstants.{MAX_FILE}
 use Rattle.sgf_reader.specs.Reading.{IsEndFault}
 use Rattle.sgf_reader.specs.Stays.{HasReadTo, IsPastEnd}
 use Rattle.sgf_reader.proofs.StepLemmas.{same_error}

@@ -1,6 +1,6 @@
 use Rattle.std.proofs.Common.{sym, subst, arith}
 use Rattle.sgf_reader.specs.declared.place.Place.TheVariants.{Outside}
-use Rattle.sgf_reader.specs.Stays.{HasReadTo, nothing}
+use Rattle.sgf_reader.specs.Stays.{HasReadTo}
 use Rattle.sgf_reader.specs.Reading.{View}
 use Rattle.sgf_reader.proofs.StepLemmas.{same_error}
 use Rattle.sgf_reader.proofs.ReadTo.{HasReadTo-start, HasReadTo-more, HasReadTo-up_to, FailsIn-next}

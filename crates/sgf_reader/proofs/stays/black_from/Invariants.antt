@@ -1,5 +1,4 @@
-use Rattle.std.proofs.Common.{ℕ, ◌<◌, ◌≤◌, ◌≢◌, get_or}
-use Rattle.sgf_reader.specs.Stays.{IsPlain}
+use Rattle.std.proofs.Common.{ℕ, ◌<◌, ◌≤◌, get_or}
 use Rattle.sgf_reader.proofs.stays.black_from.Given as goal
 
 abbrev pub invariant-loop-i : goal.invariant-loop-i

@@ -1,4 +1,4 @@
-use Rattle.std.proofs.Common.{ℕ, ◌<◌, ◌≤◌, ◌≢◌, get_or}
+use Rattle.std.proofs.Common.{ℕ, ◌<◌, ◌≤◌, get_or}
 use Rattle.sgf_reader.specs.Stays.{IsPlain}
 use Rattle.sgf_reader.proofs.stays.special_from.Given as goal
 

@@ -1,4 +1,4 @@
-use Rattle.std.proofs.Common.{◌≡◌, Bool, true, ap, ◌∙◌}
+use Rattle.std.proofs.Common.{◌≡◌, true, ap, ◌∙◌}
 use Rattle.sgf_reader.specs.Reading.{View, with_raw_pair}
 use Rattle.sgf_reader.proofs.ReadingLemmas.{all_nodes-pair}
 use Rattle.sgf_reader.proofs.reading.Reading.add_value.Goals as goal
