@@ -23,3 +23,6 @@ pub use fault::{FaultKind, ReadError, SgfFault};
 pub use laws::a_text_spells_one_collection;
 pub use limits::{MAX_FILE, MAX_GAMES, MAX_NODES, MAX_OPEN};
 pub use reader::read;
+
+#[cfg(test)]
+mod tests;
