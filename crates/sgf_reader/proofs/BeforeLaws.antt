@@ -199,13 +199,13 @@ before-back text (suc count) from games there e =
     let one : suc count ≡ count + 1 = omega arith in
     let last = back text count (out games (Before from)) (omega arith) (subst (λ (k : ℕ). scan at_start 0 (take k text) ≡ Some (out games (Before from))) one e) in
     elim (before-way last.s.games count (slice_index text count) last.s.place (out games (Before from)) games from last.way refl) [
-      inl new ↦ record {
+      | inl new ↦ record {
         less = omega arith;
         white = λ k low high. absurd (omega arith);
         same = λ k low high. (let is : suc count ≡ k = omega arith in subst (λ (m : ℕ). scan at_start 0 (take m text) ≡ Some (out games (Before from))) is e);
       }
-    | inr old ↦
-        let is = scan_is last.s games (Before from) old.0.games_are old.0.place_is in
-        let h = before-back text count from games (omega arith) (last.scans ∙ ap (λ (u : Scan). Some u) is) in
-        since-more text count from games h old.1 e
+      | inr old ↦
+          let is = scan_is last.s games (Before from) old.0.games_are old.0.place_is in
+          let h = before-back text count from games (omega arith) (last.scans ∙ ap (λ (u : Scan). Some u) is) in
+          since-more text count from games h old.1 e
     ]

@@ -84,9 +84,9 @@ module _ (text : List ℕ) (end : ℕ) (v : View) (now : places.Place) (is_end :
   first-long alone other offset (at_deep low g) = not_sooner kind.TooLong kind.TooDeep end offset low (λ e. inr refl)
   first-long alone other offset (at_nodes low g) = not_sooner kind.TooLong kind.TooManyNodes end offset low (λ e. inr refl)
   first-long alone other offset (at_games g low) = elim (cases_lt offset end) [
-      inl less ↦ absurd (refuted alone offset g less low)
+    | inl less ↦ absurd (refuted alone offset g less low)
     | inr high ↦ not_sooner kind.TooLong kind.TooManyGames end offset high (λ e. inr refl)
-    ]
+  ]
 
   long-first : Alone → IsFirstFault text kind.TooLong MAX_FILE
   long-first alone = record {
@@ -102,11 +102,11 @@ module _ (text : List ℕ) (end : ℕ) (v : View) (now : places.Place) (is_end :
   first-many from place read other offset (at_deep low g) = inl (omega arith)
   first-many from place read other offset (at_nodes low g) = inl (omega arith)
   first-many from place read other offset (at_games g low) = elim (cases_lt offset end) [
-      inl less ↦
+    | inl less ↦
         let is : Before from ≡ Before offset = sym place ∙ ap (λ (u : Scan). u.place) (bracket_read offset g less low) in
         inr (cc, inl refl)
     | inr high ↦ inl (omega arith)
-    ]
+  ]
 
   many-first : (from : ℕ) → now ≡ stands.Before from → MAX_GAMES ≤ length v.games → IsNodeNext text end → IsFirstFault text kind.TooManyGames from
   many-first from is many next =

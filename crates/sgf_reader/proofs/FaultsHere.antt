@@ -26,8 +26,8 @@ module _ (text : List ℕ) (count : ℕ) (s : Scan) (there : count < length text
   -- nothing is scanned past a byte that is refused
   stuck : step s.games s.place count (slice_index text count) ≡ None → (to : ℕ) (t : Scan) → count < to → to ≤ length text → scan at_start 0 (take to text) ≡ Some t → ⊥
   stuck none to t low high e =
-    let here = scans-prefix text (count + 1) to t (omega arith) high e in
-    no_scan here.0 (sym none ∙ (sym (scan-more text count s there read.scans) ∙ here.1))
+      let here = scans-prefix text (count + 1) to t (omega arith) high e in
+      no_scan here.0 (sym none ∙ (sym (scan-more text count s there read.scans) ∙ here.1))
 
   first-refused : step s.games s.place count (slice_index text count) ≡ None → (other : FaultKind) (offset : ℕ) → Later text count other offset → Comes kind.Unexpected count other offset
   first-refused none other offset (at_no_game e not start) = inl (omega arith)
@@ -40,11 +40,11 @@ module _ (text : List ℕ) (count : ℕ) (s : Scan) (there : count < length text
 
   refused-first : step s.games s.place count (slice_index text count) ≡ None → IsFirstFault text kind.Unexpected count
   refused-first none =
-    let dead : ¬ IsLive (take (count + 1) text) = λ live. (let t = (live-scans (take (count + 1) text)).0 live in stuck none (count + 1) t.0 (omega arith) (omega arith) t.1) in
-    record {
-      there = HasFault.unexpected there ((live-scans (take count text)).1 (s, read.scans)) dead;
-      first = λ other offset h. first-refused none other offset (later text count s (omega arith) (omega arith) read other offset h);
-    }
+      let dead : ¬ IsLive (take (count + 1) text) = λ live. (let t = (live-scans (take (count + 1) text)).0 live in stuck none (count + 1) t.0 (omega arith) (omega arith) t.1) in
+      record {
+        there = HasFault.unexpected there ((live-scans (take count text)).1 (s, read.scans)) dead;
+        first = λ other offset h. first-refused none other offset (later text count s (omega arith) (omega arith) read other offset h);
+      }
 
   -- the byte leads on into a tree, and so is live
   leads_on : (i : Inside) → step s.games s.place count (slice_index text count) ≡ within s.games i → scan at_start 0 (take (count + 1) text) ≡ Some (inside s.games i)
@@ -63,12 +63,12 @@ module _ (text : List ℕ) (count : ℕ) (s : Scan) (there : count < length text
   first-deep i goes other offset (at_limit e long) = inl (omega arith)
   first-deep i goes other offset (at_deep low h) = not_sooner kind.TooDeep kind.TooDeep count offset low (λ e. inl refl)
   first-deep i goes other offset (at_nodes low h) = not_sooner kind.TooDeep kind.TooManyNodes count offset low (λ same.
-    let is = same_inside s.games h.games (with_bracket i count) h.inside (same_scan text (count + 1) _ _ (leads_on (with_bracket i count) goes) (here (λ k u. ℕ) offset (inside h.games h.inside) same h.scans)) in
-    absurd (other_phase count (ap (λ (j : Inside). j.phase) is ∙ h.phase)))
+      let is = same_inside s.games h.games (with_bracket i count) h.inside (same_scan text (count + 1) _ _ (leads_on (with_bracket i count) goes) (here (λ k u. ℕ) offset (inside h.games h.inside) same h.scans)) in
+      absurd (other_phase count (ap (λ (j : Inside). j.phase) is ∙ h.phase)))
   first-deep i goes other offset (at_games h low) = elim (cases_lt count offset) [
-      inl less ↦ inl less
+    | inl less ↦ inl less
     | inr past ↦ absurd (other_phase count (ap (λ (j : Inside). j.phase) (begins_here text count s.games (with_bracket i count) there (leads_on (with_bracket i count) goes) offset h low past)))
-    ]
+  ]
 
   deep-first : (i : Inside) → step s.games s.place count (slice_index text count) ≡ within s.games (with_bracket i count) → length i.parents ≡ MAX_OPEN → IsFirstFault text kind.TooDeep count
   deep-first i goes most = record {
@@ -82,17 +82,17 @@ module _ (text : List ℕ) (count : ℕ) (s : Scan) (there : count < length text
   first-nodes i opened goes most other offset (at_unexpected inner low dead) = not_sooner kind.TooManyNodes kind.Unexpected count offset low (λ same. absurd (not_dead (with_node i opened count) goes offset same dead))
   first-nodes i opened goes most other offset (at_limit e long) = inl (omega arith)
   first-nodes i opened goes most other offset (at_deep low h) = not_sooner kind.TooManyNodes kind.TooDeep count offset low (λ same.
-    let is = same_inside s.games h.games (with_node i opened count) h.inside (same_scan text (count + 1) _ _ (leads_on (with_node i opened count) goes) (here (λ k u. ℕ) offset (inside h.games h.inside) same h.scans)) in
-    absurd (other_phase offset (sym (ap (λ (j : Inside). j.phase) is ∙ h.phase))))
+      let is = same_inside s.games h.games (with_node i opened count) h.inside (same_scan text (count + 1) _ _ (leads_on (with_node i opened count) goes) (here (λ k u. ℕ) offset (inside h.games h.inside) same h.scans)) in
+      absurd (other_phase offset (sym (ap (λ (j : Inside). j.phase) is ∙ h.phase))))
   first-nodes i opened goes most other offset (at_nodes low h) = not_sooner kind.TooManyNodes kind.TooManyNodes count offset low (λ e. inl refl)
   first-nodes i opened goes most other offset (at_games h low) = elim (cases_lt count offset) [
-      inl less ↦ inl less
+    | inl less ↦ inl less
     | inr past ↦
         let is = begins_here text count s.games (with_node i opened count) there (leads_on (with_node i opened count) goes) offset h low past in
         let long : length (with_node i opened count).nodes ≡ 1 = ap (λ (j : Inside). length j.nodes) is in
         let longer = length-append i.nodes (record { opened = opened; at = count; depth = length i.parents; parent = i.last; pairs = [] } ∷ []) in
         absurd (omega arith)
-    ]
+  ]
 
   nodes-first : (i : Inside) (opened : Option ℕ) → step s.games s.place count (slice_index text count) ≡ within s.games (with_node i opened count) → length i.nodes ≡ MAX_NODES → IsFirstFault text kind.TooManyNodes count
   nodes-first i opened goes most = record {
@@ -108,16 +108,16 @@ module _ (text : List ℕ) (count : ℕ) (s : Scan) (there : count < length text
   first-games from low_from goes other offset (at_deep low h) = inl (omega arith)
   first-games from low_from goes other offset (at_nodes low h) = inl (omega arith)
   first-games from low_from goes other offset (at_games h low) = elim (cases_lt from offset) [
-      inl less ↦ inl less
+    | inl less ↦ inl less
     | inr past ↦
         let is = begins_here text count s.games (begun from count) there (leads_on (begun from count) goes) offset h low (omega arith) in
         inr (ap (λ (j : Inside). j.at) is, inl refl)
-    ]
+  ]
 
   before-less : (from : ℕ) → s.place ≡ Before from → from < count
   before-less from place =
-    let e : scan at_start 0 (take count text) ≡ Some (out s.games (Before from)) = subst (λ (p : Place). scan at_start 0 (take count text) ≡ Some (out s.games p)) place read.scans in
-    (before-back text count from s.games (omega arith) e).less
+      let e : scan at_start 0 (take count text) ≡ Some (out s.games (Before from)) = subst (λ (p : Place). scan at_start 0 (take count text) ≡ Some (out s.games p)) place read.scans in
+      (before-back text count from s.games (omega arith) e).less
 
   games-first : (from : ℕ) → s.place ≡ Before from → step s.games s.place count (slice_index text count) ≡ within s.games (begun from count) → length s.games ≡ MAX_GAMES → IsFirstFault text kind.TooManyGames from
   games-first from place goes most = record {

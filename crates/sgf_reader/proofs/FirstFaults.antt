@@ -42,27 +42,27 @@ module _ (text : List ℕ) (count : ℕ) (s : Scan) (there : count ≤ length te
 
   past-unexpected : (at : ℕ) → at < length text → ¬ IsLive (take (at + 1) text) → Later text count kind.Unexpected at
   past-unexpected at within dead = elim (cases_lt at count) [
-      inl low ↦ absurd (dead (scanned-live (at + 1) (omega arith)))
+    | inl low ↦ absurd (dead (scanned-live (at + 1) (omega arith)))
     | inr high ↦ at_unexpected within high dead
-    ]
+  ]
 
   past-deep : (at : ℕ) → ScansTooDeep text at → Later text count kind.TooDeep at
   past-deep at h = elim (cases_lt at count) [
-      inl low ↦ (let most = deep-limit (read.limits (at + 1) (inside h.games h.inside) (omega arith) h.scans) in absurd (omega (arith, h.past)))
+    | inl low ↦ (let most = deep-limit (read.limits (at + 1) (inside h.games h.inside) (omega arith) h.scans) in absurd (omega (arith, h.past)))
     | inr high ↦ at_deep high h
-    ]
+  ]
 
   past-nodes : (at : ℕ) → ScansNodeTooMany text at → Later text count kind.TooManyNodes at
   past-nodes at h = elim (cases_lt at count) [
-      inl low ↦ (let most = nodes-limit (read.limits (at + 1) (inside h.games h.inside) (omega arith) h.scans) in let long = ap length h.nodes ∙ length-append h.before (h.node ∷ []) in absurd (omega (arith, h.past)))
+    | inl low ↦ (let most = nodes-limit (read.limits (at + 1) (inside h.games h.inside) (omega arith) h.scans) in let long = ap length h.nodes ∙ length-append h.before (h.node ∷ []) in absurd (omega (arith, h.past)))
     | inr high ↦ at_nodes high h
-    ]
+  ]
 
   past-games : (at : ℕ) → ScansGameTooMany text at → Later text count kind.TooManyGames at
   past-games at h = elim (cases_lt h.root count) [
-      inl low ↦ (let most = games-limit (read.limits (h.root + 1) (inside h.games (begun at h.root)) (omega arith) h.scans) in absurd (omega (arith, h.past)))
+    | inl low ↦ (let most = games-limit (read.limits (h.root + 1) (inside h.games (begun at h.root)) (omega arith) h.scans) in absurd (omega (arith, h.past)))
     | inr high ↦ at_games h high
-    ]
+  ]
 
   pub later : (of : FaultKind) (at : ℕ) → HasFault text of at → Later text count of at
   later of at (HasFault.no_game live not none) = at_no_game refl not none
@@ -92,11 +92,11 @@ not_within games others i from e = let places : Within i ≡ Before from = ap (�
 -- a game whose bracket isn't behind this byte begins with it, if the byte leads into a tree
 pub begins_here : (text : List ℕ) (count : ℕ) (games : List SpelledGame) (i : Inside) → count < length text → scan at_start 0 (take (count + 1) text) ≡ Some (inside games i) → (at : ℕ) (h : ScansGameTooMany text at) → count ≤ h.root → at ≤ count → i ≡ begun at count
 begins_here text count games i there e at h low before = elim (eq-or-lt_of_le low) [
-    inl same ↦
+  | inl same ↦
       let other : scan at_start 0 (take (count + 1) text) ≡ Some (inside h.games (begun at count)) = subst (λ (k : ℕ). scan at_start 0 (take (k + 1) text) ≡ Some (inside h.games (begun at k))) (sym same) h.scans in
       same_inside games h.games i (begun at count) (same_scan text (count + 1) _ _ e other)
   | inr less ↦
       let begun_at = begun-back text h.root at h.games h.there h.scans in
       let since = before-back text h.root at h.games (omega (arith, h.there)) begun_at.scans in
       absurd (not_within games h.games i at (same_scan text (count + 1) _ _ e (since.same (count + 1) (omega arith) (omega arith))))
-  ]
+]

@@ -36,11 +36,11 @@ limits-start text (suc j) t below is = absurd (omega arith)
 limits-more : (text : List ℕ) (count : ℕ) (s next : Scan) → IsReadTo text count s → scan at_start 0 (take (count + 1) text) ≡ Some next → IsWithinLimits (length next.games) next.place → (j : ℕ) (t : Scan) → j ≤ count + 1 → scan at_start 0 (take j text) ≡ Some t → IsWithinLimits (length t.games) t.place
 limits-more text count s next read e limits j t below is =
     elim (cases_lt count j) [
-      inr low ↦ read.limits j t low is
-    | inl high ↦
-        let same : j ≡ count + 1 = omega arith in
-        let there : scan at_start 0 (take (count + 1) text) ≡ Some t = subst (λ (k : ℕ). scan at_start 0 (take k text) ≡ Some t) same is in
-        subst (λ (u : Scan). IsWithinLimits (length u.games) u.place) (some_only next t (sym e ∙ there)) limits
+      | inr low ↦ read.limits j t low is
+      | inl high ↦
+          let same : j ≡ count + 1 = omega arith in
+          let there : scan at_start 0 (take (count + 1) text) ≡ Some t = subst (λ (k : ℕ). scan at_start 0 (take k text) ≡ Some t) same is in
+          subst (λ (u : Scan). IsWithinLimits (length u.games) u.place) (some_only next t (sym e ∙ there)) limits
     ]
 
 -- one byte more was read

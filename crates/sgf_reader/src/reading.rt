@@ -36,11 +36,11 @@ impl Model for Reading {
     ghost Value = { View };
 
     ghost view = { λ r. record {
-        games = r.games.items;
-        nodes = all_nodes r.nodes.items r.is_reading r.parent r.pairs.items;
-        is_reading = r.is_reading;
-        parents = reverse r.parents.items;
-        last = r.last
+      games = r.games.items;
+      nodes = all_nodes r.nodes.items r.is_reading r.parent r.pairs.items;
+      is_reading = r.is_reading;
+      parents = reverse r.parents.items;
+      last = r.last;
     } };
 }
 

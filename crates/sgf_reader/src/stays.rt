@@ -66,7 +66,10 @@ pub(crate) fn next_from(text: &[u8], from: usize, end: usize, place: Place) -> u
         Place::Before(_) => black_from(text, from, end),
         Place::Within(phase) => match phase {
             Phase::InValue { name: _, from: _ } => special_from(text, from, end),
-            Phase::InName { from: _, has_upper: _ } => from,
+            Phase::InName {
+                from: _,
+                has_upper: _,
+            } => from,
             Phase::Escaped { name: _, from: _ } => from,
             _ => black_from(text, from, end),
         },

@@ -21,12 +21,7 @@ fn outside(at: u32, byte: u8) -> Place
 }
 
 // One byte, at this offset, behind the `(` at the first offset and white space.
-fn step_before(
-    reading: &mut Reading,
-    from: u32,
-    at: u32,
-    byte: u8,
-) -> Result<Place, ReadError>
+fn step_before(reading: &mut Reading, from: u32, at: u32, byte: u8) -> Result<Place, ReadError>
     ensures ok { IfOk result (StepsOn reading.old (Place.Before from) at byte reading.new) }
     ensures fault { (f : SgfFault) → result ≡ Err (Fault f) → StepFails reading.old (Place.Before from) at byte f }
 {
@@ -41,12 +36,7 @@ fn step_before(
 }
 
 // One byte, at this offset, inside a tree.
-fn step_within(
-    reading: &mut Reading,
-    phase: Phase,
-    at: u32,
-    byte: u8,
-) -> Result<Place, ReadError>
+fn step_within(reading: &mut Reading, phase: Phase, at: u32, byte: u8) -> Result<Place, ReadError>
     requires { at < 2 ^ 24 }
     ensures ok { IfOk result (StepsOn reading.old (Place.Within phase) at byte reading.new) }
     ensures fault { (f : SgfFault) → result ≡ Err (Fault f) → StepFails reading.old (Place.Within phase) at byte f }

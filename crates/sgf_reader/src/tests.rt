@@ -65,10 +65,18 @@ const FAULTS: [(&str, FaultKind, u32); 19] = [
 #[test]
 fn short_texts(rt: HostRuntime) {
     for (text, games) in SPELLED {
-        assert_eq!(rt; game_count(rt.alloc(), text.as_bytes()), Ok(games), "{text}");
+        assert_eq!(rt;
+            game_count(rt.alloc(), text.as_bytes()),
+            Ok(games),
+            "{text}"
+        );
     }
     for (text, kind, at) in FAULTS {
-        assert_eq!(rt; game_count(rt.alloc(), text.as_bytes()), fault(kind, at), "{text}");
+        assert_eq!(rt;
+            game_count(rt.alloc(), text.as_bytes()),
+            fault(kind, at),
+            "{text}"
+        );
     }
 }
 
@@ -106,13 +114,22 @@ fn texts_of_many_nodes_and_games(rt: HostRuntime) -> Result<(), Fail> {
     let alloc = rt.alloc();
     assert_eq!(rt; game_count(alloc, &with_nodes(alloc, 65_536)?), Ok(1));
     let nodes = with_nodes(alloc, 65_537)?;
-    assert_eq!(rt; game_count(alloc, &nodes), fault(FaultKind::TooManyNodes, 65_537));
+    assert_eq!(rt;
+        game_count(alloc, &nodes),
+        fault(FaultKind::TooManyNodes, 65_537)
+    );
     let games = repeated(alloc, b"(;)", 65_537, b"")?;
-    assert_eq!(rt; game_count(alloc, &games), fault(FaultKind::TooManyGames, 196_608));
+    assert_eq!(rt;
+        game_count(alloc, &games),
+        fault(FaultKind::TooManyGames, 196_608)
+    );
     let games = repeated(alloc, b"(;)", 65_536, b"(x")?;
     assert_eq!(rt; game_count(alloc, &games), Ok(65_536));
     let games = repeated(alloc, b"(;)", 65_536, b"( \n;b")?;
-    assert_eq!(rt; game_count(alloc, &games), fault(FaultKind::TooManyGames, 196_608));
+    assert_eq!(rt;
+        game_count(alloc, &games),
+        fault(FaultKind::TooManyGames, 196_608)
+    );
     Ok(())
 }
 
@@ -123,9 +140,15 @@ fn longest_texts(rt: HostRuntime) -> Result<(), Fail> {
     let longest = repeated(alloc, b"(;)", 1, &spaces)?;
     assert_eq!(rt; game_count(alloc, &longest), Ok(1));
     let longer = repeated(alloc, b" ", 16_777_217, b"")?;
-    assert_eq!(rt; game_count(alloc, &longer), fault(FaultKind::TooLong, 16_777_216));
+    assert_eq!(rt;
+        game_count(alloc, &longer),
+        fault(FaultKind::TooLong, 16_777_216)
+    );
     let broken = repeated(alloc, b" ", 16_777_215, b"(;1")?;
-    assert_eq!(rt; game_count(alloc, &broken), fault(FaultKind::TooLong, 16_777_216));
+    assert_eq!(rt;
+        game_count(alloc, &broken),
+        fault(FaultKind::TooLong, 16_777_216)
+    );
     Ok(())
 }
 
@@ -140,15 +163,25 @@ fn with_games_and_bracket(alloc: Global, end: &[u8]) -> Result<Vec<u8>, AllocErr
 fn a_game_past_the_limit_across_the_greatest_length(rt: HostRuntime) -> Result<(), Fail> {
     let alloc = rt.alloc();
     let begun = with_games_and_bracket(alloc, b";")?;
-    assert_eq!(rt; game_count(alloc, &begun), fault(FaultKind::TooManyGames, 196_608));
+    assert_eq!(rt;
+        game_count(alloc, &begun),
+        fault(FaultKind::TooManyGames, 196_608)
+    );
     let none = with_games_and_bracket(alloc, b"x;")?;
-    assert_eq!(rt; game_count(alloc, &none), fault(FaultKind::TooLong, 16_777_216));
+    assert_eq!(rt;
+        game_count(alloc, &none),
+        fault(FaultKind::TooLong, 16_777_216)
+    );
     let none = with_games_and_bracket(alloc, b"")?;
-    assert_eq!(rt; game_count(alloc, &none), fault(FaultKind::TooLong, 16_777_216));
+    assert_eq!(rt;
+        game_count(alloc, &none),
+        fault(FaultKind::TooLong, 16_777_216)
+    );
     Ok(())
 }
 
-const HANDICAP_GAME: &str = "(;GM[1]FF[4]CA[UTF-8]AP[CGoban:3]ST[2]\nRU[Japanese]SZ[19]HA[2]KM[0.50]\nPW[Ito]PB[Sato]WR[5d]BR[3d]DT[2003-04-12]PC[The Kiseido Go Server]RE[W+Resign]AB[dp][pd]\n;W[qp]C[Hi [3d\\]: good game]\n;B[dd](;W[pq];B[po])(;W[fc];B[cf]))";
+const HANDICAP_GAME: &str =
+    "(;GM[1]FF[4]CA[UTF-8]AP[CGoban:3]ST[2]\nRU[Japanese]SZ[19]HA[2]KM[0.50]\nPW[Ito]PB[Sato]WR[5d]BR[3d]DT[2003-04-12]PC[The Kiseido Go Server]RE[W+Resign]AB[dp][pd]\n;W[qp]C[Hi [3d\\]: good game]\n;B[dd](;W[pq];B[po])(;W[fc];B[cf]))";
 
 #[test]
 fn beginnings_of_a_game(rt: HostRuntime) {
@@ -159,7 +192,10 @@ fn beginnings_of_a_game(rt: HostRuntime) {
         } else {
             FaultKind::Ended
         };
-        assert_eq!(rt; game_count(rt.alloc(), &text[..count]), fault(kind, count as u32));
+        assert_eq!(rt;
+            game_count(rt.alloc(), &text[..count]),
+            fault(kind, count as u32)
+        );
     }
     assert_eq!(rt; game_count(rt.alloc(), text), Ok(1));
 }
