@@ -8,6 +8,8 @@ mod ReadingLemmas
 pub mod NodeParents
 pub mod ReadParents
 pub mod Reached
+pub mod ReadAscending
+pub mod WithinLimits
 pub mod ScanEnds
 pub mod Scans
 pub mod ScansSpelled

@@ -120,7 +120,8 @@ change-open games s at t h (begins n) = h
 change-open games s at t h (opens e) = omega arith
 change-open games s at t h (closes e) = closed-open games s s.parents
 
-way-open : (games : List SpelledGame) (at b : ℕ) (place : Place) (t : Scan) → HasOpen place → Way games at b place t → HasOpen t.place
+-- a bracket stays open
+pub way-open : (games : List SpelledGame) (at b : ℕ) (place : Place) (t : Scan) → HasOpen place → Way games at b place t → HasOpen t.place
 way-open games at b place t h (Way.out_open e) = tt
 way-open games at b place t h (Way.out_skip e) = tt
 way-open games at b place t h (Way.before_white e) = tt

@@ -169,12 +169,11 @@ module _ (s : Inside) where
   closes-hangs games (p ∷ []) g t = record { before = All-push IsHungGame games (record { at = s.at; nodes = s.nodes }) g (record { nodes = t.hanging.hung }); here = tt }
   closes-hangs games (p ∷ r ∷ parents) g t =
       let is = t.is in
-      let rest : p ∷ r ∷ parents ≡ t.q ∷ t.others = cc in
       let same_q : p ≡ t.q = cc in
       let same_others : r ∷ parents ≡ t.others = cc in
       let hanging : Hanging (parents_of s.nodes) (depths_of s.nodes) t.k p (r ∷ parents) = subst (λ (x : Option ℕ). Hanging (parents_of s.nodes) (depths_of s.nodes) t.k x (r ∷ parents)) (sym same_q) (subst (λ (xs : List (Option ℕ)). Hanging (parents_of s.nodes) (depths_of s.nodes) t.k t.q xs) (sym same_others) t.hanging) in
       let popped = hanging-pop (parents_of s.nodes) (depths_of s.nodes) t.k p r parents hanging in
-      record { before = g; here = record { k = popped.0; q = r; others = parents; is = ap (λ (x : Option ℕ). x ∷ r ∷ parents) popped.1; hanging = popped.2 } }
+      record { before = g; here = record { k = popped.0; q = r; others = parents; is = ap (λ (x : Option ℕ). x ∷ r ∷ parents) {y = Some popped.0} popped.1; hanging = popped.2 } }
 
 change-hangs : (games : List SpelledGame) (s : Inside) (count : ℕ) (t : Scan) → Change games s count t → All IsHungGame games → Hangs s.phase s.last s.parents s.nodes → ScanHangs t
 change-hangs games s count t (Change.moves {phase = phase} m) g h = record { before = g; here = moved-hangs s count phase m h }
