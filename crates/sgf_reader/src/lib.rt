@@ -25,4 +25,6 @@ pub use limits::{MAX_FILE, MAX_GAMES, MAX_NODES, MAX_OPEN};
 pub use reader::read;
 
 #[cfg(test)]
+mod recogniser_tests;
+#[cfg(test)]
 mod tests;
