@@ -199,9 +199,9 @@ fn answer(alloc: Global, text: &[u8]) -> Result<usize, ReadError> {
 }
 
 // The text of this number among all of these bytes: its decimal digits, the last one first.
-fn text_of(number: u32) -> [u8; 5] {
+fn text_of(number: u32) -> [u8; 6] {
     let bytes = *b"(;)[]\\Bb1 ";
-    let mut text = [b' '; 5];
+    let mut text = [b' '; 6];
     let mut left = number;
     for slot in text.iter_mut() {
         *slot = bytes[(left % 10) as usize];
@@ -214,7 +214,7 @@ fn text_of(number: u32) -> [u8; 5] {
 fn texts_of(count: usize) -> u32 {
     let mut texts = 1;
     for _ in 0..count {
-        if texts < 100_000 {
+        if texts < 1_000_000 {
             texts *= 10;
         }
     }
@@ -222,8 +222,8 @@ fn texts_of(count: usize) -> u32 {
 }
 
 #[test]
-fn all_texts_of_up_to_four_bytes(rt: HostRuntime) {
-    for count in 0..5 {
+fn all_texts_of_up_to_six_bytes(rt: HostRuntime) {
+    for count in 0..7 {
         for number in 0..texts_of(count) {
             let text = text_of(number);
             let text = &text[..count];
@@ -233,11 +233,11 @@ fn all_texts_of_up_to_four_bytes(rt: HostRuntime) {
 }
 
 #[test]
-fn all_trees_of_up_to_seven_bytes(rt: HostRuntime) {
-    for count in 0..6 {
+fn all_trees_of_up_to_eight_bytes(rt: HostRuntime) {
+    for count in 0..7 {
         for number in 0..texts_of(count) {
-            let [a, b, c, d, e] = text_of(number);
-            let text = [b'(', b';', a, b, c, d, e];
+            let [a, b, c, d, e, f] = text_of(number);
+            let text = [b'(', b';', a, b, c, d, e, f];
             let text = &text[..count + 2];
             assert_eq!(rt; answer(rt.alloc(), text), recognised(text), "{text:?}");
         }
