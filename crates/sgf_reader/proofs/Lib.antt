@@ -1,28 +1,28 @@
-mod BeforeLaws
+pub mod BeforeLaws
+pub mod EndFaults
 mod EndLemmas
+pub mod Endings
+pub mod FaultsHere
+pub mod FirstFaults
 pub mod LimitLaws
-mod OutsideLemmas
-pub mod ReadBounds
-mod ReadTo
-mod ReadingLemmas
 pub mod NodeParents
-pub mod ReadParents
-pub mod Reached
+mod OutsideLemmas
 pub mod ReadAscending
-pub mod WithinLimits
+pub mod ReadBounds
+pub mod ReadParents
+mod ReadTo
+pub mod Reached
+mod ReadingLemmas
 pub mod ScanEnds
 pub mod Scans
 pub mod ScansSpelled
+mod Shapes
+pub mod SpelledNodes
 pub mod SpelledScans
 pub mod SpellsOne
 mod StepLemmas
-mod Shapes
-pub mod SpelledNodes
 pub mod Steps
 pub mod Traces
+pub mod TreeStarts
 pub mod Ways
-mod TreeStarts
-mod FaultsHere
-mod FirstFaults
-mod EndFaults
-mod Endings
+pub mod WithinLimits
