@@ -53,8 +53,8 @@ module _ (text : List ℕ) (count : ℕ) (s : Scan) (there : count < length text
   not_dead : (i : Inside) → step s.games s.place count (slice_index text count) ≡ within s.games i → (offset : ℕ) → count ≡ offset → ¬ IsLive (take (offset + 1) text) → ⊥
   not_dead i goes offset same dead = dead (subst (λ (k : ℕ). IsLive (take (k + 1) text)) same ((live-scans (take (count + 1) text)).1 (inside s.games i, leads_on i goes)))
 
-  here : (P : ℕ → Scan → Type 0) (offset : ℕ) (t : Scan) → count ≡ offset → scan at_start 0 (take (offset + 1) text) ≡ Some t → scan at_start 0 (take (count + 1) text) ≡ Some t
-  here P offset t same e = subst (λ (k : ℕ). scan at_start 0 (take (k + 1) text) ≡ Some t) (sym same) e
+  here : (offset : ℕ) (t : Scan) → count ≡ offset → scan at_start 0 (take (offset + 1) text) ≡ Some t → scan at_start 0 (take (count + 1) text) ≡ Some t
+  here offset t same e = subst (λ (k : ℕ). scan at_start 0 (take (k + 1) text) ≡ Some t) (sym same) e
 
   first-deep : (i : Inside) → step s.games s.place count (slice_index text count) ≡ within s.games (with_bracket i count) → (other : FaultKind) (offset : ℕ) → Later text count other offset → Comes kind.TooDeep count other offset
   first-deep i goes other offset (at_no_game e not start) = inl (omega arith)
@@ -63,7 +63,7 @@ module _ (text : List ℕ) (count : ℕ) (s : Scan) (there : count < length text
   first-deep i goes other offset (at_limit e long) = inl (omega arith)
   first-deep i goes other offset (at_deep low h) = not_sooner kind.TooDeep kind.TooDeep count offset low (λ e. inl refl)
   first-deep i goes other offset (at_nodes low h) = not_sooner kind.TooDeep kind.TooManyNodes count offset low (λ same.
-      let is = same_inside s.games h.games (with_bracket i count) h.inside (same_scan text (count + 1) _ _ (leads_on (with_bracket i count) goes) (here (λ k u. ℕ) offset (inside h.games h.inside) same h.scans)) in
+      let is = same_inside s.games h.games (with_bracket i count) h.inside (same_scan text (count + 1) _ _ (leads_on (with_bracket i count) goes) (here offset (inside h.games h.inside) same h.scans)) in
       absurd (other_phase count (ap (λ (j : Inside). j.phase) is ∙ h.phase)))
   first-deep i goes other offset (at_games h low) = elim (cases_lt count offset) [
     | inl less ↦ inl less
@@ -82,7 +82,7 @@ module _ (text : List ℕ) (count : ℕ) (s : Scan) (there : count < length text
   first-nodes i opened goes most other offset (at_unexpected inner low dead) = not_sooner kind.TooManyNodes kind.Unexpected count offset low (λ same. absurd (not_dead (with_node i opened count) goes offset same dead))
   first-nodes i opened goes most other offset (at_limit e long) = inl (omega arith)
   first-nodes i opened goes most other offset (at_deep low h) = not_sooner kind.TooManyNodes kind.TooDeep count offset low (λ same.
-      let is = same_inside s.games h.games (with_node i opened count) h.inside (same_scan text (count + 1) _ _ (leads_on (with_node i opened count) goes) (here (λ k u. ℕ) offset (inside h.games h.inside) same h.scans)) in
+      let is = same_inside s.games h.games (with_node i opened count) h.inside (same_scan text (count + 1) _ _ (leads_on (with_node i opened count) goes) (here offset (inside h.games h.inside) same h.scans)) in
       absurd (other_phase offset (sym (ap (λ (j : Inside). j.phase) is ∙ h.phase))))
   first-nodes i opened goes most other offset (at_nodes low h) = not_sooner kind.TooManyNodes kind.TooManyNodes count offset low (λ e. inl refl)
   first-nodes i opened goes most other offset (at_games h low) = elim (cases_lt count offset) [

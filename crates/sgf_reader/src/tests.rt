@@ -10,6 +10,16 @@ fn game_count(alloc: Global, text: &[u8]) -> Result<usize, ReadError> {
     }
 }
 
+// How many nodes the games of a text have, each.
+fn node_counts(alloc: Global, text: &[u8]) -> Result<Vec<usize>, ReadError> {
+    let collection = read(alloc, text)?;
+    let mut counts = Vec::new(alloc);
+    for game in collection.games.as_slice() {
+        counts.push(game.nodes.as_slice().len())?;
+    }
+    Ok(counts)
+}
+
 fn fault(kind: FaultKind, at: u32) -> Result<usize, ReadError> {
     Err(ReadError::Fault(SgfFault { kind, at }))
 }
@@ -93,7 +103,10 @@ fn texts_at_the_limits(rt: HostRuntime) -> Result<(), Fail> {
     let alloc = rt.alloc();
     let all_closed = repeated(alloc, b")", 1024, b"")?;
     let deepest = repeated(alloc, b"(;", 1024, &all_closed)?;
-    assert_eq!(rt; game_count(alloc, &deepest), Ok(1));
+    assert_eq!(rt;
+        node_counts(alloc, &deepest)?.as_slice(),
+        [1_024].as_slice()
+    );
     let open = repeated(alloc, b"(;", 1025, b"")?;
     assert_eq!(rt; game_count(alloc, &open), fault(FaultKind::TooDeep, 2048));
     let open = repeated(alloc, b"(;", 1024, b"(x")?;
@@ -112,7 +125,8 @@ fn with_nodes(alloc: Global, count: usize) -> Result<Vec<u8>, AllocError> {
 #[test]
 fn texts_of_many_nodes_and_games(rt: HostRuntime) -> Result<(), Fail> {
     let alloc = rt.alloc();
-    assert_eq!(rt; game_count(alloc, &with_nodes(alloc, 65_536)?), Ok(1));
+    let nodes = with_nodes(alloc, 65_536)?;
+    assert_eq!(rt; node_counts(alloc, &nodes)?.as_slice(), [65_536].as_slice());
     let nodes = with_nodes(alloc, 65_537)?;
     assert_eq!(rt;
         game_count(alloc, &nodes),
