@@ -214,8 +214,8 @@ fn beginnings_of_a_game(rt: HostRuntime) {
     assert_eq!(rt; game_count(rt.alloc(), text), Ok(1));
 }
 
-// The nodes of the first game.
-fn first_nodes(nodes: &[RawNode], number: usize) -> (Option<u32>, usize) {
+// The parent of the node of this number, and how many values it has. There is none behind the last node.
+fn parent_and_count(nodes: &[RawNode], number: usize) -> (Option<u32>, usize) {
     if number < nodes.len() {
         (nodes[number].parent, nodes[number].pairs.as_slice().len())
     } else {
@@ -255,9 +255,10 @@ const TREES: [(&str, [(Option<u32>, usize); 7]); 2] = [
 fn nodes_of_trees(rt: HostRuntime) -> Result<(), Fail> {
     for (text, nodes) in TREES {
         let collection = read(rt.alloc(), text.as_bytes())?;
+        assert_eq!(rt; collection.games.as_slice().len(), 1, "{text}");
         for game in collection.games.as_slice() {
             for number in 0..7 {
-                let found = first_nodes(game.nodes.as_slice(), number);
+                let found = parent_and_count(game.nodes.as_slice(), number);
                 assert_eq!(rt; found, nodes[number], "{text} {number}");
             }
         }
