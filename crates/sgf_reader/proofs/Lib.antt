@@ -1,18 +1,29 @@
+mod EndLemmas
+mod OutsideLemmas
+mod ReadTo
+mod ReadingLemmas
+mod Shapes
+mod StepLemmas
+pub mod BeforeLaws
+pub mod EndFaults
+pub mod Endings
+pub mod FaultsHere
+pub mod FirstFaults
 pub mod LimitLaws
-pub mod ReadBounds
 pub mod NodeParents
-pub mod ReadParents
 pub mod Reached
 pub mod ReadAscending
-pub mod WithinLimits
+pub mod ReadBounds
+pub mod ReadParents
 pub mod ScanEnds
 pub mod Scans
 pub mod ScansSpelled
+pub mod SpelledNodes
 pub mod SpelledScans
 pub mod SpellsOne
-mod Shapes
-pub mod SpelledNodes
 pub mod Steps
 pub mod Traces
-pub mod Ways
+pub mod TreeStarts
 pub mod ValuePlaces
+pub mod Ways
+pub mod WithinLimits
