@@ -9,6 +9,7 @@ pub mod HungTrees
 pub mod MainLines
 pub mod NodeValues
 pub mod Parts
+pub mod OneText
 pub mod OneTree
 pub mod Passes
 pub mod Paths
