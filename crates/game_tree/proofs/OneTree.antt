@@ -22,7 +22,7 @@ use Rattle.game_tree.specs.Tree.{Node, Tree}
 use Rattle.game_tree.specs.Trees.{AreSetups, AreTreesOf, IsInformation, IsNodeOf, IsPlayedBy, IsTextOf, IsTreeOf}
 use Rattle.game_tree.specs.Trees as told
 use Rattle.game_tree.specs.Value.{IsMoveText, IsMoveValue, IsPoint, IsSetupText, IsSetupValue, IsSize, columns_and_rows, one_point, rect_of, rectangle, square}
-use Rattle.game_tree.specs.ValueFaults.{IsBoardOf, empty, no_value, size}
+use Rattle.game_tree.specs.ValueFaults.{IsBoard, IsBoardOf, empty, no_value, size}
 use Rattle.game_tree.proofs.Colons.{HasNoColon, digits-no_colon, point-no_colon, setup-corners, setup-point, size-sides, size-square}
 use Rattle.game_tree.proofs.OneText.{IsSimpleText-only}
 use Rattle.game_tree.proofs.Passes.{ignored_text, pass_texts, point_text_of}
@@ -62,6 +62,10 @@ IsBoardOf-only text _ a b (empty {pair = pair} gone cols rows) (size inner trimm
 IsBoardOf-only text _ a b (size {pair = pair} inner trimmed is) (empty gone cols rows) = absurd (no_size inner a (IsTrimmed-only (bytes_of text pair.value) inner [] trimmed gone) is)
 IsBoardOf-only text _ a b (size {pair = pair} inner trimmed is) (size other trimmed' is') =
     IsSize-only inner a b is (subst (λ value. IsSize value b) (IsTrimmed-only (bytes_of text pair.value) other inner trimmed' trimmed) is')
+
+-- a raw game has one board only
+pub IsBoard-only : (text : List ℕ) (raw : RawGame) (a b : Shape) → IsBoard text raw a → IsBoard text raw b → a ≡ b
+IsBoard-only text raw a b one two = IsBoardOf-only text _ a b one two
 
 -- ---- values
 
@@ -193,7 +197,7 @@ module _ (text : List ℕ) where
 
   pub IsTreeOf-only : (raw : RawGame) (one two : Tree) → IsTreeOf text raw one → IsTreeOf text raw two → one ≡ two
   IsTreeOf-only raw one two a b =
-      let shapes : one.shape ≡ two.shape = IsBoardOf-only text _ one.shape two.shape a.board b.board in
+      let shapes : one.shape ≡ two.shape = IsBoard-only text raw one.shape two.shape a.board b.board in
       let infos : one.info ≡ two.info = IsInformation-only raw one.info two.info a.info b.info in
       let nodes : one.nodes ≡ two.nodes = AllZip-only (IsNodeOf text one.shape) (IsNodeOf-only text one.shape) raw.nodes one.nodes two.nodes a.nodes (subst (λ shape. AllZip (IsNodeOf text shape) raw.nodes two.nodes) (sym shapes) b.nodes) in
       let trees : record { shape = one.shape; info = one.info; nodes = one.nodes } ≡ record { shape = two.shape; info = two.info; nodes = two.nodes } = cc (shapes, infos, nodes) in
