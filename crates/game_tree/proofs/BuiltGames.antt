@@ -1,5 +1,5 @@
 -- A game that is built node by node.
-use Rattle.std.proofs.Common.{◌≡◌, ◌≢◌, ◌⊎◌, ◌≤◌, ◌<◌, ◌+◌, ◌++◌, ◌∙◌, ℕ, zero, suc, List, [], ◌∷◌, All, AllPairs, Contains, Option, Some, None, IfSome, refl, sym, ap, subst, arith, length, length-append, get_or, map, take, drop, flat_map, inl, inr, codes}
+use Rattle.std.proofs.Common.{◌≡◌, ◌≢◌, ◌⊎◌, ◌≤◌, ◌<◌, ◌+◌, ◌++◌, ◌∙◌, ℕ, zero, suc, List, [], ◌∷◌, All, AllPairs, Contains, Option, Some, None, IfSome, refl, sym, ap, subst, arith, length, length-append, get_or, map, take, drop, length-take-le, add-one, flat_map, inl, inr, codes}
 use Rattle.std.specs.List.{AllZip}
 use Rattle.std.proofs.Math.Seq.{split_at}
 use Rattle.std.proofs.lemmas.Grind.{flat_map-append}
@@ -12,6 +12,7 @@ use Rattle.game_tree.specs.declared.node.Move.{Move}
 use Rattle.game_tree.specs.declared.node.Setup.{Setup}
 use Rattle.game_tree.specs.Tree.{Node}
 use Rattle.game_tree.specs.Trees.{AreSetups, IsNodeOf}
+use Rattle.game_tree.proofs.HungTrees.{few_branchings, next_parent}
 use Rattle.game_tree.proofs.Parts.{AllPairs-part, All-part, Contains-at}
 use Rattle.game_tree.proofs.ReadCollections.{GameIsRead, games-read}
 use Rattle.sgf_reader.specs.declared.collection.Pair.{Pair}
@@ -21,9 +22,9 @@ use Rattle.sgf_reader.specs.declared.fault.FaultKind.{FaultKind}
 use Rattle.sgf_reader.specs.declared.fault.SgfFault.{SgfFault}
 use Rattle.game_tree.specs.declared.building.BuildError.{BuildError}
 use Rattle.game_tree.specs.declared.building.BuildError.TheVariants.{Fault}
-use Rattle.game_tree.specs.Built.{Built, nothing_built, with_node}
+use Rattle.game_tree.specs.Built.{Built, IsNextParent, nothing_built, with_node}
 use Rattle.game_tree.specs.NodeValues.{AreRead, Ascend, HasNodeFault, LiesIn, IsFirstNodeFault, with_setups}
-use Rattle.game_tree.specs.RawGames.{HasBuilt, IsNodeRead, IsOfText, IsRootBad, by_game, by_value, node_pairs, node_parents, raw_parents}
+use Rattle.game_tree.specs.RawGames.{HasBuilt, IsNodeBad, IsNodeRead, IsOfText, IsRootBad, by_game, by_value, node_pairs, node_parents, raw_parents}
 
 -- the fault of a root by its values
 pub root_bad-value : (text : List ℕ) (shape : Shape) (root : RawNode) (game : Option SgfFault) (own answer f : SgfFault) → IsFirstNodeFault text shape root.pairs own.kind own.at → Fault answer ≡ Fault f → (answer ≡ own) ⊎ (game ≡ Some answer) → answer.at ≤ own.at → IfSome game (λ (g : SgfFault). answer.at ≤ g.at) → IsRootBad text shape root game f
@@ -122,3 +123,53 @@ module _ (text : List ℕ) (raw : RawGame) (shape : Shape) where
       let rest = length-append node.pairs (node_pairs (drop (suc k) raw.nodes)) in
       let few = ascend-few (node_pairs raw.nodes) (length text) ascend known.inside in
       omega (arith, h.count, whole, joined, rest, few, short)
+
+-- ---- the next node
+
+-- what is known of a node that is read next
+pub record IsNext (text : List ℕ) (b : Built) (node : RawNode) : Type 0 where
+  pub nodes : length b.nodes < 65536
+  pub parent : IsNextParent b node.parent
+  pub room : b.setup_count + length node.pairs < 4294967295
+  pub inside : All (LiesIn (length text)) node.pairs
+  pub ascending : Ascend node.pairs
+
+next-at : (text : List ℕ) (raw : RawGame) (shape : Shape) (k : ℕ) (d : RawNode) (b : Built) → IsOfText text raw → k < length raw.nodes → HasBuilt text raw shape k b → IsNext text b (get_or raw.nodes k d)
+next-at text raw shape k d b known below h =
+    let (read, ascend, short) = of_text text raw known in
+    let there = Contains-at raw.nodes k d below in
+    let counted = ap length h.parents in
+    let many = length-map b.nodes (λ (n : Node). n.parent) in
+    let few = read.few in
+    let here : get_or (raw_parents raw.nodes) k None ≡ (get_or raw.nodes k d).parent = get_or-map (λ (n : RawNode). n.parent) raw.nodes k d None below in
+    record {
+      nodes = omega (arith, counted, many, few, length-take-le k (raw_parents raw.nodes) (omega (arith, length-map raw.nodes (λ (n : RawNode). n.parent))), length-map raw.nodes (λ (n : RawNode). n.parent));
+      parent = subst (IsNextParent b) here (next_parent (length text) raw read b k below h.parents);
+      room = room-next text raw shape k d b read ascend short below h;
+      inside = All-part (LiesIn (length text)) (λ (n : RawNode). n.pairs) raw.nodes (get_or raw.nodes k d) read.inside there;
+      ascending = AllPairs-part (λ (p q : Pair). p.value.from < q.value.from) (λ (n : RawNode). n.pairs) raw.nodes (get_or raw.nodes k d) ascend there;
+    }
+
+-- an item of the nodes behind the root
+module _ (text : List ℕ) (raw : RawGame) (shape : Shape) (known : IsOfText text raw) (others : List RawNode) (behind : (root : RawNode) × (raw.nodes ≡ root ∷ others)) (i : ℕ) (item : RawNode) (below : i < length others) (is : item ≡ get_or others i item) where
+  within_game : i + 1 < length raw.nodes
+  within_game = let e = ap length (behind.1) in omega (arith, e)
+
+  place : get_or raw.nodes (i + 1) item ≡ item
+  place = ap (λ ns. get_or ns (i + 1) item) (behind.1) ∙ ap (λ n. get_or (behind.0 ∷ others) n item) (add-one i) ∙ sym is
+
+  pub item-next : (b : Built) → HasBuilt text raw shape (i + 1) b → IsNext text b item
+  item-next b h = subst (IsNext text b) place (next-at text raw shape (i + 1) item b known within_game h)
+
+  pub item-read : (b after : Built) → HasBuilt text raw shape (i + 1) b → IsNodeRead text shape item b after → HasBuilt text raw shape (i + 1 + 1) after
+  item-read b after h read = HasBuilt-more text raw shape (i + 1) item b after within_game h (subst (λ (n : RawNode). IsNodeRead text shape n b after) (sym place) read)
+
+  pub item-bad : (b : Built) (f : SgfFault) → HasBuilt text raw shape (i + 1) b → IsFirstNodeFault text shape item.pairs f.kind f.at → IsNodeBad text raw shape f
+  item-bad b f h first = record {
+    done = take (i + 1) raw.nodes;
+    node = item;
+    rest = drop (suc (i + 1)) raw.nodes;
+    split = split_at raw.nodes (i + 1) item within_game ∙ ap (λ (n : RawNode). take (i + 1) raw.nodes ++ n ∷ drop (suc (i + 1)) raw.nodes) place;
+    clean = h.clean;
+    first = first;
+  }
