@@ -134,7 +134,7 @@ pub record IsNext (text : List ℕ) (b : Built) (node : RawNode) : Type 0 where
   pub inside : All (LiesIn (length text)) node.pairs
   pub ascending : Ascend node.pairs
 
-next-at : (text : List ℕ) (raw : RawGame) (shape : Shape) (k : ℕ) (d : RawNode) (b : Built) → IsOfText text raw → k < length raw.nodes → HasBuilt text raw shape k b → IsNext text b (get_or raw.nodes k d)
+pub next-at : (text : List ℕ) (raw : RawGame) (shape : Shape) (k : ℕ) (d : RawNode) (b : Built) → IsOfText text raw → k < length raw.nodes → HasBuilt text raw shape k b → IsNext text b (get_or raw.nodes k d)
 next-at text raw shape k d b known below h =
     let (read, ascend, short) = of_text text raw known in
     let there = Contains-at raw.nodes k d below in
