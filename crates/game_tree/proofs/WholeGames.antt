@@ -10,22 +10,24 @@ use Rattle.sgf_reader.specs.declared.collection.RawGame.{RawGame}
 use Rattle.sgf_reader.specs.declared.collection.RawNode.{RawNode}
 use Rattle.sgf_reader.specs.declared.fault.FaultKind.{FaultKind}
 use Rattle.sgf_reader.specs.declared.fault.SgfFault.{SgfFault}
+use Rattle.game_tree.specs.declared.building.BuildError.TheVariants.{Fault}
 use Rattle.game_tree.specs.Built.{Built, IsGrown, nothing_built, tree_of, tree_so_far}
 use Rattle.game_tree.specs.GameFaults.{HasGameFault, IsFirstGameFault}
 use Rattle.game_tree.specs.Information.{HasNoControls, HasSimpleTexts, Information}
 use Rattle.game_tree.specs.NodeValues.{Ascend, HasNodeFault, IsFirstNodeFault, LiesIn}
 use Rattle.game_tree.specs.Property.{root_pairs}
 use Rattle.game_tree.specs.RawGames.{HasBuilt, IsNodeBad, IsNodeRead, IsOfText, IsRootBad, by_game, by_value, node_pairs, node_parents, raw_parents}
-use Rattle.game_tree.specs.Roots.{IsGameFault, IsInformationIn}
+use Rattle.game_tree.specs.Roots.{IsGameFault, IsInformationIn, IsSecondMove, IsSizeFault}
 use Rattle.game_tree.specs.Roots as roots
 use Rattle.game_tree.specs.Tree.{Node, Tree, branchings_to}
 use Rattle.game_tree.specs.Trees.{IsInformation, IsNodeOf, IsTextOf, IsTreeOf}
 use Rattle.game_tree.specs.Trees as told
-use Rattle.game_tree.specs.ValueFaults.{IsBoard}
+use Rattle.game_tree.specs.ValueFaults.{IsBoard, IsBoardOf}
 use Rattle.game_tree.proofs.BuiltGames.{HasBuilt-more, HasBuilt-start, IsNext, next-at, of_text}
-use Rattle.game_tree.proofs.GameFaults.{both_first, clean_game, first_of_game, other_game_first}
+use Rattle.game_tree.proofs.GameFaults.{both_first, clean_game, first_of_game, other_game_first, without_board}
 use Rattle.game_tree.proofs.HungTrees.{few_branchings}
 use Rattle.game_tree.proofs.OneTree.{IsBoard-only}
+use Rattle.game_tree.proofs.Parts.{All-part, Contains-head}
 use Rattle.game_tree.proofs.SimpleTexts.{simple_text-no_controls}
 use Rattle.game_tree.proofs.StoredGrowth.{IsGrown-info}
 
@@ -49,11 +51,21 @@ module _ (text : List ℕ) (raw : RawGame) (known : IsOfText text raw) (root : R
   pub root-next : (shape : Shape) → IsNext text (nothing_built shape) root
   root-next shape = subst (IsNext text (nothing_built shape)) root-place (next-at text raw shape 0 root (nothing_built shape) known some (HasBuilt-start text raw shape))
 
+  pub root-inside : All (LiesIn (length text)) root.pairs
+  root-inside = All-part (LiesIn (length text)) (λ (n : RawNode). n.pairs) raw.nodes root (of_text text raw known).0.inside (subst (λ ns. Contains ns root) (sym is) (Contains-head root others))
+
   pub root-parent : root.parent ≡ None
   root-parent = sym (ap (λ ns. get_or (raw_parents ns) 0 None) is) ∙ (of_text text raw known).0.hung.root_parent
 
   pub root-built : (shape : Shape) (after : Built) → IsNodeRead text shape root (nothing_built shape) after → HasBuilt text raw shape 1 after
   root-built shape after read = HasBuilt-more text raw shape 0 root (nothing_built shape) after some (HasBuilt-start text raw shape) (subst (λ (n : RawNode). IsNodeRead text shape n (nothing_built shape) after) (sym root-place) read)
+
+  -- what is wrong with a game without a board
+  pub no-board : (game second : Option SgfFault) (size between result : SgfFault) → IsGameFault text root.pairs game → IsSecondMove text root.pairs second → IsSizeFault text (roots.first_in text root.pairs (codes "SZ")) size → (between ≡ size) ⊎ (game ≡ Some between) → between.at ≤ size.at → IfSome game (λ (g : SgfFault). between.at ≤ g.at) → (result ≡ between) ⊎ (second ≡ Some result) → result.at ≤ between.at → IfSome second (λ (t : SgfFault). result.at ≤ t.at) → IsFirstGameFault text raw result.kind result.at
+  no-board game second size between result go moves (sized, found, size_is, none) one_of le_size le_game last le_between le_second =
+      let read = of_text text raw known in
+      let same = sym root-values in
+      without_board text raw read.0.inside read.1 root others is sized (subst (λ ps. roots.first_in text ps (codes "SZ") ≡ Some sized) same found) (λ shape. subst (λ ps. ¬ IsBoardOf text (roots.first_in text ps (codes "SZ")) shape) same (none shape)) game second size between result (subst (λ ps. IsGameFault text ps game) same go) moves size_is one_of le_size le_game last le_between le_second
 
   module _ (shape : Shape) (board : IsBoard text raw shape) where
     once : (a b : Shape) → IsBoard text raw a → IsBoard text raw b → a ≡ b
@@ -127,3 +139,7 @@ simple-texts text pairs info h = record {
   black = simple text _ info.black h.black; white = simple text _ info.white h.white; event = simple text _ info.event h.event;
   place = simple text _ info.place h.place; date = simple text _ info.date h.date; outcome_text = simple text _ info.outcome_text h.outcome_text;
 }
+
+-- a fault that is handed on
+pub handed-on : (text : List ℕ) (raw : RawGame) (answer f : SgfFault) → IsFirstGameFault text raw answer.kind answer.at → Fault answer ≡ Fault f → IsFirstGameFault text raw f.kind f.at
+handed-on text raw answer f first e = let same : answer ≡ f = cc in subst (λ (r : SgfFault). IsFirstGameFault text raw r.kind r.at) same first
