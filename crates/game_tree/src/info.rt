@@ -34,6 +34,7 @@ impl Model for Info {
 
 impl Info {
     /// The information of a game of which nothing is told.
+    #[cfg(test)]
     pub(crate) fn empty(alloc: Global) -> Self
         ensures { result ≡ no_information }
     {
@@ -44,6 +45,28 @@ impl Info {
             place: Bytes::new(Vec::new(alloc)),
             date: Bytes::new(Vec::new(alloc)),
             result: Bytes::new(Vec::new(alloc)),
+        }
+    }
+
+    /// The information with these texts.
+    pub(crate) fn new(
+        black: Bytes,
+        white: Bytes,
+        event: Bytes,
+        place: Bytes,
+        date: Bytes,
+        outcome_text: Bytes,
+    ) -> Self
+        ensures { result ≡ record { black = black; white = white; event = event; place = place;
+            date = date; outcome_text = outcome_text } }
+    {
+        Info {
+            black,
+            white,
+            event,
+            place,
+            date,
+            result: outcome_text,
         }
     }
 

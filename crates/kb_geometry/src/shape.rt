@@ -25,6 +25,9 @@ pub struct Rect {
     pub y1: u8,
 }
 
+// How many columns and rows the standard board has.
+const STANDARD_SIDE: u8 = 19;
+
 /// The size of a board, with 1 to [`MAX_SIDE`] columns and as many rows.
 #[derive(Clone, Copy, Debug, PartialEq, Eq, Hash)]
 pub struct Shape {
@@ -47,6 +50,17 @@ impl Shape {
             Some(Shape { cols, rows })
         } else {
             None
+        }
+    }
+
+    /// The standard board, 19 by 19.
+    pub fn standard() -> Self
+        ensures cols { cols_of result ≡ 19 }
+        ensures rows { rows_of result ≡ 19 }
+    {
+        Shape {
+            cols: STANDARD_SIDE,
+            rows: STANDARD_SIDE,
         }
     }
 

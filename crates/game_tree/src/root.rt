@@ -1,0 +1,183 @@
+// What the root of a game says of the game as a whole.
+ghost use Rattle.std.specs.Prelude.{◌≡◌, ◌≢◌, ◌≤◌, ℕ, List, [], ◌∷◌, length, All, Option, Some, None, IfOk, IfErr, IfSome, Err, IsTrue, ◌↔◌, ◌⊎◌, codes, is_some};
+ghost use Rattle.sgf_reader.specs.declared.fault.SgfFault.{SgfFault};
+ghost use Rattle.sgf_reader.specs.declared.fault.FaultKind.TheVariants as kind;
+ghost use Rattle.kb_geometry.specs.declared.shape.Shape.{Shape};
+ghost use Rattle.game_tree.specs.NodeValues.{LiesIn};
+ghost use Rattle.game_tree.specs.Property.{bytes_of, mover_of, offset_of};
+ghost use Rattle.game_tree.specs.Roots.{first_in, letters, IsGameFault, IsOtherGame, IsInformationIn, IsSecondMove, IsSizeFault};
+ghost use Rattle.game_tree.specs.Trees.{IsTextOf};
+ghost use Rattle.game_tree.specs.ValueFaults.{IsBoardOf};
+
+use crate::node_values::bytes_of;
+use crate::property::{Identifier, Property};
+use crate::simple_text::simple_text;
+use crate::value::{size_of, trimmed};
+use crate::{Bytes, Info};
+use kb_geometry::{NoMemory, Shape};
+use sgf_reader::{FaultKind, Pair, SgfFault};
+use std::alloc::Global;
+
+// The identifiers of the values of a root that are read.
+const GAME: Identifier = Identifier { first: b'G', second: b'M' };
+pub(crate) const SIZE: Identifier = Identifier { first: b'S', second: b'Z' };
+const BLACK_NAME: Identifier = Identifier { first: b'P', second: b'B' };
+const WHITE_NAME: Identifier = Identifier { first: b'P', second: b'W' };
+const EVENT: Identifier = Identifier { first: b'E', second: b'V' };
+const PLACE: Identifier = Identifier { first: b'P', second: b'C' };
+const DATE: Identifier = Identifier { first: b'D', second: b'T' };
+const RESULT: Identifier = Identifier { first: b'R', second: b'E' };
+
+// A fault at the `[` of a value.
+pub(crate) fn fault_of(kind: FaultKind, pair: Pair) -> SgfFault
+    ensures { result ≡ record { kind = kind; at = offset_of pair } }
+{
+    let at = pair.value.from.saturating_sub(1);
+    SgfFault { kind, at }
+}
+
+// The first value of a property.
+pub(crate) fn first_of(text: &[u8], pairs: &[Pair], identifier: Identifier) -> Option<Pair>
+    requires inside { All (LiesIn (length text.now)) pairs.now }
+    ensures value { result ≡ first_in text.now pairs.now (letters identifier) }
+    ensures inside { IfSome result (LiesIn (length text.now)) }
+{
+    let mut rest = pairs;
+    while let [pair, others @ ..] = rest {
+        if identifier.names(bytes_of(text, pair.name)) {
+            return Some(*pair);
+        }
+        rest = others;
+    }
+    None
+}
+
+// The fault of a root whose first GM value is of another game.
+pub(crate) fn game_fault(text: &[u8], pairs: &[Pair]) -> Option<SgfFault>
+    requires inside { All (LiesIn (length text.now)) pairs.now }
+    ensures { IsGameFault text.now pairs.now result }
+{
+    let pair = first_of(text, pairs, GAME)?;
+    if is_go(text, pair) {
+        None
+    } else {
+        Some(fault_of(FaultKind::NotGo, pair))
+    }
+}
+
+// Whether a GM value is that of Go: empty, or `1`.
+fn is_go(text: &[u8], pair: Pair) -> bool
+    requires inside { LiesIn (length text.now) pair }
+    ensures go { IsTrue result → ¬ IsOtherGame text.now pair }
+    ensures other { ¬ IsTrue result → IsOtherGame text.now pair }
+{
+    let value = trimmed(bytes_of(text, pair.value));
+    value.is_empty() || is_one(value)
+}
+
+// Whether a text is `1`.
+fn is_one(text: &[u8]) -> bool
+    ensures { IsTrue result ↔ (text.now ≡ codes "1") }
+{
+    text == b"1".as_slice()
+}
+
+// The board by the first SZ value of a root, or the fault of a value that is no size.
+pub(crate) fn board_of(text: &[u8], size: Option<Pair>) -> Result<Shape, SgfFault>
+    requires inside { IfSome size (LiesIn (length text.now)) }
+    ensures ok { IfOk result (λ shape. IsBoardOf text.now size shape) }
+    ensures fault { IfErr result (IsSizeFault text.now size) }
+{
+    match size {
+        None => Ok(Shape::standard()),
+        Some(pair) => board_by(text, pair),
+    }
+}
+
+// The board by an SZ value: an empty one is that of the standard board.
+fn board_by(text: &[u8], pair: Pair) -> Result<Shape, SgfFault>
+    requires inside { LiesIn (length text.now) pair }
+    ensures ok { IfOk result (λ shape. IsBoardOf text.now (Some pair) shape) }
+    ensures fault { IfErr result (IsSizeFault text.now (Some pair)) }
+{
+    let value = trimmed(bytes_of(text, pair.value));
+    if value.is_empty() {
+        return Ok(Shape::standard());
+    }
+    match size_of(value) {
+        Some(shape) => Ok(shape),
+        None => Err(fault_of(FaultKind::BadSize, pair)),
+    }
+}
+
+// The fault of a second move among the values of one node.
+pub(crate) fn second_move(text: &[u8], pairs: &[Pair]) -> Option<SgfFault>
+    requires inside { All (LiesIn (length text.now)) pairs.now }
+    ensures { IsSecondMove text.now pairs.now result }
+{
+    let mut seen = false;
+    for pair in pairs {
+        if is_move(text, pair) {
+            if seen {
+                return Some(fault_of(FaultKind::TwoMoves, *pair));
+            }
+            seen = true;
+        }
+    }
+    None
+}
+
+// Whether a value is a move.
+fn is_move(text: &[u8], pair: &Pair) -> bool
+    requires inside { LiesIn (length text.now) pair.now }
+    ensures { result ≡ is_some (mover_of text.now pair.now) }
+{
+    match Property::of(bytes_of(text, pair.name)) {
+        Property::Moves(_) => true,
+        Property::Sets(_) => false,
+        Property::Other => false,
+    }
+}
+
+// The one of two faults that comes first; the other may be none.
+pub(crate) fn first_fault(fault: SgfFault, other: Option<SgfFault>) -> SgfFault
+    ensures one { (result ≡ fault) ⊎ (other ≡ Some result) }
+    ensures least { result.at ≤ fault.at }
+    ensures least_other { IfSome other (λ o. result.at ≤ o.at) }
+{
+    match other {
+        Some(other) if other.at < fault.at => other,
+        Some(_) => fault,
+        None => fault,
+    }
+}
+
+// The information of a game, by the first values of its root.
+pub(crate) fn information(alloc: Global, text: &[u8], pairs: &[Pair]) -> Result<Info, NoMemory>
+    requires inside { All (LiesIn (length text.now)) pairs.now }
+    ensures { IfOk result (IsInformationIn text.now pairs.now) }
+{
+    let black = text_of(alloc, text, pairs, BLACK_NAME)?;
+    let white = text_of(alloc, text, pairs, WHITE_NAME)?;
+    let event = text_of(alloc, text, pairs, EVENT)?;
+    let place = text_of(alloc, text, pairs, PLACE)?;
+    let date = text_of(alloc, text, pairs, DATE)?;
+    let result = text_of(alloc, text, pairs, RESULT)?;
+    Ok(Info::new(black, white, event, place, date, result))
+}
+
+// The first value of a property as SimpleText; the empty text where there is none.
+fn text_of(
+    alloc: Global,
+    text: &[u8],
+    pairs: &[Pair],
+    identifier: Identifier,
+) -> Result<Bytes, NoMemory>
+    requires inside { All (LiesIn (length text.now)) pairs.now }
+    ensures { IfOk result (IsTextOf text.now (first_in text.now pairs.now (letters identifier))) }
+{
+    match first_of(text, pairs, identifier) {
+        None => Ok(Bytes::new(Vec::new(alloc))),
+        Some(pair) => simple_text(alloc, bytes_of(text, pair.value)),
+    }
+}
