@@ -79,3 +79,6 @@ pub fn build(
     }
     Ok(trees)
 }
+
+#[cfg(test)]
+mod tests;
