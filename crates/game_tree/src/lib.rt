@@ -4,8 +4,8 @@
 //! its positions. The layers above use that a tree's readers show the tree.
 #![tactic(auto)]
 
-mod builder;
 mod building;
+mod builder;
 mod bytes;
 mod children;
 mod game;
@@ -19,8 +19,8 @@ mod stored;
 mod tree;
 mod value;
 
-pub(crate) use builder::TreeBuilder;
 pub use building::{BuildError, build};
+pub(crate) use builder::TreeBuilder;
 pub use bytes::Bytes;
 pub use children::Children;
 pub use info::Info;
