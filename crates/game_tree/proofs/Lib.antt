@@ -2,6 +2,7 @@ mod StoredBuilds
 mod StoredGrowth
 mod StoredTrees
 pub mod Branchings
+pub mod BuiltGames
 pub mod Climbs
 pub mod Colons
 pub mod GameFaults
@@ -9,6 +10,7 @@ pub mod Growth
 pub mod HungTrees
 pub mod MainLines
 pub mod NodeValues
+pub mod OneText
 pub mod OneTree
 pub mod Parts
 pub mod Passes
@@ -25,4 +27,3 @@ pub mod Subtrees
 pub mod Trees
 pub mod Trimming
 pub mod Values
-pub mod BuiltGames

@@ -10,6 +10,7 @@ mod bytes;
 mod children;
 mod game;
 mod info;
+mod laws;
 mod node;
 mod node_values;
 mod property;
@@ -24,6 +25,7 @@ pub(crate) use builder::TreeBuilder;
 pub use bytes::Bytes;
 pub use children::Children;
 pub use info::Info;
+pub use laws::a_collection_has_one_list_of_trees;
 pub use node::{Move, Setup};
 pub use tree::GameTree;
 
