@@ -162,17 +162,22 @@ fn root_setups() -> [(&'static str, [Option<Setup>; 3]); 5] {
     ]
 }
 
+// The first three setups of the root.
+fn first_setups(rt: &impl Abort, tree: &GameTree) -> [Option<Setup>; 3] {
+    assert!(rt; tree.node_count() > 0);
+    let setups = tree.setups(0);
+    [
+        setups.first().copied(),
+        setups.get(1).copied(),
+        setups.get(2).copied(),
+    ]
+}
+
 #[test]
 fn setups_of_the_root(rt: HostRuntime) -> Result<(), Fail> {
     for (text, setups) in root_setups() {
         let tree = last_tree(&rt, rt.alloc(), text)?;
-        let shown = tree.setups(0);
-        let first = [
-            shown.first().copied(),
-            shown.get(1).copied(),
-            shown.get(2).copied(),
-        ];
-        assert_eq!(rt; (shown.get(3), first), (None, setups), "{text}");
+        assert_eq!(rt; first_setups(&rt, &tree), setups, "{text}");
     }
     Ok(())
 }
@@ -196,16 +201,18 @@ const INFORMATION: [(&str, &str, Outcome); 15] = [
     ("(;RE[W+1][B+1])", "", Outcome::White),
 ];
 
+// The information tells this black player and this outcome.
+fn expect_told(rt: &impl Abort, tree: &GameTree, told: (&str, Outcome), text: &str) {
+    let (black, outcome) = told;
+    let info = tree.info();
+    assert_eq!(rt; (info.black(), info.outcome()), (black.as_bytes(), outcome), "{text}");
+}
+
 #[test]
 fn information_of_games(rt: HostRuntime) -> Result<(), Fail> {
     for (text, black, outcome) in INFORMATION {
         let tree = last_tree(&rt, rt.alloc(), text)?;
-        let info = tree.info();
-        assert_eq!(rt;
-            (info.black(), info.outcome()),
-            (black.as_bytes(), outcome),
-            "{text}"
-        );
+        expect_told(&rt, &tree, (black, outcome), text);
     }
     Ok(())
 }
