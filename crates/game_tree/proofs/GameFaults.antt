@@ -23,7 +23,7 @@ use Rattle.game_tree.specs.Roots as roots
 use Rattle.game_tree.proofs.SecondMoves.{second_once}
 use Rattle.game_tree.specs.ValueFaults.{IsBoard, IsMove}
 use Rattle.game_tree.proofs.Parts.{AllPairs-across, AllPairs-back, AllPairs-front, Contains-head, Contains-later}
-use Rattle.game_tree.proofs.ReadCollections.{node_pairs}
+use Rattle.game_tree.specs.RawGames.{node_pairs}
 
 -- ---- names
 

@@ -15,12 +15,9 @@ use Rattle.game_tree.specs.Built.{Built, IsGrown, IsNextParent, tree_so_far}
 use Rattle.game_tree.specs.Tree.{Node, Tree, IsAbove, itself, higher, node_count, parent_of, children_of, path_to, branchings_to, first_child_of, next_sibling_of}
 use Rattle.game_tree.specs.Stored.{siblings_from}
 use Rattle.game_tree.proofs.Paths.{path_to-parent, path_to-root}
-use Rattle.game_tree.proofs.ReadCollections.{GameIsRead, raw_parents}
+use Rattle.game_tree.proofs.ReadCollections.{GameIsRead}
+use Rattle.game_tree.specs.RawGames.{node_parents, raw_parents}
 use Rattle.game_tree.proofs.Trees.{cases_Option, children-each, first_child-found, next_sibling-none, parent-in_range, parent-lt, siblings_from-first, siblings_from-next}
-
--- the parents of nodes, in order
-abbrev pub node_parents : List Node → List (Option ℕ)
-node_parents nodes = map (λ (node : Node). node.parent) nodes
 
 -- the parents of a tree's nodes, one by one
 parent-by : (tree : Tree) (n : ℕ) → parent_of tree n ≡ get_or (node_parents tree.nodes) n None

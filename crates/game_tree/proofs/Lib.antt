@@ -27,3 +27,4 @@ pub mod Subtrees
 pub mod Trees
 pub mod Trimming
 pub mod Values
+pub mod WholeGames

@@ -1,5 +1,5 @@
 -- Claims on each element of a list, and of its parts.
-use Rattle.std.proofs.Common.{◌≡◌, ◌<◌, ◌++◌, ◌+◌, ◌≤◌, ◌-◌, ℕ, suc, refl, List, [], ◌∷◌, All, AllPairs, Contains, flat_map, get_or, length, length-append, arith, sym, subst, ap, ◌∙◌, inl, inr, ◌⊎◌}
+use Rattle.std.proofs.Common.{◌≡◌, ◌<◌, ◌++◌, ◌+◌, ◌≤◌, ◌-◌, ℕ, zero, suc, refl, List, [], ◌∷◌, All, AllPairs, Contains, flat_map, get_or, length, length-append, arith, sym, subst, ap, ◌∙◌, inl, inr, ◌⊎◌}
 use Rattle.std.proofs.Math.Seq.{get_or-append_right}
 use Rattle.std.proofs.lemmas.List.{get_or_append_left, get_or_default}
 use Rattle.std.proofs.lemmas.List.Elements.{All-append, All-cons, All-contains, All-head, All-nil, All-tail, Contains-append_left, Contains-append_right}
@@ -39,3 +39,18 @@ Contains-head x xs = (0, omega arith, refl)
 
 pub Contains-later : {X : Type 0} (x : X) (xs : List X) (y : X) → Contains xs y → Contains (x ∷ xs) y
 Contains-later x xs y (k, below, is) = (suc k, omega (arith, below), is)
+
+-- the part of a list that one of its elements makes
+pub AllPairs-part : {X Y : Type 0} (R : Y → Y → Type 0) (f : X → List Y) (xs : List X) (x : X) → AllPairs R (flat_map f xs) → Contains xs x → AllPairs R (f x)
+AllPairs-part R f [] x h (k, below, is) = absurd (omega arith)
+AllPairs-part R f (y ∷ xs) x h (zero, below, is) = subst (λ z. AllPairs R (f z)) is (AllPairs-front R (f y) (flat_map f xs) h)
+AllPairs-part R f (y ∷ xs) x h (suc k, below, is) = AllPairs-part R f xs x (AllPairs-back R (f y) (flat_map f xs) h) (k, omega (arith, below), is)
+
+pub All-part : {X Y : Type 0} (P : Y → Type 0) (f : X → List Y) (xs : List X) (x : X) → All P (flat_map f xs) → Contains xs x → All P (f x)
+All-part P f [] x h (k, below, is) = absurd (omega arith)
+All-part P f (y ∷ xs) x h (zero, below, is) = subst (λ z. All P (f z)) is (All-front P (f y) (flat_map f xs) h)
+All-part P f (y ∷ xs) x h (suc k, below, is) = All-part P f xs x (All-back P (f y) (flat_map f xs) h) (k, omega (arith, below), is)
+
+-- the element at an index is one of the list
+pub Contains-at : {X : Type 0} (xs : List X) (k : ℕ) (d : X) → k < length xs → Contains xs (get_or xs k d)
+Contains-at xs k d below = (k, below, get_or_default xs k (get_or xs k d) d below)

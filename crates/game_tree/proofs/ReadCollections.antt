@@ -15,18 +15,12 @@ use Rattle.sgf_reader.proofs.ReadAscending.{IsBefore, all_pairs, pairs_of_nodes,
 use Rattle.sgf_reader.proofs.ReadParents.{depths_of, parents_of, read-parents}
 use Rattle.sgf_reader.proofs.ValuePlaces.{IsBehindBracket, read-behind_bracket}
 use Rattle.game_tree.specs.NodeValues.{Ascend, LiesIn}
+use Rattle.game_tree.specs.RawGames.{node_pairs, raw_parents}
 use Rattle.game_tree.proofs.Parts.{All-back, All-front, Contains-head, Contains-later}
 
--- the values of raw nodes, and of raw games
-abbrev pub node_pairs : List RawNode → List Pair
-node_pairs nodes = flat_map (λ (node : RawNode). node.pairs) nodes
-
+-- the values of raw games
 abbrev pub game_pairs : List RawGame → List Pair
 game_pairs raws = flat_map (λ (raw : RawGame). node_pairs raw.nodes) raws
-
--- the parents of raw nodes
-abbrev pub raw_parents : List RawNode → List (Option ℕ)
-raw_parents nodes = map (λ (node : RawNode). node.parent) nodes
 
 -- a raw game of a text of this length: its values lie in the text, and its nodes hang below each other
 pub record GameIsRead (end : ℕ) (raw : RawGame) : Type 0 where

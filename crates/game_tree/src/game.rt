@@ -1,17 +1,17 @@
 // One game: from its raw nodes to its tree.
 ghost use Rattle.std.specs.Prelude.{◌≡◌, ◌⊎◌, ◌≤◌, ◌<◌, ◌+◌, ◌∷◌, ◌++◌, ℕ, List, [], length, map, get_or, All, Contains, Option, Some, None, IfOk, IfErr, IfSome, Err};
 ghost use Rattle.kb_geometry.specs.declared.shape.Shape.{Shape};
-ghost use Rattle.sgf_reader.specs.declared.collection.Collection.{Collection};
+ghost use Rattle.sgf_reader.specs.declared.collection.RawNode.{RawNode};
 ghost use Rattle.sgf_reader.specs.declared.fault.FaultKind.{FaultKind};
 ghost use Rattle.sgf_reader.specs.declared.fault.SgfFault.{SgfFault};
 ghost use Rattle.sgf_reader.specs.Faults.{IsRead};
-ghost use Rattle.game_tree.specs.declared.building.BuildError.TheVariants.{Fault, NoMemory};
+ghost use Rattle.game_tree.specs.declared.building.BuildError.TheVariants.{Fault};
 ghost use Rattle.game_tree.specs.declared.node.Move.{Move};
 ghost use Rattle.game_tree.specs.GameFaults.{HasGameFault, IsFirstGameFault};
 ghost use Rattle.game_tree.specs.Built.{IsNextParent, nothing_built, with_node};
 ghost use Rattle.game_tree.specs.NodeValues.{Ascend, IsFirstNodeFault, IsMoveOnBoard, LiesIn};
 ghost use Rattle.game_tree.specs.Property.{root_pairs};
-ghost use Rattle.game_tree.specs.RawGames.{IsNodeRead, IsOfText, IsRootBad};
+ghost use Rattle.game_tree.specs.RawGames.{HasBuilt, IsNodeBad, IsNodeRead, IsOfText, IsRootBad};
 ghost use Rattle.game_tree.specs.Roots.{IsGameFault};
 ghost use Rattle.game_tree.specs.Trees.{IsTreeOf};
 ghost use Rattle.game_tree.specs.ValueFaults.{IsBoard};
@@ -19,7 +19,7 @@ ghost use Rattle.game_tree.specs.ValueFaults.{IsBoard};
 use crate::node_values::read_values;
 use crate::root::{SIZE, board_of, first_fault, first_of, game_fault, information, second_move};
 use crate::{BuildError, GameTree, Move, TreeBuilder};
-use kb_geometry::Shape;
+use kb_geometry::{NoMemory, Shape};
 use sgf_reader::{Pair, RawGame, RawNode, SgfFault};
 use std::alloc::Global;
 
@@ -34,8 +34,8 @@ pub(crate) fn build_game(
     ensures no_fault { IfOk result (λ _. (of : FaultKind) (at : ℕ) → ¬ HasGameFault text.now raw.now of at) }
     ensures fault { (f : SgfFault) → result ≡ Err (Fault f) → IsFirstGameFault text.now raw.now f.kind f.at }
 {
-    let nodes = raw.nodes.as_slice();
-    let pairs = nodes[0].pairs.as_slice();
+    let (root, _) = root_and_others(raw.nodes.as_slice());
+    let pairs = root.pairs.as_slice();
     let game = game_fault(text, pairs);
     match board_of(text, first_of(text, pairs, SIZE)) {
         Ok(shape) => build_on(alloc, text, raw, shape, game),
@@ -61,19 +61,49 @@ fn build_on(
     ensures no_fault { IfOk result (λ _. (of : FaultKind) (at : ℕ) → ¬ HasGameFault text.now raw.now of at) }
     ensures fault { (f : SgfFault) → result ≡ Err (Fault f) → IsFirstGameFault text.now raw.now f.kind f.at }
 {
-    let nodes = raw.nodes.as_slice();
+    let (root, others) = root_and_others(raw.nodes.as_slice());
     let mut builder = TreeBuilder::new(alloc, shape);
-    if let Err(error) = read_root(text, shape, &nodes[0], game, &mut builder) {
+    if let Err(error) = read_root(text, shape, root, game, &mut builder) {
         return Err(error);
     }
-    for node in &nodes[1..] {
-        if let Err(error) = read_node(text, shape, node, &mut builder) {
+    if let Err(error) = read_others(text, raw, shape, others, &mut builder) {
+        return Err(error);
+    }
+    builder.is_grown();
+    match information(alloc, text, root.pairs.as_slice()) {
+        Ok(info) => Ok(builder.finish(info)),
+        Err(NoMemory) => Err(BuildError::NoMemory),
+    }
+}
+
+// The root of a game, and its other nodes.
+fn root_and_others(nodes: &[RawNode]) -> (&RawNode, &[RawNode])
+    requires some { 1 ≤ length nodes.now }
+    ensures { nodes.now ≡ result.0.now ∷ result.1.now }
+{
+    (&nodes[0], &nodes[1..])
+}
+
+// The nodes below the root.
+fn read_others(
+    text: &[u8],
+    raw: &RawGame,
+    shape: Shape,
+    others: &[RawNode],
+    builder: &mut TreeBuilder,
+) -> Result<(), BuildError>
+    requires read { IsOfText text.now raw.now }
+    requires others { (root : RawNode) × (raw.now.nodes ≡ root ∷ others.now) }
+    requires root { HasBuilt text.now raw.now shape 1 builder.old }
+    ensures ok { IfOk result (λ _. HasBuilt text.now raw.now shape (length raw.now.nodes) builder.new) }
+    ensures fault { (f : SgfFault) → result ≡ Err (Fault f) → IsNodeBad text.now raw.now shape f }
+{
+    for node in others {
+        if let Err(error) = read_node(text, shape, node, builder) {
             return Err(error);
         }
     }
-    builder.is_grown();
-    let info = information(alloc, text, nodes[0].pairs.as_slice())?;
-    Ok(builder.finish(info))
+    Ok(())
 }
 
 // The root, whose first fault is that of its values or that it is another game.
