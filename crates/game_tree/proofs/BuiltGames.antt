@@ -72,7 +72,7 @@ setups-few text shape _ _ (AreSetups.other {pairs = pairs} {setups = setups} by 
 setups-few text shape _ _ (AreSetups.ignored {pairs = pairs} {setups = setups} cell by empty more) = omega (arith, setups-few text shape pairs setups more)
 setups-few text shape _ _ (AreSetups.set {pairs = pairs} {setups = setups} cell rect by value more) = omega (arith, setups-few text shape pairs setups more)
 
-AllZip-push : {A B : Type 0} (R : A → B → Type 0) (xs : List A) (ys : List B) (x : A) (y : B) → AllZip R xs ys → R x y → AllZip R (xs ++ x ∷ []) (ys ++ y ∷ [])
+pub AllZip-push : {A B : Type 0} (R : A → B → Type 0) (xs : List A) (ys : List B) (x : A) (y : B) → AllZip R xs ys → R x y → AllZip R (xs ++ x ∷ []) (ys ++ y ∷ [])
 AllZip-push R [] [] x y h r = (r, tt)
 AllZip-push R [] (b ∷ ys) x y h r = absurd h
 AllZip-push R (a ∷ xs) [] x y h r = absurd h

@@ -28,3 +28,4 @@ pub mod Trees
 pub mod Trimming
 pub mod Values
 pub mod WholeGames
+pub mod WholeCollections

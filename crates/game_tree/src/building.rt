@@ -75,7 +75,10 @@ pub fn build(
 {
     let mut trees = Vec::new(alloc);
     for raw in collection.games.as_slice() {
-        trees.push(build_game(alloc, text, raw)?)?;
+        match build_game(alloc, text, raw) {
+            Ok(tree) => trees.push(tree)?,
+            Err(error) => return Err(error),
+        }
     }
     Ok(trees)
 }
