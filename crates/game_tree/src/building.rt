@@ -82,3 +82,6 @@ pub fn build(
     }
     Ok(trees)
 }
+
+#[cfg(test)]
+mod tests;

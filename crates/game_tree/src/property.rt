@@ -126,3 +126,6 @@ impl Identifier {
         a == self.first && b == self.second
     }
 }
+
+#[cfg(test)]
+mod tests;

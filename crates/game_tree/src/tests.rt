@@ -9,7 +9,7 @@ use std::process::Abort;
 use std::test::Fail;
 
 // A node of a table: its parent, what it plays, and its setups.
-type Row = (Option<u32>, Option<Move>, [Option<Setup>; 2]);
+pub(crate) type Row = (Option<u32>, Option<Move>, [Option<Setup>; 2]);
 
 // What the readers answer at a node.
 #[derive(Clone, Copy, Debug, PartialEq)]
@@ -24,14 +24,14 @@ struct Seen {
     setups: [Option<Setup>; 2],
 }
 
-fn stone(colour: Colour, x: u8, y: u8) -> Option<Move> {
+pub(crate) fn stone(colour: Colour, x: u8, y: u8) -> Option<Move> {
     Some(Move {
         colour,
         point: Some(Point { x, y }),
     })
 }
 
-fn setup(cell: Cell, x0: u8, y0: u8, x1: u8, y1: u8) -> Option<Setup> {
+pub(crate) fn setup(cell: Cell, x0: u8, y0: u8, x1: u8, y1: u8) -> Option<Setup> {
     Some(Setup {
         cell,
         rect: Rect { x0, y0, x1, y1 },
@@ -123,7 +123,7 @@ fn setups() -> [Row; 6] {
 
 // What is wanted of a node's place: the first child, the next sibling, the children, the move number,
 // and whether it is on the main line.
-type Place = (Option<u32>, Option<u32>, [Option<u32>; 3], u32, bool);
+pub(crate) type Place = (Option<u32>, Option<u32>, [Option<u32>; 3], u32, bool);
 
 fn wanted(row: Row, place: Place) -> Seen {
     let (parent, played, setups) = row;
@@ -140,7 +140,7 @@ fn wanted(row: Row, place: Place) -> Seen {
     }
 }
 
-fn expect_nodes(rt: &impl Abort, tree: &GameTree, rows: &[Row], places: &[Place]) {
+pub(crate) fn expect_nodes(rt: &impl Abort, tree: &GameTree, rows: &[Row], places: &[Place]) {
     assert_eq!(rt; rows.len(), tree.node_count() as usize);
     for n in 0..tree.node_count() {
         let at = n as usize;
