@@ -62,10 +62,13 @@ module _ (b : Built) (parent : Option ℕ) (played : Option Move) where
               elim (cases_Option parent) [
                 | inl e ↦ absurd (omega (arith, ap length (next_parent-none b parent next e)))
                 | inr p ↦
-                    let q = next_parent-some b parent p.0 next p.1 in
-                    (p.0, ap (parent_of (tree_so_far (with_node b parent played))) (sym here) ∙ parent-last ∙ p.1, omega (arith, q.1),
-                    subst (λ (i : ℕ). IsAbove (tree_so_far (with_node b parent played)) p.0 (i - 1)) here
-                    (IsAbove-same (tree_so_far b) (tree_so_far (with_node b parent played)) (length b.nodes) grown parent-before q.2 (omega (arith, q.0))))
+                    let q = next_parent-some b parent p.0 next p.1 in (
+                      p.0,
+                      ap (parent_of (tree_so_far (with_node b parent played))) (sym here) ∙ parent-last ∙ p.1,
+                      omega (arith, q.1),
+                      subst (λ (i : ℕ). IsAbove (tree_so_far (with_node b parent played)) p.0 (i - 1)) here
+                          (IsAbove-same (tree_so_far b) (tree_so_far (with_node b parent played)) (length b.nodes) grown parent-before q.2 (omega (arith, q.0))),
+                    )
               ]
         ]
 
@@ -115,7 +118,7 @@ module _ (b : Built) (parent : Option ℕ) (played : Option Move) where
         elim (cases_Option parent) [
           | inl e ↦ next_sibling-root (tree_so_far (with_node b parent played)) (length b.nodes) (parent-last ∙ e)
           | inr p ↦ next_sibling-none (tree_so_far (with_node b parent played)) p.0 (length b.nodes) (parent-last ∙ p.1)
-            (λ j later ej. absurd (omega (arith, node_count-more, parent-in_range (tree_so_far (with_node b parent played)) j p.0 ej)))
+              (λ j later ej. absurd (omega (arith, node_count-more, parent-in_range (tree_so_far (with_node b parent played)) j p.0 ej)))
         ]
 
     -- where the nodes of a last child keep their next siblings

@@ -1,6 +1,7 @@
 mod StoredBuilds
 mod StoredGrowth
 mod StoredTrees
+pub mod Branchings
 pub mod Climbs
 pub mod Colons
 pub mod Growth
@@ -10,6 +11,7 @@ pub mod Paths
 pub mod Properties
 pub mod Ranges
 pub mod SimpleTexts
+pub mod Subtrees
 pub mod Trees
 pub mod Trimming
 pub mod Values

@@ -27,11 +27,15 @@ first_of-found p c a (suc n) e =
           let same : a ≡ c = cc in
           (sym (ap p same) ∙ t, omega arith, omega arith, λ k l h. absurd (omega arith))
       | inr f ↦
-          let rest = first_of-found p c (a + 1) n (sym (ap (λ b. first_of (cond b (a ∷ filter p (range_with_len (a + 1) n)) (filter p (range_with_len (a + 1) n)))) f) ∙ e) in
-          (rest.0, omega (arith, rest.1), omega (arith, rest.2), λ k l h. elim (cases_eq k a) [
-            | inl s ↦ ap p s ∙ f
-            | inr ne ↦ rest.3 k (omega arith) h
-          ])
+          let rest = first_of-found p c (a + 1) n (sym (ap (λ b. first_of (cond b (a ∷ filter p (range_with_len (a + 1) n)) (filter p (range_with_len (a + 1) n)))) f) ∙ e) in (
+            rest.0,
+            omega (arith, rest.1),
+            omega (arith, rest.2),
+            λ k l h. elim (cases_eq k a) [
+              | inl s ↦ ap p s ∙ f
+              | inr ne ↦ rest.3 k (omega arith) h
+            ],
+          )
     ]
 
 pub filter_none : (p : ℕ → Bool) (a n : ℕ) → ((k : ℕ) → a ≤ k → k < a + n → p k ≡ false) → filter p (range_with_len a n) ≡ []

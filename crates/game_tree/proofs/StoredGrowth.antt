@@ -114,7 +114,7 @@ module _ (b : Built) (info : Information) (grown : IsGrown (tree_so_far b)) wher
     most = grown.most;
     root = grown.root;
     parents = λ n low high. let p = grown.parents n low high in
-    (p.0, p.1, p.2, IsAbove-same (tree_so_far b) (tree_of b info) (node_count (tree_so_far b)) grown (λ k h. refl) p.3 (omega arith));
+        (p.0, p.1, p.2, IsAbove-same (tree_so_far b) (tree_of b info) (node_count (tree_so_far b)) grown (λ k h. refl) p.3 (omega arith));
     on_board = grown.on_board;
   }
 

@@ -74,8 +74,9 @@ module _ (tree : Tree) (grown : IsGrown tree) where
   parent-above n m e =
       let p = grown.parents (suc n) (omega arith) (parent-in_range tree (suc n) m e) in
       let same : p.0 ≡ m = same_Some p.0 m (sym p.1 ∙ e) in
-        let before : suc n - 1 ≡ n = omega arith in
+      let before : suc n - 1 ≡ n = omega arith in
       subst (λ (i : ℕ). IsAbove tree i n) same (subst (λ (j : ℕ). IsAbove tree p.0 j) before p.3)
+
   pub IsAbove-le : {a n : ℕ} → IsAbove tree a n → a ≤ n
   IsAbove-le itself = omega arith
   IsAbove-le (higher {a = a} {m = m} {n = n} e above) = omega (arith, parent-lt n m e, IsAbove-le above)
@@ -214,6 +215,7 @@ siblings_from-next tree n = go (parent_of tree n) refl where
       ∙ first_and_later s 0 (filter (is_later tree m n) (range_with_len 0 (node_count tree))) (IsAscending-range (is_later tree m n) 0 (node_count tree)) (sym (next_sibling-parent tree n m e) ∙ f)
       ∙ ap (λ xs. s ∷ xs) rest
       ∙ ap (λ o. s ∷ option_map_or (λ i. filter (ltb s) (children_of tree i)) o []) (sym found.0)
+
   go : (o : Option ℕ) → parent_of tree n ≡ o → siblings_from tree (Some n) ≡ n ∷ siblings_from tree (next_sibling_of tree n)
   go None e =
       ap (λ o. n ∷ option_map_or (λ m. filter (ltb n) (children_of tree m)) o []) e

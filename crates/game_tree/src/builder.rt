@@ -7,6 +7,9 @@ use kb_geometry::{NoMemory, Shape};
 use std::alloc::Global;
 use std::marker::Model;
 
+#[cfg(test)]
+mod checks;
+
 // Takes the nodes of a game in order of the text, each with its setups and then its parent and its move.
 //
 // Contracts see it as the nodes so far, and the setups so far of the node that is being read.

@@ -14,7 +14,7 @@ invariant_of-self-2 c =
     (subst (λ (b : Built). IsRectOnBoard b.shape c.args.setup.rect) (sym c.self.view_is) c.requires.on_board))
 
 pub returns-clause-ok : goal.returns-clause-ok
-returns-clause-ok c = 
+returns-clause-ok c =
     ap (λ (ss : _). shown_built c.self.inside.shape c.self.inside.nodes.items ss) c.in_ok-push.ensures.items
     ∙ shown_built-setup c.self.inside.nodes.items c.self.inside.setups.items c.self.invariant.ends c.args.setup c.self.inside.shape
     ∙ ap (λ (b : _). with_setup b c.args.setup) c.self.view_is
