@@ -3,6 +3,8 @@ pub mod ReadBounds
 pub mod NodeParents
 pub mod ReadParents
 pub mod Reached
+pub mod ReadAscending
+pub mod WithinLimits
 pub mod ScanEnds
 pub mod Scans
 pub mod ScansSpelled

@@ -1,11 +1,11 @@
 -- The faults of the limits, by the scan of the first bytes.
-use Rattle.std.proofs.Common.{◌≡◌, ◌↔◌, ℕ, ◌+◌, ◌<◌, ◌≤◌, List, [], ◌∷◌, ◌++◌, length, take, get_or, map, ap, sym, subst, refl, ◌∙◌, arith, inl, inr, Contains, length-append, length-take-le, take-take, Some, None, Option}
+use Rattle.std.proofs.Common.{◌≡◌, ◌↔◌, ℕ, ◌+◌, ◌<◌, ◌≤◌, List, [], ◌∷◌, ◌++◌, length, take, get_or, map, ap, sym, subst, refl, ◌∙◌, arith, inl, inr, Contains, length-append, length-take-le, take-take, Some, None}
 use Rattle.std.proofs.lemmas.List.{take-append-le, get_or_at, get_or-map, length-map}
 use Rattle.std.proofs.lemmas.List.Elements.{Contains-push}
 use Rattle.sgf_reader.specs.declared.limits.TheConstants.{MAX_GAMES, MAX_NODES, MAX_OPEN}
 use Rattle.sgf_reader.specs.Grammar.{SpelledGame, SpelledNode, Spells}
 use Rattle.sgf_reader.specs.Faults.{IsTooDeep, IsNodeTooMany, IsGameTooMany, GoesOnAs, StandsAt}
-use Rattle.sgf_reader.specs.Scan.{Scan, Place, Within, Inside, Phase, Opened, InNode, scan, at_start, begun}
+use Rattle.sgf_reader.specs.Scan.{Scan, Within, Inside, Phase, Opened, InNode, scan, at_start, begun}
 use Rattle.sgf_reader.proofs.Ways.{inside}
 use Rattle.sgf_reader.proofs.Reached.{Reached, reached-whole}
 use Rattle.sgf_reader.proofs.SpelledScans.{spelled-scans}

@@ -1,5 +1,5 @@
 -- Lists of parents and depths: how nodes hang below each other, and what one node more does.
-use Rattle.std.proofs.Common.{◌≡◌, ◌≢◌, ◌⊎◌, inl, inr, ℕ, zero, suc, ◌+◌, ◌-◌, ◌<◌, ◌≤◌, Bool, true, ap, sym, subst, refl, ◌∙◌, arith, List, [], ◌∷◌, ◌++◌, length, get_or, map, length-append, Some, None, Option, All}
+use Rattle.std.proofs.Common.{◌≡◌, ◌≢◌, ◌⊎◌, inl, inr, ℕ, zero, suc, ◌+◌, ◌-◌, ◌<◌, ◌≤◌, ap, sym, subst, refl, ◌∙◌, arith, List, [], ◌∷◌, ◌++◌, length, get_or, length-append, Some, None, Option}
 use Rattle.std.specs.Prelude.{⊤}
 use Rattle.std.proofs.lemmas.Bool.{cases_lt, cases_order}
 use Rattle.std.proofs.lemmas.List.{get_or_append_left, get_or_push, get_or_past}
@@ -241,14 +241,17 @@ pub hanging-pop : (above : List (Option ℕ)) (depths : List ℕ) (k : ℕ) (q r
 hanging-pop above depths k q r parents h =
     let head = chain-head above depths k q (r ∷ parents) h in
     let j : ℕ = head.3.0 in
-    let is : q ≡ Some j = head.3.1 in
-    (j, is, record {
-      same = h.same;
-      hung = h.hung;
-      chain = subst (λ (x : Option ℕ). Chain above depths (x ∷ r ∷ parents)) is head.3;
-      top = IsAncestor-then above j k (length above - 1) (subst (λ (x : Option ℕ). Under above x k) is head.2) h.top;
-      left = λ m p e f i g. h.left m p e f (suc i) (ap (λ (x : Option ℕ). get_or (x ∷ r ∷ parents) i None) is ∙ g);
-    })
+    let is : q ≡ Some j = head.3.1 in (
+      j,
+      is,
+      record {
+        same = h.same;
+        hung = h.hung;
+        chain = subst (λ (x : Option ℕ). Chain above depths (x ∷ r ∷ parents)) is head.3;
+        top = IsAncestor-then above j k (length above - 1) (subst (λ (x : Option ℕ). Under above x k) is head.2) h.top;
+        left = λ m p e f i g. h.left m p e f (suc i) (ap (λ (x : Option ℕ). get_or (x ∷ r ∷ parents) i None) is ∙ g);
+      },
+    )
 
 -- the root alone
 pub hanging-root : Hanging (None ∷ []) (1 ∷ []) 0 None []

@@ -1,11 +1,11 @@
 -- What holds of every place that the scan of a text reaches.
-use Rattle.std.proofs.Common.{◌≡◌, ◌≢◌, ◌⊎◌, inl, inr, ℕ, zero, suc, ◌+◌, ◌<◌, ◌≤◌, Bool, true, ap, sym, subst, refl, ◌∙◌, arith, add-one, List, [], ◌∷◌, ◌++◌, length, get_or, take, Some, None, Option, length-take-le, take_all}
+use Rattle.std.proofs.Common.{◌≡◌, ◌⊎◌, inl, inr, ℕ, zero, suc, ◌+◌, ◌<◌, ◌≤◌, Bool, true, ap, sym, subst, refl, ◌∙◌, arith, List, [], ◌∷◌, ◌++◌, length, get_or, take, Some, None, Option, length-take-le, take_all}
 use Rattle.std.specs.Prelude.{⊤}
-use Rattle.std.proofs.lemmas.List.{take_more, length-take}
+use Rattle.std.proofs.lemmas.List.{take_more}
 use Rattle.sgf_reader.specs.declared.collection.Span.{Span}
-use Rattle.sgf_reader.specs.Grammar.{SpelledGame, IsLetter}
-use Rattle.sgf_reader.specs.Scan.{Scan, Place, Outside, Before, Within, Inside, Phase, Opened, InNode, InName, AfterName, InValue, Escaped, AfterValue, AfterTree, at_phase, with_node, with_bracket, closed, step, scan, at_start}
-use Rattle.sgf_reader.proofs.Scans.{Leads, Leads-parts, Leads-head}
+use Rattle.sgf_reader.specs.Grammar.{SpelledGame}
+use Rattle.sgf_reader.specs.Scan.{Scan, Place, Outside, Before, Within, Inside, Phase, Opened, InName, AfterName, InValue, Escaped, AfterValue, at_phase, with_node, with_bracket, closed, step, scan, at_start}
+use Rattle.sgf_reader.proofs.Scans.{Leads-parts, Leads-head}
 use Rattle.sgf_reader.proofs.Steps.{EndsNode, in_node, after_value, EndsTree, after_node, after_tree}
 use Rattle.sgf_reader.proofs.Ways.{WayBetween, bracket, close, WayNode, node, letter, between, WayIn, opened_white, opened_node, node_white, node_on, name_letter, name_white, name_value, after_name_white, after_name_value, value_end, value_escape, value_byte, escaped, after_value_white, after_value_value, after_value_on, tree_white, tree_on, Way, step-way, inside, behind_value}
 
@@ -120,7 +120,8 @@ change-open games s at t h (begins n) = h
 change-open games s at t h (opens e) = omega arith
 change-open games s at t h (closes e) = closed-open games s s.parents
 
-way-open : (games : List SpelledGame) (at b : ℕ) (place : Place) (t : Scan) → HasOpen place → Way games at b place t → HasOpen t.place
+-- a bracket stays open
+pub way-open : (games : List SpelledGame) (at b : ℕ) (place : Place) (t : Scan) → HasOpen place → Way games at b place t → HasOpen t.place
 way-open games at b place t h (Way.out_open e) = tt
 way-open games at b place t h (Way.out_skip e) = tt
 way-open games at b place t h (Way.before_white e) = tt

@@ -1,20 +1,19 @@
 -- What the limits bound in a text without a fault.
-use Rattle.std.proofs.Common.{◌≡◌, ◌≢◌, ◌⊎◌, inl, inr, ℕ, ◌+◌, ◌<◌, ◌≤◌, Bool, true, ap, sym, subst, refl, ◌∙◌, arith, List, [], ◌∷◌, ◌++◌, length, length-append, Some, None, Option, Contains, All}
+use Rattle.std.proofs.Common.{◌≡◌, inl, inr, ℕ, ◌+◌, ◌<◌, ◌≤◌, true, subst, refl, arith, List, [], ◌∷◌, ◌++◌, length, length-append, Some, None, Option, All}
 use Rattle.std.specs.Prelude.{⊤}
 use Rattle.std.proofs.lemmas.Bool.{cases_lt}
-use Rattle.std.proofs.lemmas.List.Elements.{All-nil, All-cons, All-head, All-tail, All-push, All-weaker, All-contains}
+use Rattle.std.proofs.lemmas.List.Elements.{All-nil, All-cons, All-head, All-tail, All-push, All-weaker}
 use Rattle.sgf_reader.specs.declared.collection.Span.{Span}
 use Rattle.sgf_reader.specs.declared.collection.Pair.{Pair}
 use Rattle.sgf_reader.specs.declared.fault.FaultKind.TheVariants as kind
 use Rattle.sgf_reader.specs.declared.limits.TheConstants.{MAX_GAMES, MAX_NODES, MAX_OPEN}
 use Rattle.sgf_reader.specs.Grammar.{SpelledGame, SpelledNode}
 use Rattle.sgf_reader.specs.Faults.{HasRead, HasFault}
-use Rattle.sgf_reader.specs.Scan.{Scan, Place, Outside, Before, Within, Inside, Phase, Opened, InNode, InName, AfterName, InValue, Escaped, AfterValue, AfterTree, with_pair, with_node, with_bracket, closed, begun, at_start, scan}
-use Rattle.sgf_reader.proofs.Steps.{EndsNode}
+use Rattle.sgf_reader.specs.Scan.{Scan, Place, Outside, Before, Within, Inside, Phase, Opened, InNode, InName, AfterName, InValue, Escaped, AfterValue, AfterTree, with_pair, with_node, with_bracket, closed, begun}
 use Rattle.sgf_reader.proofs.Ways.{inside, behind_value, Way}
 use Rattle.sgf_reader.proofs.SpelledNodes.{paired, with_pair-length}
 use Rattle.sgf_reader.proofs.SpelledScans.{spelled-scans}
-use Rattle.sgf_reader.proofs.Reached.{Reached, Steps, keeps, reached-whole, Moves, BeginsNode, Change, changes}
+use Rattle.sgf_reader.proofs.Reached.{Reached, keeps, reached-whole, Moves, Change, changes}
 use Rattle.sgf_reader.proofs.LimitLaws.{ScansTooDeep, ScansNodeTooMany, ScansGameTooMany, too_deep-at, node_too_many-at, game_too_many-at}
 
 -- ---- the words

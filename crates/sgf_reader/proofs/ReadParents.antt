@@ -1,16 +1,16 @@
 -- How the nodes of a game that was read hang below each other.
-use Rattle.std.proofs.Common.{◌≡◌, ◌≢◌, ◌⊎◌, inl, inr, ℕ, ◌+◌, ◌-◌, ◌<◌, ◌≤◌, Bool, true, ap, sym, subst, refl, ◌∙◌, arith, List, [], ◌∷◌, ◌++◌, length, get_or, map, length-append, Some, None, Option, All, Contains}
+use Rattle.std.proofs.Common.{◌≡◌, inl, inr, ℕ, ◌-◌, ◌≤◌, true, ap, sym, subst, refl, ◌∙◌, arith, List, [], ◌∷◌, ◌++◌, length, map, length-append, Some, None, Option, All, Contains}
 use Rattle.std.specs.Prelude.{⊤}
 use Rattle.std.proofs.lemmas.List.{map_push, length-map}
 use Rattle.std.proofs.lemmas.List.Elements.{All-nil, All-push, All-contains}
 use Rattle.sgf_reader.specs.declared.collection.Span.{Span}
 use Rattle.sgf_reader.specs.declared.collection.Pair.{Pair}
 use Rattle.sgf_reader.specs.Grammar.{SpelledGame, SpelledNode, HasGames}
-use Rattle.sgf_reader.specs.Scan.{Scan, Place, Outside, Before, Within, Inside, Phase, Opened, InNode, InName, AfterName, InValue, Escaped, AfterValue, AfterTree, with_pair, with_node, with_bracket, closed, begun, at_start, scan}
+use Rattle.sgf_reader.specs.Scan.{Scan, Place, Outside, Before, Within, Inside, Phase, Opened, InNode, InName, AfterName, InValue, Escaped, AfterValue, AfterTree, with_pair, with_node, closed}
 use Rattle.sgf_reader.proofs.Steps.{EndsNode, in_node, after_value, EndsTree, after_node, after_tree}
-use Rattle.sgf_reader.proofs.Ways.{inside, behind_value, Way}
+use Rattle.sgf_reader.proofs.Ways.{Way}
 use Rattle.sgf_reader.proofs.SpelledScans.{spelled-scans}
-use Rattle.sgf_reader.proofs.Reached.{Reached, Steps, keeps, reached-whole, Moves, BeginsNode, Change, changes}
+use Rattle.sgf_reader.proofs.Reached.{Reached, keeps, reached-whole, Moves, BeginsNode, Change, changes}
 use Rattle.sgf_reader.proofs.NodeParents.{AreHung, Hanging, hanging-push, hanging-extend, hanging-pop, hanging-root}
 
 -- the parents of these nodes
@@ -169,12 +169,11 @@ module _ (s : Inside) where
   closes-hangs games (p ∷ []) g t = record { before = All-push IsHungGame games (record { at = s.at; nodes = s.nodes }) g (record { nodes = t.hanging.hung }); here = tt }
   closes-hangs games (p ∷ r ∷ parents) g t =
       let is = t.is in
-      let rest : p ∷ r ∷ parents ≡ t.q ∷ t.others = cc in
       let same_q : p ≡ t.q = cc in
       let same_others : r ∷ parents ≡ t.others = cc in
       let hanging : Hanging (parents_of s.nodes) (depths_of s.nodes) t.k p (r ∷ parents) = subst (λ (x : Option ℕ). Hanging (parents_of s.nodes) (depths_of s.nodes) t.k x (r ∷ parents)) (sym same_q) (subst (λ (xs : List (Option ℕ)). Hanging (parents_of s.nodes) (depths_of s.nodes) t.k t.q xs) (sym same_others) t.hanging) in
       let popped = hanging-pop (parents_of s.nodes) (depths_of s.nodes) t.k p r parents hanging in
-      record { before = g; here = record { k = popped.0; q = r; others = parents; is = ap (λ (x : Option ℕ). x ∷ r ∷ parents) popped.1; hanging = popped.2 } }
+      record { before = g; here = record { k = popped.0; q = r; others = parents; is = ap (λ (x : Option ℕ). x ∷ r ∷ parents) {y = Some popped.0} popped.1; hanging = popped.2 } }
 
 change-hangs : (games : List SpelledGame) (s : Inside) (count : ℕ) (t : Scan) → Change games s count t → All IsHungGame games → Hangs s.phase s.last s.parents s.nodes → ScanHangs t
 change-hangs games s count t (Change.moves {phase = phase} m) g h = record { before = g; here = moved-hangs s count phase m h }

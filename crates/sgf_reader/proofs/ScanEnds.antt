@@ -1,5 +1,5 @@
 -- Every place that a scan reaches can be completed.
-use Rattle.std.proofs.Common.{◌≡◌, ℕ, ◌+◌, ◌≤◌, List, [], ◌∷◌, ◌++◌, length, map, Bool, true, false, ◌||◌, ap, refl, ◌∙◌, arith, Some, None, Option}
+use Rattle.std.proofs.Common.{◌≡◌, ℕ, ◌+◌, ◌≤◌, List, [], ◌∷◌, ◌++◌, length, map, Bool, true, false, ◌||◌, ap, refl, ◌∙◌, arith, Some, Option}
 use Rattle.sgf_reader.specs.declared.collection.Span.{Span}
 use Rattle.sgf_reader.specs.declared.collection.Pair.{Pair}
 use Rattle.sgf_reader.specs.Grammar.{SpelledNode, SpelledGame}

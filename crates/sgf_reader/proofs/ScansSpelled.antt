@@ -1,16 +1,15 @@
 -- What the scan reads the grammar spells.
-use Rattle.std.proofs.Common.{◌≡◌, ◌≢◌, ◌⊎◌, inl, inr, ℕ, ◌+◌, ◌<◌, ◌≤◌, Bool, true, false, ◌||◌, ap, sym, subst, refl, ◌∙◌, arith, List, [], ◌∷◌, ◌++◌, length, suc, Some, None, Option, All, Any, get_or, append_assoc, append-nil, length-append}
+use Rattle.std.proofs.Common.{◌≡◌, ◌≢◌, ◌⊎◌, inl, inr, ℕ, ◌+◌, ◌<◌, ◌≤◌, Bool, true, ◌||◌, ap, sym, subst, refl, ◌∙◌, arith, List, [], ◌∷◌, ◌++◌, length, suc, Some, Option, All, Any, get_or, append_assoc, append-nil, length-append}
 use Rattle.std.proofs.lemmas.List.{get_or_at}
 use Rattle.std.specs.Prelude.{⊤}
 use Rattle.std.proofs.lemmas.Bool.{or_cases}
 use Rattle.std.proofs.lemmas.List.Elements.{All-nil, All-cons, All-head, All-tail, All-push}
-use Rattle.sgf_reader.specs.declared.collection.Span.{Span}
-use Rattle.sgf_reader.specs.Grammar.{HasGames, SpelledGame, SpelledNode, IsWhite, IsUpper, IsLetter, IsIdentifier, IsValue, StartsTree}
+use Rattle.sgf_reader.specs.Grammar.{HasGames, SpelledGame, SpelledNode, IsWhite, IsUpper, IsLetter, IsIdentifier, IsValue}
 use Rattle.sgf_reader.specs.Scan.{Scan, Place, Outside, Before, Within, Inside, Phase, Opened, InNode, InName, AfterName, InValue, Escaped, AfterValue, AfterTree, IsOutside, outside, before, is_upper, closed, scan, at_start}
 use Rattle.sgf_reader.proofs.Scans.{Leads-head}
 use Rattle.sgf_reader.proofs.Steps.{within_at}
-use Rattle.sgf_reader.proofs.Ways.{WayBetween, bracket, close, WayNode, node, letter, between, WayIn, opened_white, opened_node, node_white, node_on, name_letter, name_white, name_value, after_name_white, after_name_value, value_end, value_escape, value_byte, escaped, after_value_white, after_value_value, after_value_on, tree_white, tree_on, Way, out_open, out_skip, before_white, before_node, before_open, before_skip, way_in, step-way, inside, upper-from}
-use Rattle.sgf_reader.proofs.Shapes.{Values, Properties, Nodes, Tree, Trees, Games, games-marked, Then, Closing, closing-close, closing-tree, nodes-node, nodes-none, properties-none, values-none, values-value, properties-property, tree-begins}
+use Rattle.sgf_reader.proofs.Ways.{WayBetween, bracket, close, WayNode, node, letter, between, WayIn, opened_white, opened_node, node_white, node_on, name_letter, name_white, name_value, after_name_white, after_name_value, value_end, value_escape, value_byte, escaped, after_value_white, after_value_value, after_value_on, tree_white, tree_on, Way, out_open, out_skip, before_white, before_node, before_open, before_skip, way_in, step-way, upper-from}
+use Rattle.sgf_reader.proofs.Shapes.{Values, Properties, Nodes, Tree, Games, games-marked, Then, Closing, closing-close, closing-tree, nodes-node, nodes-none, properties-none, values-none, values-value, properties-property, tree-begins}
 use Rattle.sgf_reader.proofs.SpelledScans.{spelled-scans}
 
 -- ---- what is left to read at each place

@@ -1,5 +1,5 @@
 -- The grammar without marks: which texts are values, properties, nodes, trees and games.
-use Rattle.std.proofs.Common.{◌≡◌, ◌≢◌, ℕ, ◌+◌, ◌-◌, ◌<◌, ◌≤◌, ap, sym, subst, refl, ◌∙◌, arith, List, [], ◌∷◌, ◌++◌, length, Some, None, Option, length-append, append_assoc}
+use Rattle.std.proofs.Common.{◌≡◌, ℕ, ◌+◌, ◌-◌, ap, sym, refl, ◌∙◌, arith, List, [], ◌∷◌, ◌++◌, length, Some, None, Option, append_assoc}
 use Rattle.sgf_reader.specs.declared.collection.Span.{Span}
 use Rattle.sgf_reader.specs.declared.collection.Pair.{Pair}
 use Rattle.sgf_reader.specs.Grammar.{SpelledGame, SpelledNode, IsWhite, IsIdentifier, IsValue, AreValues, AreProperties, AreNodes, IsTree, AreTrees, HasGames, StartsTree, span_of}

@@ -1,12 +1,12 @@
 -- How values, properties and nodes lead a reader on.
-use Rattle.std.proofs.Common.{◌≡◌, ◌≢◌, ◌⊎◌, inl, inr, ℕ, ◌+◌, ◌-◌, ◌<◌, ◌≤◌, Bool, true, false, ap, sym, subst, refl, ◌∙◌, arith, List, [], ◌∷◌, ◌++◌, length, Some, None, Option, All, Any, length-append, append_assoc, append-nil, add-zero}
+use Rattle.std.proofs.Common.{◌≡◌, ℕ, ◌+◌, ◌-◌, ◌≤◌, Bool, true, false, ap, sym, subst, refl, ◌∙◌, arith, List, [], ◌∷◌, ◌++◌, length, Some, None, Option, length-append, append_assoc, append-nil}
 use Rattle.std.proofs.lemmas.List.Elements.{All-head, All-tail}
 use Rattle.sgf_reader.specs.declared.collection.Span.{Span}
 use Rattle.sgf_reader.specs.declared.collection.Pair.{Pair}
-use Rattle.sgf_reader.specs.Grammar.{SpelledGame, SpelledNode, IsUpper, IsLetter, IsIdentifier, IsWhite, IsValue, AreValues, AreProperties, AreNodes, span_of}
-use Rattle.sgf_reader.specs.Scan.{Scan, Place, Outside, Before, Within, Inside, Phase, Opened, InNode, InName, AfterName, InValue, Escaped, AfterValue, AfterTree, is_upper, with_pair, with_node, step}
-use Rattle.sgf_reader.proofs.Scans.{Leads, Leads-none, Leads-byte, Leads-one, Leads-then, Leads-from, Leads-to}
-use Rattle.sgf_reader.proofs.Ways.{inside, behind_value}
+use Rattle.sgf_reader.specs.Grammar.{SpelledGame, SpelledNode, IsLetter, IsIdentifier, IsWhite, IsValue, AreValues, AreProperties, AreNodes, span_of}
+use Rattle.sgf_reader.specs.Scan.{Scan, Within, Inside, Phase, InNode, InName, AfterName, InValue, AfterValue, is_upper, with_pair, with_node, step}
+use Rattle.sgf_reader.proofs.Scans.{Leads, Leads-none, Leads-byte, Leads-one, Leads-then, Leads-to}
+use Rattle.sgf_reader.proofs.Ways.{inside}
 use Rattle.sgf_reader.proofs.Steps.{EndsNode, in_node, after_value, within_at, white-stays, node-stays, node-more, name-more, after_name-stays, name_behind, value-leads, letters-lead, has_upper, has_upper-any}
 
 -- the last of these nodes has these pairs more

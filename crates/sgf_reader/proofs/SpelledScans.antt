@@ -1,12 +1,12 @@
 -- What the grammar spells the scan reads.
-use Rattle.std.proofs.Common.{◌≡◌, ◌≢◌, ◌⊎◌, inl, inr, ℕ, ◌+◌, ◌-◌, ◌<◌, ◌≤◌, Bool, true, false, ap, sym, subst, refl, ◌∙◌, arith, List, [], ◌∷◌, ◌++◌, length, Some, None, Option, length-append, append_assoc, append-nil, ◌==◌}
+use Rattle.std.proofs.Common.{◌≡◌, ◌≢◌, inl, inr, ℕ, ◌+◌, ◌-◌, ◌≤◌, ap, sym, subst, refl, arith, List, [], ◌∷◌, ◌++◌, length, Some, None, Option, length-append, append_assoc, append-nil}
 use Rattle.std.specs.Prelude.{⊤}
 use Rattle.std.proofs.lemmas.Bool.{cases_eq, cases_lt, ne_eqb, lt-leb}
 use Rattle.std.proofs.lemmas.List.Elements.{All-nil, All-cons}
-use Rattle.sgf_reader.specs.Grammar.{SpelledGame, SpelledNode, IsWhite, IsTree, AreTrees, AreNodes, HasGames, StartsTree}
-use Rattle.sgf_reader.specs.Scan.{Scan, Place, Outside, Before, Within, Inside, Phase, Opened, AfterTree, IsOutside, outside, before, with_bracket, closed, begun, step, scan, at_start, is_white}
+use Rattle.sgf_reader.specs.Grammar.{SpelledGame, SpelledNode, IsWhite, IsTree, AreTrees, HasGames, StartsTree}
+use Rattle.sgf_reader.specs.Scan.{Scan, Place, Outside, Before, Within, Phase, Opened, AfterTree, IsOutside, outside, before, closed, step, scan, at_start}
 use Rattle.sgf_reader.proofs.Scans.{Leads, Leads-none, Leads-byte, Leads-one, Leads-then, Leads-from, Leads-to}
-use Rattle.sgf_reader.proofs.Ways.{inside, out}
+use Rattle.sgf_reader.proofs.Ways.{out}
 use Rattle.sgf_reader.proofs.Steps.{EndsTree, after_node, after_tree, within_at, white-stays, white-tests, tree-stays, tree-more, tree-ends, opened-stays}
 use Rattle.sgf_reader.proofs.SpelledNodes.{TakesNode, reader, nodes-first}
 

@@ -1,6 +1,6 @@
 -- What is live and what is spelled, by the scan; a text spells one collection.
-use Rattle.std.proofs.Common.{◌≡◌, ◌↔◌, ℕ, ◌+◌, ◌≤◌, List, [], ◌∷◌, ◌++◌, length, length-append, sym, ◌∙◌, arith, Some, None, Option}
-use Rattle.sgf_reader.specs.Grammar.{HasGames, Spells, SpelledGame}
+use Rattle.std.proofs.Common.{◌≡◌, ◌↔◌, ℕ, ◌≤◌, List, [], ◌∷◌, ◌++◌, length, length-append, sym, ◌∙◌, arith, Some}
+use Rattle.sgf_reader.specs.Grammar.{Spells, SpelledGame}
 use Rattle.sgf_reader.specs.Faults.{IsLive}
 use Rattle.sgf_reader.specs.Scan.{Scan, Place, Outside, IsOutside, outside, scan, at_start}
 use Rattle.sgf_reader.proofs.Scans.{Leads, Leads-then, Leads-parts}

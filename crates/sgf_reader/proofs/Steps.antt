@@ -1,12 +1,11 @@
 -- What each byte does at a place of one kind, and how words of letters, white space and values lead a reader on.
-use Rattle.std.proofs.Common.{◌≡◌, ◌≢◌, ◌⊎◌, inl, inr, ℕ, ◌+◌, ◌<◌, ◌≤◌, Bool, true, false, ◌||◌, ◌&&◌, ap, sym, subst, refl, ◌∙◌, arith, List, [], ◌∷◌, ◌++◌, length, Some, None, Option, ◌==◌, nat_le, All, Any, get_or, zero, suc, length-append, add-zero}
+use Rattle.std.proofs.Common.{◌≡◌, ◌≢◌, ◌⊎◌, inl, inr, ℕ, ◌+◌, ◌<◌, ◌≤◌, Bool, true, false, ◌||◌, ◌&&◌, ap, sym, subst, refl, ◌∙◌, arith, List, [], ◌∷◌, length, Some, None, Option, ◌==◌, nat_le, All, Any, get_or, zero, suc}
 use Rattle.std.proofs.lemmas.Bool.{le-leb, lt-leb, ne_eqb}
 use Rattle.std.proofs.lemmas.List.Elements.{All-head, All-tail}
 use Rattle.sgf_reader.specs.declared.collection.Span.{Span}
-use Rattle.sgf_reader.specs.declared.collection.Pair.{Pair}
 use Rattle.sgf_reader.specs.Grammar.{SpelledGame, SpelledNode, IsUpper, IsLetter, IsWhite, IsValue}
-use Rattle.sgf_reader.specs.Scan.{Scan, Place, Outside, Before, Within, Inside, Phase, Opened, InNode, InName, AfterName, InValue, Escaped, AfterValue, AfterTree, is_white, is_upper, is_letter, at_phase, with_pair, with_node, with_bracket, closed, begun, step, scan}
-use Rattle.sgf_reader.proofs.Scans.{Leads, Leads-none, Leads-byte, Leads-then}
+use Rattle.sgf_reader.specs.Scan.{Scan, Within, Inside, Phase, Opened, InNode, InName, AfterName, InValue, Escaped, AfterValue, AfterTree, is_white, is_upper, is_letter, with_node, with_bracket, closed, step}
+use Rattle.sgf_reader.proofs.Scans.{Leads, Leads-none, Leads-byte}
 use Rattle.sgf_reader.proofs.Ways.{inside}
 
 -- ---- tests of bytes

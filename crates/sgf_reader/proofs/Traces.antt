@@ -1,15 +1,14 @@
 -- Where in the scan of a text each bracket, node and game began.
-use Rattle.std.proofs.Common.{◌≡◌, ◌≢◌, ◌⊎◌, inl, inr, ℕ, zero, suc, ◌+◌, ◌<◌, ◌≤◌, ap, sym, subst, refl, ◌∙◌, arith, List, [], ◌∷◌, ◌++◌, length, get_or, map, Some, None, Option, length-append}
+use Rattle.std.proofs.Common.{◌≡◌, ◌⊎◌, inl, inr, ℕ, ◌+◌, ◌<◌, ◌≤◌, ap, sym, subst, refl, ◌∙◌, arith, List, [], ◌∷◌, ◌++◌, length, get_or, map, Some, None, Option, length-append}
 use Rattle.std.specs.Prelude.{⊤}
 use Rattle.std.proofs.lemmas.Bool.{cases_lt}
-use Rattle.std.proofs.lemmas.List.{map_push, length-map, get_or_append_left, get_or_push, get_or-map}
+use Rattle.std.proofs.lemmas.List.{map_push, length-map, get_or_append_left, get_or_push}
 use Rattle.sgf_reader.specs.declared.collection.Pair.{Pair}
 use Rattle.sgf_reader.specs.Grammar.{SpelledGame, SpelledNode}
-use Rattle.sgf_reader.specs.Scan.{Scan, Place, Outside, Before, Within, Inside, Phase, Opened, InNode, with_pair, with_node, with_bracket, at_phase, closed, begun, at_start}
-use Rattle.sgf_reader.proofs.Steps.{EndsNode, in_node, after_value}
-use Rattle.sgf_reader.proofs.Ways.{inside, behind_value, Way}
+use Rattle.sgf_reader.specs.Scan.{Scan, Place, Outside, Before, Within, Inside, Phase, Opened, InNode, with_node, with_bracket, closed, begun}
+use Rattle.sgf_reader.proofs.Ways.{inside, Way}
 use Rattle.sgf_reader.proofs.ScanEnds.{bare, bare-pair}
-use Rattle.sgf_reader.proofs.Reached.{Reached, Steps, keeps, Moves, BeginsNode, Change, changes}
+use Rattle.sgf_reader.proofs.Reached.{Reached, keeps, Moves, BeginsNode, Change, changes}
 
 -- the scan behind the node's `;`: it is the last of the nodes there, of this number
 pub record WasNode (text : List ℕ) (number : ℕ) (node : SpelledNode) : Type 0 where

@@ -1,8 +1,7 @@
 -- The ways in which one byte leads a reader on.
-use Rattle.std.proofs.Common.{◌≡◌, ◌≢◌, ◌⊎◌, inl, inr, ℕ, ◌+◌, ◌<◌, ◌≤◌, Bool, true, false, ◌||◌, ◌&&◌, ap, sym, subst, refl, ◌∙◌, arith, List, [], ◌∷◌, Some, None, Option, if◌then◌else◌, ◌==◌, nat_le}
+use Rattle.std.proofs.Common.{◌≡◌, ◌≢◌, ◌⊎◌, inl, inr, ℕ, ◌+◌, ◌<◌, ◌≤◌, Bool, true, false, ◌||◌, subst, refl, List, Some, None, Option, if◌then◌else◌, ◌==◌}
 use Rattle.std.proofs.lemmas.Bool.{leb-true, leb-false, eqb-true, eqb-false, and_parts, or_cases}
 use Rattle.sgf_reader.specs.declared.collection.Span.{Span}
-use Rattle.sgf_reader.specs.declared.collection.Pair.{Pair}
 use Rattle.sgf_reader.specs.Grammar.{SpelledGame, IsUpper, IsLetter}
 use Rattle.sgf_reader.specs.Scan.{Scan, Place, Outside, Before, Within, Inside, Phase, Opened, InNode, InName, AfterName, InValue, Escaped, AfterValue, AfterTree, is_white, is_upper, is_letter, at_phase, with_pair, with_node, with_bracket, closed, within, begun, step, step_within, step_node, step_between}
 
