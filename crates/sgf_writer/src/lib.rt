@@ -4,6 +4,9 @@
 //! written text. The layer above uses that [`write`] appends it.
 #![tactic(auto)]
 
+mod nodes;
+mod values;
+mod walk;
 mod writer;
 
 pub use writer::write;
