@@ -1,3 +1,4 @@
 mod Appends
+mod Closings
 mod InBrackets
 mod Walks
