@@ -1,4 +1,6 @@
 mod Appends
 mod Closings
 mod InBrackets
+mod Spelling
+mod Standing
 mod Walks
