@@ -1,5 +1,6 @@
 mod Appends
 mod Closings
+mod Entries
 mod InBrackets
 mod Spelling
 mod Standing
