@@ -1,7 +1,10 @@
 mod Appends
 mod Closings
 mod Entries
+mod GrammarOf
 mod InBrackets
+mod NodeSpelling
 mod Spelling
 mod Standing
+mod SubtreeEnds
 mod Walks
