@@ -7,4 +7,5 @@ mod NodeSpelling
 mod Spelling
 mod Standing
 mod SubtreeEnds
+mod ValuesRead
 mod Walks
