@@ -1,6 +1,7 @@
 mod Appends
 mod Closings
 mod Entries
+mod EntriesRead
 mod GrammarOf
 mod InBrackets
 mod NodeSpelling
