@@ -188,7 +188,7 @@ find-shown whole name (p ∷ pairs) =
       ]
     ]
 
-find-skip : (name id bytes : List ℕ) (entries : List Entry) → bytes_eq (filter is_upper id) name ≡ false → find (is_named name) (text_entries id bytes ++ entries) ≡ find (is_named name) entries
+pub find-skip : (name id bytes : List ℕ) (entries : List Entry) → bytes_eq (filter is_upper id) name ≡ false → find (is_named name) (text_entries id bytes ++ entries) ≡ find (is_named name) entries
 find-skip name id [] entries f = refl
 find-skip name id (b ∷ bytes) entries f = rw f refl
 
@@ -197,7 +197,7 @@ pub data IsShownText : Option Entry → List ℕ → Type 0 where
   absent : IsShownText None []
   shown : {entry : Entry} {bytes : List ℕ} → entry.value ≡ escaped bytes → IsShownText (Some entry) bytes
 
-find-text : (name id bytes : List ℕ) (entries : List Entry) → bytes_eq (filter is_upper id) name ≡ true → find (is_named name) entries ≡ None → IsShownText (find (is_named name) (text_entries id bytes ++ entries)) bytes
+pub find-text : (name id bytes : List ℕ) (entries : List Entry) → bytes_eq (filter is_upper id) name ≡ true → find (is_named name) entries ≡ None → IsShownText (find (is_named name) (text_entries id bytes ++ entries)) bytes
 find-text name id [] entries t none = subst (λ (o : Option Entry). IsShownText o []) (sym none) absent
 find-text name id (b ∷ bytes) entries t none =
     let here : find (is_named name) (text_entries id (b ∷ bytes) ++ entries) ≡ Some (record { name = id; value = escaped (b ∷ bytes) }) = rw t refl in
@@ -207,6 +207,6 @@ find-move : (name : List ℕ) → ((c : Colour) → bytes_eq (filter is_upper (m
 find-move name movers None = refl
 find-move name movers (Some m) = rw (movers m.colour) refl
 
-find-tail : (name : List ℕ) → ((c : Cell) → bytes_eq (filter is_upper (setter_name c)) name ≡ false) → ((c : Colour) → bytes_eq (filter is_upper (mover_name c)) name ≡ false) → (setups : List Setup) (played : Option Move) → find (is_named name) (setup_entries setups ++ move_entries played) ≡ None
+pub find-tail : (name : List ℕ) → ((c : Cell) → bytes_eq (filter is_upper (setter_name c)) name ≡ false) → ((c : Colour) → bytes_eq (filter is_upper (mover_name c)) name ≡ false) → (setups : List Setup) (played : Option Move) → find (is_named name) (setup_entries setups ++ move_entries played) ≡ None
 find-tail name setters movers [] played = find-move name movers played
 find-tail name setters movers (s ∷ setups) played = rw (setters s.cell) (find-tail name setters movers setups played)

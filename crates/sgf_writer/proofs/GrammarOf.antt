@@ -126,18 +126,18 @@ module _ (whole : List ℕ) (tree : Tree) (is_tree : IsTree tree) where
       (f.0, ap (parent_of tree) f.0 ∙ f.1, siblings-none tree (next_sibling_of tree child) rest)
 
   -- a bracketed tree
-  bracketed : (m depth number at : ℕ) (text : List ℕ) (r : ReadsFrom whole tree number (depth + 1) (Some at) (Some m) (at + 1) text) → SpellsTree depth (Some m) number at (40 ∷ (text ++ 41 ∷ [])) (r.nodes ++ r.inside)
-  bracketed m depth number at text r =
+  pub bracketed : (parent : Option ℕ) (depth number at : ℕ) (text : List ℕ) (r : ReadsFrom whole tree number (depth + 1) (Some at) parent (at + 1) text) → SpellsTree depth parent number at (40 ∷ (text ++ 41 ∷ [])) (r.nodes ++ r.inside)
+  bracketed parent depth number at text r =
       let same : 40 ∷ (r.sequence ++ r.inner ++ [] ++ 41 ∷ []) ≡ 40 ∷ (text ++ 41 ∷ []) =
       ap (λ t. 40 ∷ (t ++ 41 ∷ [])) (append-nil (r.sequence ++ r.inner) ∙ sym r.split) in
-      subst (λ (t : List ℕ). SpellsTree depth (Some m) number at t (r.nodes ++ r.inside)) same
+      subst (λ (t : List ℕ). SpellsTree depth parent number at t (r.nodes ++ r.inside)) same
       (SpellsTree.in_brackets r.sequence r.inner [] r.nodes r.inside r.own r.some (trees-moved (depth + 1) _ _ _ _ _ _ r.inner r.inside refl refl (omega arith) r.trees) no_white)
 
   one_tree : (m depth number at : ℕ) (text rest : List ℕ) (end : ℕ) (r : ReadsFrom whole tree number (depth + 1) (Some at) (Some m) (at + 1) text) → ReadsTrees whole tree depth (Some m) (number + length (r.nodes ++ r.inside)) (at + length (40 ∷ (text ++ 41 ∷ []))) rest end → ReadsTrees whole tree depth (Some m) number at (40 ∷ (text ++ 41 ∷ rest)) end
   one_tree m depth number at text rest end r others =
       let place : at ≡ at + length {A = ℕ} [] = omega arith in
       let first : SpellsTree depth (Some m) number (at + length {A = ℕ} []) (40 ∷ (text ++ 41 ∷ [])) (r.nodes ++ r.inside) =
-      subst (λ (k : ℕ). SpellsTree depth (Some m) number k (40 ∷ (text ++ 41 ∷ [])) (r.nodes ++ r.inside)) place (bracketed m depth number at text r) in
+      subst (λ (k : ℕ). SpellsTree depth (Some m) number k (40 ∷ (text ++ 41 ∷ [])) (r.nodes ++ r.inside)) place (bracketed (Some m) depth number at text r) in
       let same : (40 ∷ (text ++ 41 ∷ [])) ++ rest ≡ 40 ∷ (text ++ 41 ∷ rest) = ap (λ t. 40 ∷ t) (append_assoc text (41 ∷ []) rest) in
       record {
         nodes = (r.nodes ++ r.inside) ++ others.nodes;

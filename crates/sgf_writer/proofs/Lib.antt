@@ -5,6 +5,8 @@ mod EntriesRead
 mod GrammarOf
 mod InBrackets
 mod NodeSpelling
+mod ReadsBack
+mod RootRead
 mod Spelling
 mod Standing
 mod SubtreeEnds
