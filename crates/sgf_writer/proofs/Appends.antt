@@ -1,5 +1,5 @@
 -- Texts that are appended one after another.
-use Rattle.std.proofs.Common.{◌≡◌, ◌++◌, ◌∙◌, ℕ, List, [], ◌∷◌, refl, sym, ap, append_assoc}
+use Rattle.std.proofs.Common.{◌≡◌, ◌++◌, ◌∙◌, ℕ, List, ap, append_assoc}
 
 -- one text appended after another
 pub appended_twice : (old first second : List ℕ) {between new : List ℕ} → between ≡ old ++ first → new ≡ between ++ second → new ≡ old ++ (first ++ second)

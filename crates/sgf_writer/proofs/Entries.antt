@@ -1,9 +1,8 @@
 -- The properties of a written node: how its text is spelled.
-use Rattle.std.proofs.Common.{◌≡◌, ◌≢◌, ◌⊎◌, ℕ, ◌+◌, ◌-◌, ◌<◌, ◌≤◌, ltb, eqb, Bool, true, false, cond, List, [], ◌∷◌, ◌++◌, length, map, Option, Some, None, All, codes, refl, sym, ◌∙◌, ap, subst, arith, inl, inr, append_assoc, length-append}
-use Rattle.std.proofs.lemmas.Bool.{cases_Bool, cases_eq, cases_lt, eqb-true, eq-eqb, ne_eqb, lt-ltb, le-ltb}
-use Rattle.std.proofs.lemmas.List.{append-nil}
+use Rattle.std.proofs.Common.{◌≡◌, ◌≢◌, ◌⊎◌, ℕ, ◌+◌, ◌-◌, ◌<◌, ◌≤◌, Bool, true, false, cond, List, [], ◌∷◌, ◌++◌, length, Option, Some, None, All, codes, refl, sym, ◌∙◌, ap, subst, arith, inl, inr, append_assoc, length-append}
+use Rattle.std.proofs.lemmas.Bool.{cases_Bool, cases_eq, cases_lt, eq-eqb, ne_eqb, lt-ltb, le-ltb}
 use Rattle.std.proofs.lemmas.List.Elements.{All-append, All-cons, All-head, All-nil, All-tail}
-use Rattle.std.specs.Prelude.{IfSome, ◌||◌, ◌&&◌, ◌==◌, if◌then◌else◌, Any}
+use Rattle.std.specs.Prelude.{IfSome, ◌||◌, ◌&&◌, ◌==◌, if◌then◌else◌}
 use Rattle.std.specs.Option.{option_map_or}
 use Rattle.kb_geometry.specs.declared.shape.Point.{Point}
 use Rattle.kb_geometry.specs.declared.shape.Rect.{Rect}
@@ -20,8 +19,8 @@ use Rattle.game_tree.specs.Information.{Information}
 use Rattle.game_tree.specs.Property.{bytes_of}
 use Rattle.game_tree.specs.Tree.{Tree, node_at}
 use Rattle.sgf_writer.specs.Letters.{HasLetter, HasLetters}
-use Rattle.sgf_writer.specs.Written.{escaped, is_same, letter_of, move_text, mover_name, point_text, rect_text, root_text, setter_name, setups_text, size_text, text_property, value_text}
-use Rattle.sgf_writer.proofs.Spelling.{Entry, HasProperties, IsRun, Spell, Spell-none, run-none, run-property, run-value}
+use Rattle.sgf_writer.specs.Written.{escaped, is_same, letter_of, move_text, mover_name, point_text, rect_text, setter_name, setups_text, size_text, text_property}
+use Rattle.sgf_writer.proofs.Spelling.{Entry, IsRun, Spell, Spell-none, run-none, run-property, run-value}
 use Rattle.sgf_writer.proofs.Standing.{Stands, Stands-as, Stands-at, Stands-back, Stands-bytes, Stands-front}
 
 -- ---- the properties of a node

@@ -1,9 +1,8 @@
 -- What the properties of a written node do, and which of them are found.
-use Rattle.std.proofs.Common.{◌≡◌, ◌≢◌, ◌⊎◌, ℕ, ◌+◌, ◌<◌, ◌≤◌, suc, Bool, true, false, cond, List, [], ◌∷◌, ◌++◌, length, map, Option, Some, None, All, IsTrue, eqb, codes, refl, sym, ◌∙◌, ap, subst, arith, inl, inr}
+use Rattle.std.proofs.Common.{◌≡◌, ◌⊎◌, ℕ, Bool, true, false, cond, List, [], ◌∷◌, ◌++◌, map, Option, Some, None, All, IsTrue, eqb, codes, refl, sym, ◌∙◌, ap, subst, arith, inl, inr}
 use Rattle.std.proofs.lemmas.Bool.{cases_Bool}
 use Rattle.std.proofs.lemmas.List.Elements.{All-cons, All-head, All-nil, All-tail}
 use Rattle.std.proofs.lemmas.List.Sums.{sum_by-cons}
-use Rattle.std.specs.Option.{option_map_or}
 use Rattle.std.specs.Prelude.{IfSome, count_by, filter, find, is_some}
 use Rattle.std.specs.Str.{bytes_eq}
 use Rattle.kb_geometry.specs.declared.shape.Point.{Point}
@@ -22,8 +21,8 @@ use Rattle.game_tree.specs.Property.{bytes_of, is_of, is_upper, mover_named, mov
 use Rattle.game_tree.specs.Tree.{IsNodeOnBoard, IsRectOnBoard, Tree, node_at}
 use Rattle.game_tree.specs.Trees.{AreSetups, IsPlayedBy}
 use Rattle.game_tree.specs.Value.{IsMoveValue, IsSetupValue}
-use Rattle.sgf_writer.specs.Written.{escaped, mover_name, point_text, rect_text, setter_name}
-use Rattle.sgf_writer.proofs.Entries.{information_entries, move_entries, node_entries, root_entries, setup_entries, text_entries}
+use Rattle.sgf_writer.specs.Written.{escaped, mover_name, setter_name}
+use Rattle.sgf_writer.proofs.Entries.{move_entries, node_entries, root_entries, setup_entries, text_entries}
 use Rattle.sgf_writer.proofs.Spelling.{Entry, entry_of}
 use Rattle.sgf_writer.proofs.ValuesRead.{move-read, setup-read}
 

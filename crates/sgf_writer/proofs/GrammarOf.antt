@@ -1,20 +1,20 @@
 -- The grammar of a written tree: each node's text is a node of the text, in the order of the numbers.
-use Rattle.std.proofs.Common.{◌≡◌, ◌≢◌, ◌⊎◌, ℕ, ◌+◌, ◌-◌, ◌<◌, ◌≤◌, suc, ltb, Bool, true, false, cond, List, [], ◌∷◌, ◌++◌, length, map, Option, Some, None, refl, sym, ◌∙◌, ap, subst, arith, inl, inr, append_assoc, length-append}
+use Rattle.std.proofs.Common.{◌≡◌, ℕ, ◌+◌, ◌-◌, ◌<◌, ◌≤◌, suc, ltb, true, false, List, [], ◌∷◌, ◌++◌, length, map, Option, Some, None, refl, sym, ◌∙◌, ap, subst, arith, append_assoc, length-append}
 use Rattle.std.proofs.lemmas.Bool.{le-ltb, lt-ltb}
 use Rattle.std.proofs.lemmas.List.{append-nil}
 use Rattle.std.proofs.lemmas.List.Elements.{All-nil}
-use Rattle.sgf_reader.specs.Grammar.{AreNodes, AreProperties, AreTrees, IsWhite, SpelledNode}
+use Rattle.sgf_reader.specs.Grammar.{AreNodes, AreTrees, IsWhite, SpelledNode}
 use Rattle.sgf_reader.specs.Grammar.{IsTree as SpellsTree}
 use Rattle.game_tree.specs.Built.{IsGrown}
 use Rattle.game_tree.specs.Stored.{one_if, siblings_from}
-use Rattle.game_tree.specs.Tree.{IsTree, Tree, branchings_to, children_of, first_child_of, first_of, next_sibling_of, node_at, node_count, parent_of}
+use Rattle.game_tree.specs.Tree.{IsTree, Tree, branchings_to, children_of, first_child_of, first_of, next_sibling_of, node_count, parent_of}
 use Rattle.game_tree.proofs.Subtrees.{IsSubtree, IsSubtree-at, IsSubtree-last}
 use Rattle.game_tree.proofs.Trees.{IsGrown-tree, first_child-found, parent-in_range, siblings_from-first}
 use Rattle.sgf_writer.specs.Written.{AreWritten, IsWrittenFrom, children, leaf, node_text, only_child}
 use Rattle.sgf_writer.proofs.Entries.{node_entries}
 use Rattle.sgf_writer.proofs.InBrackets.{children-first}
 use Rattle.sgf_writer.proofs.NodeSpelling.{properties_text, spell-node}
-use Rattle.sgf_writer.proofs.Spelling.{Entry, HasProperties, entry_of}
+use Rattle.sgf_writer.proofs.Spelling.{entry_of}
 use Rattle.sgf_writer.proofs.Standing.{Stands, Stands-as, Stands-at, Stands-back, Stands-front}
 use Rattle.sgf_writer.proofs.SubtreeEnds.{Starts, branchings-step, branchings_above, branchings_above-child, branchings_above-lt, leaf-end, same_end, siblings-head, siblings-none, starts-next}
 

@@ -1,5 +1,5 @@
 -- How the text of a whole node is spelled.
-use Rattle.std.proofs.Common.{◌≡◌, ◌≢◌, ◌⊎◌, ℕ, ◌+◌, ◌-◌, ◌^◌, ◌<◌, ◌≤◌, ltb, eqb, Bool, true, false, cond, List, [], ◌∷◌, ◌++◌, length, map, Option, Some, None, All, codes, refl, sym, ◌∙◌, ap, subst, arith, inl, inr, append_assoc, length-append}
+use Rattle.std.proofs.Common.{◌≡◌, ◌≢◌, ◌⊎◌, ℕ, ◌<◌, ◌≤◌, Bool, true, false, cond, List, [], ◌∷◌, ◌++◌, Option, Some, None, All, codes, sym, ◌∙◌, ap, subst, arith, inl, inr, append_assoc}
 use Rattle.std.proofs.lemmas.Bool.{cases_Bool, cases_eq, eq-eqb, ne_eqb}
 use Rattle.std.proofs.lemmas.Fmt.{decimal_is_IsNumeral}
 use Rattle.std.proofs.lemmas.List.Elements.{All-append, All-cons, All-nil, All-weaker}
@@ -11,15 +11,15 @@ use Rattle.kb_geometry.specs.declared.shape.Point.{Point}
 use Rattle.kb_geometry.specs.declared.shape.Rect.{Rect}
 use Rattle.kb_geometry.specs.declared.shape.Shape.{Shape}
 use Rattle.kb_geometry.specs.Board.{IsOnBoard, cols_of, rows_of}
-use Rattle.sgf_reader.specs.Grammar.{IsIdentifier, IsValue}
+use Rattle.sgf_reader.specs.Grammar.{IsValue}
 use Rattle.game_tree.specs.declared.node.Move.{Move}
 use Rattle.game_tree.specs.declared.node.Setup.{Setup}
 use Rattle.game_tree.specs.Information.{Information}
-use Rattle.game_tree.specs.Tree.{IsNodeOnBoard, IsRectOnBoard, IsTree, Tree, node_at, node_count}
+use Rattle.game_tree.specs.Tree.{IsRectOnBoard, IsTree, Tree, node_at, node_count}
 use Rattle.sgf_writer.specs.Letters.{HasLetter, HasLetters}
-use Rattle.sgf_writer.specs.Written.{escaped, move_text, node_text, root_text, setups_text, size_text, text_property}
-use Rattle.sgf_writer.proofs.Entries.{IsPlain, Spell-as, information_entries, move_entries, node_entries, plain-cons, root_entries, setup_entries, spell-move, spell-property, spell-setups, spell-text, two_letters, value-plain, plain-nil}
-use Rattle.sgf_writer.proofs.Spelling.{Entry, Spell, Spell-none}
+use Rattle.sgf_writer.specs.Written.{move_text, root_text, setups_text, size_text, text_property}
+use Rattle.sgf_writer.proofs.Entries.{Spell-as, information_entries, move_entries, node_entries, plain-cons, root_entries, spell-move, spell-property, spell-setups, spell-text, two_letters, value-plain, plain-nil}
+use Rattle.sgf_writer.proofs.Spelling.{Entry, Spell}
 
 -- ---- the size
 

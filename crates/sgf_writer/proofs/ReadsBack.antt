@@ -1,41 +1,37 @@
 -- A written text is read and built as its tree.
-use Rattle.std.proofs.Common.{◌≡◌, ◌≢◌, ◌⊎◌, ℕ, ◌+◌, ◌-◌, ◌<◌, ◌≤◌, suc, Bool, true, false, List, [], ◌∷◌, ◌++◌, length, get_or, map, Option, Some, None, All, IsTrue, codes, refl, sym, ◌∙◌, ap, subst, arith, inl, inr}
+use Rattle.std.proofs.Common.{◌≡◌, ℕ, ◌+◌, ◌<◌, ◌≤◌, suc, List, [], ◌∷◌, ◌++◌, length, get_or, map, Option, Some, None, All, codes, refl, sym, ◌∙◌, ap, subst, arith, inl, inr}
 use Rattle.std.proofs.lemmas.Bool.{cases_lt}
 use Rattle.std.proofs.lemmas.List.{append-nil}
 use Rattle.std.proofs.lemmas.List.Elements.{All-cons, All-contains, All-nil, All-weaker}
-use Rattle.std.proofs.lemmas.Option.{same_Some}
 use Rattle.std.specs.List.{AllZip}
-use Rattle.std.specs.Prelude.{Contains, IfSome, count_by, find, is_some}
+use Rattle.std.specs.Prelude.{Contains, IfSome}
 use Rattle.kb_geometry.specs.declared.shape.Point.{Point}
-use Rattle.kb_geometry.specs.declared.shape.Rect.{Rect}
 use Rattle.kb_geometry.specs.declared.shape.Shape.{Shape}
 use Rattle.kb_geometry.specs.Board.{IsOnBoard, cols_of, rows_of}
-use Rattle.sgf_reader.specs.declared.collection.Collection.{Collection}
 use Rattle.sgf_reader.specs.declared.collection.Pair.{Pair}
 use Rattle.sgf_reader.specs.declared.collection.RawGame.{RawGame}
 use Rattle.sgf_reader.specs.declared.collection.RawNode.{RawNode}
 use Rattle.sgf_reader.specs.declared.fault.FaultKind.{FaultKind}
-use Rattle.sgf_reader.specs.declared.limits.TheConstants.{MAX_FILE, MAX_GAMES, MAX_NODES, MAX_OPEN}
+use Rattle.sgf_reader.specs.declared.limits.TheConstants.{MAX_FILE}
 use Rattle.sgf_reader.specs.Faults.{AreWithinLimits}
-use Rattle.sgf_reader.specs.Grammar.{HasGames, SpelledGame, SpelledNode, Spells, collection_of, raw_game, raw_node}
+use Rattle.sgf_reader.specs.Grammar.{HasGames, SpelledGame, SpelledNode, Spells, raw_node}
 use Rattle.sgf_reader.proofs.WithinLimits.{within_limits-no_fault}
 use Rattle.game_tree.specs.declared.node.Move.{Move}
 use Rattle.game_tree.specs.declared.node.Setup.{Setup}
-use Rattle.game_tree.specs.Property.{IsTrimmed, bytes_of, first_pair, mover_of, setter_of}
-use Rattle.game_tree.specs.Tree.{IsAbove, IsNodeOnBoard, IsRectOnBoard, IsTree, Node, Tree, higher, itself, node_at, node_count, parent_of}
-use Rattle.game_tree.specs.Trees.{AreSetups, IsInformation, IsNodeOf, IsPlayedBy, IsTreeOf}
-use Rattle.game_tree.specs.Value.{IsMoveValue, IsSetupValue}
+use Rattle.game_tree.specs.Property.{IsTrimmed, bytes_of, first_pair}
+use Rattle.game_tree.specs.Tree.{IsNodeOnBoard, IsRectOnBoard, IsTree, Node, Tree, higher, node_at, node_count}
+use Rattle.game_tree.specs.Trees.{AreSetups, IsNodeOf, IsPlayedBy, IsTreeOf}
 use Rattle.game_tree.specs.ValueFaults.{HasValueFault, IsBoard, bad_move, bad_setup, bad_size, not_go, two_moves}
 use Rattle.game_tree.proofs.Subtrees.{IsSubtree}
 use Rattle.game_tree.proofs.Trimming.{IsTrimmed-only}
 use Rattle.sgf_writer.specs.ReadBack.{IsReadBack}
 use Rattle.sgf_writer.specs.Written.{AreWritten, IsWritten, IsWrittenFrom}
-use Rattle.sgf_writer.proofs.Entries.{move_entries, node_entries, root_entries, setup_entries}
+use Rattle.sgf_writer.proofs.Entries.{move_entries, root_entries, setup_entries}
 use Rattle.sgf_writer.proofs.EntriesRead.{IsGoodMove, IsGoodSetup, moves-good, no_second, node-does, played-shown, setups-good, setups-shown}
-use Rattle.sgf_writer.proofs.GrammarOf.{AreSpelled, IsSpelled, ReadsFrom, bracketed, grown, reads-from}
-use Rattle.sgf_writer.proofs.RootRead.{black-read, board-only, board-read, date-read, event-read, game-read, place-read, result-read, size-found, white-read}
-use Rattle.sgf_writer.proofs.Spelling.{Entry, entry_of}
-use Rattle.sgf_writer.proofs.Standing.{Stands, Stands-back, Stands-front, Stands-whole}
+use Rattle.sgf_writer.proofs.GrammarOf.{AreSpelled, IsSpelled, bracketed, grown, reads-from}
+use Rattle.sgf_writer.proofs.RootRead.{black-read, board-only, board-read, date-read, event-read, game-read, place-read, result-read, white-read}
+use Rattle.sgf_writer.proofs.Spelling.{entry_of}
+use Rattle.sgf_writer.proofs.Standing.{Stands-back, Stands-front, Stands-whole}
 use Rattle.sgf_writer.proofs.SubtreeEnds.{branchings_above, branchings_above-root}
 use Rattle.sgf_writer.proofs.ValuesRead.{trimmed-itself}
 

@@ -1,7 +1,5 @@
 -- The board and the information that a written root tells.
-use Rattle.std.proofs.Common.{◌≡◌, ◌≢◌, ◌⊎◌, ℕ, ◌+◌, ◌<◌, ◌≤◌, Bool, true, false, List, [], ◌∷◌, ◌++◌, length, map, Option, Some, None, All, codes, refl, sym, ◌∙◌, ap, subst, arith, inl, inr}
-use Rattle.std.proofs.lemmas.List.Elements.{All-cons, All-nil}
-use Rattle.std.proofs.lemmas.Option.{same_Some}
+use Rattle.std.proofs.Common.{◌≡◌, ℕ, false, List, [], ◌++◌, map, Option, Some, None, codes, refl, sym, ◌∙◌, ap, subst, inl, inr}
 use Rattle.std.specs.Prelude.{filter, find}
 use Rattle.std.specs.Str.{bytes_eq}
 use Rattle.kb_geometry.specs.declared.shape.Shape.{Shape}
@@ -13,7 +11,7 @@ use Rattle.kb_geometry.specs.Board.{cols_of, rows_of}
 use Rattle.sgf_reader.specs.declared.collection.Pair.{Pair}
 use Rattle.game_tree.specs.declared.node.Move.{Move}
 use Rattle.game_tree.specs.declared.node.Setup.{Setup}
-use Rattle.game_tree.specs.Information.{HasNoControls, HasSimpleTexts, Information}
+use Rattle.game_tree.specs.Information.{HasNoControls, Information}
 use Rattle.game_tree.specs.Property.{IsTrimmed, bytes_of, is_of, is_upper}
 use Rattle.game_tree.specs.SimpleText.{IsSimpleText}
 use Rattle.game_tree.specs.Trees.{IsTextOf}
@@ -21,7 +19,7 @@ use Rattle.game_tree.specs.Value.{IsSize}
 use Rattle.game_tree.specs.ValueFaults.{IsBoardOf}
 use Rattle.game_tree.proofs.Trimming.{IsTrimmed-only}
 use Rattle.sgf_writer.specs.Written.{escaped, mover_name, setter_name, size_text}
-use Rattle.sgf_writer.proofs.Entries.{information_entries, move_entries, root_entries, setup_entries, text_entries}
+use Rattle.sgf_writer.proofs.Entries.{move_entries, root_entries, setup_entries, text_entries}
 use Rattle.sgf_writer.proofs.EntriesRead.{IsShownText, absent, shown, find-shown, find-skip, find-tail, find-text, is_named}
 use Rattle.sgf_writer.proofs.Spelling.{Entry, entry_of}
 use Rattle.sgf_writer.proofs.ValuesRead.{dark-size, size-only, size-read, size-some, text-read, trimmed-itself}

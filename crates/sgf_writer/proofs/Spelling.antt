@@ -1,6 +1,6 @@
 -- Properties that are spelled in a text, by their identifiers and values.
-use Rattle.std.proofs.Common.{◌≡◌, ℕ, ◌+◌, ◌-◌, ◌≤◌, List, [], ◌∷◌, ◌++◌, length, map, refl, sym, ◌∙◌, ap, subst, arith, append_assoc, length-append}
-use Rattle.std.proofs.lemmas.List.{append-nil, length-map, map-append}
+use Rattle.std.proofs.Common.{◌≡◌, ℕ, ◌+◌, ◌≤◌, List, [], ◌∷◌, ◌++◌, length, map, refl, sym, ◌∙◌, ap, subst, arith, append_assoc, length-append}
+use Rattle.std.proofs.lemmas.List.{map-append}
 use Rattle.std.proofs.lemmas.List.Elements.{All-nil}
 use Rattle.sgf_reader.specs.declared.collection.Pair.{Pair}
 use Rattle.sgf_reader.specs.declared.collection.Span.{Span}
@@ -68,13 +68,15 @@ values-more whole name at k value rest entries stands is_value e others =
     let from : at + 1 ≡ at + length {A = ℕ} [] + 1 = omega arith in
     let inside : Stands whole (at + length {A = ℕ} [] + 1) value =
     Stands-at (at + 1) _ from (Stands-front value (93 ∷ rest) (Stands-back (91 ∷ []) (value ++ 93 ∷ rest) stands)) in
-    let shown : bytes_of whole (span_of (at + length {A = ℕ} [] + 1) value) ≡ value = Stands-bytes _ _ value inside refl in
-    (record {
-      pairs = record { name = name; value = span_of (at + length {A = ℕ} [] + 1) value } ∷ others.pairs;
-      spelled = AreValues.one_more [] value rest no_white is_value (subst (λ (n : ℕ). AreValues name n rest others.pairs) next others.spelled);
-      shown = let one : record { name = bytes_of whole name; value = bytes_of whole (span_of (at + length {A = ℕ} [] + 1) value) } ≡ record { name = bytes_of whole name; value = value } = ap (λ (v : List ℕ). let entry : Entry = record { name = bytes_of whole name; value = v } in entry) shown in
-          ap (λ (x : Entry). x ∷ map (entry_of whole) others.pairs) one ∙ ap (λ (xs : List Entry). record { name = bytes_of whole name; value = value } ∷ xs) others.shown;
-    }, omega arith)
+    let shown : bytes_of whole (span_of (at + length {A = ℕ} [] + 1) value) ≡ value = Stands-bytes _ _ value inside refl in (
+      record {
+        pairs = record { name = name; value = span_of (at + length {A = ℕ} [] + 1) value } ∷ others.pairs;
+        spelled = AreValues.one_more [] value rest no_white is_value (subst (λ (n : ℕ). AreValues name n rest others.pairs) next others.spelled);
+        shown = let one : record { name = bytes_of whole name; value = bytes_of whole (span_of (at + length {A = ℕ} [] + 1) value) } ≡ record { name = bytes_of whole name; value = value } = ap (λ (v : List ℕ). let entry : Entry = record { name = bytes_of whole name; value = v } in entry) shown in
+            ap (λ (x : Entry). x ∷ map (entry_of whole) others.pairs) one ∙ ap (λ (xs : List Entry). record { name = bytes_of whole name; value = value } ∷ xs) others.shown;
+      },
+      omega arith,
+    )
 
 -- one value more
 run-first : (whole : List ℕ) (name : Span) (at k : ℕ) (value text : List ℕ) (entries : List Entry) → Stands whole at (91 ∷ (value ++ 93 ∷ text)) → IsValue value → k ≡ at + length value + 2 → IsRun whole name k text entries → (run : IsRun whole name at (91 ∷ (value ++ 93 ∷ text)) (record { name = bytes_of whole name; value = value } ∷ entries)) × (1 ≤ length run.has_values.pairs)
@@ -82,17 +84,19 @@ run-first whole name at k value text entries stands is_value e run =
     let whole_text : 91 ∷ (value ++ 93 ∷ text) ≡ (91 ∷ (value ++ 93 ∷ run.values)) ++ run.rest =
     ap (λ t. 91 ∷ (value ++ 93 ∷ t)) run.split ∙ ap (λ t. 91 ∷ t) (sym (append_assoc value (93 ∷ run.values) run.rest)) in
     let at_rest : k + length run.values ≡ at + length (91 ∷ (value ++ 93 ∷ run.values)) = omega (arith, length-append value (93 ∷ run.values)) in
-    let more = values-more whole name at k value run.values run.first (Stands-front (91 ∷ (value ++ 93 ∷ run.values)) run.rest (Stands-as _ _ whole_text stands)) is_value e run.has_values in
-    (record {
-      values = 91 ∷ (value ++ 93 ∷ run.values);
-      rest = run.rest;
-      first = record { name = bytes_of whole name; value = value } ∷ run.first;
-      others = run.others;
-      split = whole_text;
-      has_values = more.0;
-      has_others = subst (λ (n : ℕ). HasProperties whole n run.rest run.others) at_rest run.has_others;
-      all = ap (λ (xs : List Entry). record { name = bytes_of whole name; value = value } ∷ xs) run.all;
-    }, more.1)
+    let more = values-more whole name at k value run.values run.first (Stands-front (91 ∷ (value ++ 93 ∷ run.values)) run.rest (Stands-as _ _ whole_text stands)) is_value e run.has_values in (
+      record {
+        values = 91 ∷ (value ++ 93 ∷ run.values);
+        rest = run.rest;
+        first = record { name = bytes_of whole name; value = value } ∷ run.first;
+        others = run.others;
+        split = whole_text;
+        has_values = more.0;
+        has_others = subst (λ (n : ℕ). HasProperties whole n run.rest run.others) at_rest run.has_others;
+        all = ap (λ (xs : List Entry). record { name = bytes_of whole name; value = value } ∷ xs) run.all;
+      },
+      more.1,
+    )
 
 pub run-value : (whole : List ℕ) (name : Span) (at k : ℕ) (value text : List ℕ) (entries : List Entry) → Stands whole at (91 ∷ (value ++ 93 ∷ text)) → IsValue value → k ≡ at + length value + 2 → IsRun whole name k text entries → IsRun whole name at (91 ∷ (value ++ 93 ∷ text)) (record { name = bytes_of whole name; value = value } ∷ entries)
 run-value whole name at k value text entries stands is_value e run = (run-first whole name at k value text entries stands is_value e run).0

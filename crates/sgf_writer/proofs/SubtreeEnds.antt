@@ -1,16 +1,15 @@
 -- Where subtrees end, and how many brackets are open at a node.
-use Rattle.std.proofs.Common.{◌≡◌, ◌≢◌, ◌⊎◌, ℕ, ◌+◌, ◌-◌, ◌<◌, ◌≤◌, suc, ltb, Bool, true, false, cond, List, [], ◌∷◌, length, Option, Some, None, refl, sym, ◌∙◌, ap, subst, arith, inl, inr}
+use Rattle.std.proofs.Common.{◌≡◌, ℕ, ◌+◌, ◌<◌, ltb, cond, List, [], ◌∷◌, length, Option, Some, None, refl, sym, ◌∙◌, ap, subst, arith, inl, inr}
 use Rattle.std.proofs.lemmas.Bool.{cases_lt}
 use Rattle.std.proofs.lemmas.List.Sums.{sum_by-cons}
-use Rattle.std.proofs.lemmas.Option.{same_Some}
 use Rattle.std.specs.Prelude.{count_by}
 use Rattle.std.specs.Option.{option_map_or}
 use Rattle.game_tree.specs.Built.{IsGrown}
 use Rattle.game_tree.specs.Stored.{one_if, siblings_from}
-use Rattle.game_tree.specs.Tree.{IsAbove, IsTree, Tree, branchings_to, children_of, first_child_of, first_of, next_sibling_of, node_count, parent_of, path_to}
+use Rattle.game_tree.specs.Tree.{Tree, branchings_to, children_of, first_child_of, first_of, next_sibling_of, node_count, parent_of, path_to}
 use Rattle.game_tree.proofs.Paths.{path_to-parent, path_to-root}
 use Rattle.game_tree.proofs.Subtrees.{IsSubtree, IsSubtree-at, IsSubtree-last, IsSubtree-next}
-use Rattle.game_tree.proofs.Trees.{IsAbove-le, IsAbove-step, cases_Option, first_child-behind, next_sibling-facts, next_sibling-found, parent-in_range, parent-lt, siblings_from-next}
+use Rattle.game_tree.proofs.Trees.{IsAbove-le, IsAbove-step, cases_Option, first_child-behind, next_sibling-found, parent-in_range, parent-lt, siblings_from-next}
 
 -- ---- ends
 

@@ -1,5 +1,5 @@
 -- Written values are read as what they were written for.
-use Rattle.std.proofs.Common.{◌≡◌, ◌≢◌, ◌⊎◌, ℕ, ◌+◌, ◌-◌, ◌<◌, ◌≤◌, suc, min, max, Bool, true, false, List, [], ◌∷◌, ◌++◌, length, get_or, Option, Some, None, All, codes, refl, sym, ◌∙◌, ap, subst, arith, inl, inr}
+use Rattle.std.proofs.Common.{◌≡◌, ◌≢◌, ℕ, ◌<◌, ◌≤◌, min, max, List, [], ◌∷◌, ◌++◌, length, Option, Some, None, All, refl, sym, ◌∙◌, ap, subst, arith, inl, inr}
 use Rattle.std.proofs.lemmas.Bool.{cases_eq}
 use Rattle.std.proofs.lemmas.Fmt.{decimal_is_IsNumeral}
 use Rattle.std.proofs.lemmas.List.{append-nil, get_or_push, length_push}
@@ -7,7 +7,6 @@ use Rattle.std.proofs.lemmas.List.Elements.{All-cons, All-head, All-nil, All-tai
 use Rattle.std.specs.Fmt.{decimal}
 use Rattle.std.specs.Option.{option_map_or}
 use Rattle.std.specs.Prelude.{IfSome}
-use Rattle.std.specs.Str.Parse.{IsNumeral, digits_value}
 use Rattle.kb_geometry.specs.declared.shape.Point.{Point}
 use Rattle.kb_geometry.specs.declared.shape.Rect.{Rect}
 use Rattle.kb_geometry.specs.declared.shape.Shape.{Shape}
@@ -16,11 +15,11 @@ use Rattle.game_tree.specs.Information.{HasNoControls}
 use Rattle.game_tree.specs.Property.{IsTrimmed}
 use Rattle.game_tree.specs.SimpleText.{IsReadAs, IsSimpleText, byte, hidden_byte, itself, nothing, white}
 use Rattle.game_tree.specs.Tree.{IsRectOnBoard}
-use Rattle.game_tree.specs.Value.{IsCoordinate, IsMoveText, IsMoveValue, IsPoint, IsSetupText, IsSetupValue, IsSideText, IsSize, columns_and_rows, letters, pass, point, rect_of, square}
+use Rattle.game_tree.specs.Value.{IsCoordinate, IsMoveValue, IsPoint, IsSetupValue, IsSideText, IsSize, columns_and_rows, letters, pass, point, rect_of, square}
 use Rattle.game_tree.proofs.Colons.{corners_at, digits-no_colon, one_point_at, size-sides, size-square}
 use Rattle.sgf_writer.specs.Written.{escaped, letter_of, point_text, rect_text, size_text}
 use Rattle.sgf_writer.proofs.Entries.{escaped-cases, letter-cases, letter-range, rect-cases}
-use Rattle.sgf_writer.proofs.NodeSpelling.{columns-le, point-letters, rect-letters, rows-le, size-cases, size-range}
+use Rattle.sgf_writer.proofs.NodeSpelling.{columns-le, point-letters, rows-le, size-cases, size-range}
 
 -- ---- white space at either end
 

@@ -1,10 +1,10 @@
 -- The text of a tree, node by node: what was written before a node, and what is still to be written from it on.
-use Rattle.std.proofs.Common.{◌≡◌, ◌≢◌, ℕ, ◌+◌, ◌<◌, ◌≤◌, suc, ltb, Bool, true, false, List, [], ◌∷◌, ◌++◌, length, Option, Some, None, refl, sym, ◌∙◌, ap, subst, arith, inl, inr, append_assoc, cond}
+use Rattle.std.proofs.Common.{◌≡◌, ℕ, ltb, Bool, true, false, List, [], ◌∷◌, ◌++◌, length, Option, Some, None, refl, sym, ◌∙◌, ap, subst, append_assoc, cond}
 use Rattle.std.proofs.lemmas.List.{append-nil}
 use Rattle.std.proofs.lemmas.Option.{same_Some}
 use Rattle.game_tree.specs.Built.{IsGrown}
 use Rattle.game_tree.specs.Stored.{siblings_from}
-use Rattle.game_tree.specs.Tree.{Tree, children_of, first_child_of, first_of, next_sibling_of, parent_of}
+use Rattle.game_tree.specs.Tree.{Tree, children_of, first_child_of, next_sibling_of, parent_of}
 use Rattle.game_tree.proofs.Trees.{first_child-found, next_sibling-facts, next_sibling-root, siblings_from-first, siblings_from-next}
 use Rattle.sgf_writer.specs.Walk.{Closes, before_sibling, at_end, last_child, Follows, before_child, behind_leaf, closing, in_brackets, opening}
 use Rattle.sgf_writer.specs.Written.{AreWritten, IsWritten, IsWrittenFrom, children, leaf, node_text, only_child}

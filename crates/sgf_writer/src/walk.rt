@@ -41,11 +41,7 @@ fn write_behind(out: &mut Vec<u8>, tree: &GameTree, n: u32) -> Result<Option<u32
 }
 
 // Appends the brackets that are closed behind a leaf, and tells the node that comes next, if there is one.
-fn write_closings(
-    out: &mut Vec<u8>,
-    tree: &GameTree,
-    leaf: u32,
-) -> Result<Option<u32>, NoMemory>
+fn write_closings(out: &mut Vec<u8>, tree: &GameTree, leaf: u32) -> Result<Option<u32>, NoMemory>
     requires tree { IsTree tree.now }
     requires in_range { leaf < node_count tree.now }
     ensures text { IfOk result (λ next. (text : List ℕ) × Closes tree.now leaf next text

@@ -1,4 +1,4 @@
-use Rattle.std.proofs.Common.{◌≡◌, ◌++◌, ◌^◌, ◌/◌, ◌%◌, ◌+◌, ◌∙◌, ◌∷◌, [], sym, subst, arith, ap}
+use Rattle.std.proofs.Common.{◌≡◌, ◌++◌, ◌/◌, ◌%◌, ◌+◌, ◌∙◌, ◌∷◌, [], sym, subst, arith, ap}
 use Rattle.std.specs.Prelude.{OnOk}
 use Rattle.std.proofs.lemmas.Fmt.{decimal_digit, decimal_step}
 use Rattle.sgf_writer.proofs.values.write_decimal.Goals as goal

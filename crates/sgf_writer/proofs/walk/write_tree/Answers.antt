@@ -1,4 +1,4 @@
-use Rattle.std.proofs.Common.{◌≡◌, ◌<◌, List, ℕ, Option, Some, None, ◌++◌, ◌∙◌, sym, subst}
+use Rattle.std.proofs.Common.{◌<◌, ℕ, Option, subst}
 use Rattle.std.specs.Prelude.{IfSome}
 use Rattle.game_tree.specs.Tree.{node_count}
 use Rattle.game_tree.proofs.Trees.{IsGrown-tree}
