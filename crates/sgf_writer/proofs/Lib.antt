@@ -5,6 +5,7 @@ mod EntriesRead
 mod GrammarOf
 mod InBrackets
 mod NodeSpelling
+mod OneText
 mod ReadsBack
 mod RootRead
 mod Spelling

@@ -4,9 +4,14 @@
 //! written text. The layer above uses that [`write`] appends it.
 #![tactic(auto)]
 
+mod laws;
 mod nodes;
 mod values;
 mod walk;
 mod writer;
 
+pub use laws::a_tree_has_one_text;
 pub use writer::write;
+
+#[cfg(test)]
+mod tests;
