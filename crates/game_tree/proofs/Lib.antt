@@ -27,5 +27,5 @@ pub mod Subtrees
 pub mod Trees
 pub mod Trimming
 pub mod Values
-pub mod WholeGames
 pub mod WholeCollections
+pub mod WholeGames

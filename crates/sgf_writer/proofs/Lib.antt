@@ -1,0 +1,15 @@
+mod Appends
+mod Closings
+mod Entries
+mod EntriesRead
+mod GrammarOf
+mod InBrackets
+mod NodeSpelling
+mod OneText
+mod ReadsBack
+mod RootRead
+mod Spelling
+mod Standing
+mod SubtreeEnds
+mod ValuesRead
+mod Walks

@@ -1,0 +1,5 @@
+use Rattle.sgf_writer.proofs.Appends.{appended_thrice}
+use Rattle.sgf_writer.proofs.nodes.write_head.Goals as goal
+
+pub returns : goal.returns
+returns c = appended_thrice _ _ _ _ c.in_ok-append.ensures c.in_ok-write_size.ensures c.in_ok-append-2.ensures

@@ -1,0 +1,5 @@
+pub mod Letters
+pub mod Parts
+pub mod ReadBack
+pub mod Walk
+pub mod Written
