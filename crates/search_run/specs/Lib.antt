@@ -5,6 +5,7 @@ pub mod Imported
 pub mod Lines
 pub mod NextLine
 pub mod NodeHits
+pub mod Outcome
 pub mod PointSet
 pub mod Reads
 pub mod Run
@@ -12,6 +13,7 @@ pub mod RunErrors
 pub mod Script
 pub mod Serial
 pub mod Session
+pub mod Simple
 pub mod Steps
 pub mod Texts
 pub mod Wins

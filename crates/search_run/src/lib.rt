@@ -8,6 +8,7 @@
 mod board;
 mod hit;
 mod import;
+mod outcome;
 mod print;
 mod read;
 mod run;
@@ -20,6 +21,7 @@ mod status;
 mod write;
 
 pub use board::a_move_has_one_outcome;
+pub use outcome::{Counts, FileOutcome, MAX_BASE_GAMES, MAX_BASE_NODES};
 pub use serial::run_serial;
 pub use status::Status;
 
