@@ -1,12 +1,11 @@
+pub mod Built
 pub mod Information
-pub mod Line
 pub mod MainLine
-pub mod Plain
-pub mod PlainParts
 pub mod Position
 pub mod Property
 pub mod Result
 pub mod SimpleText
+pub mod Stored
 pub mod Tree
 pub mod Trees
 pub mod Value

@@ -6,6 +6,8 @@ use Rattle.kb_geometry.specs.declared.stone.Cell.{Cell}
 use Rattle.kb_geometry.specs.declared.stone.Cell.TheVariants as cell
 use Rattle.kb_geometry.specs.declared.stone.Colour.{Colour}
 use Rattle.kb_geometry.specs.declared.stone.Colour.TheVariants as colour
+use Rattle.game_tree.specs.declared.property.Property.{Property}
+use Rattle.game_tree.specs.declared.property.Property.TheVariants as property
 use Rattle.sgf_reader.specs.declared.collection.Pair.{Pair}
 use Rattle.sgf_reader.specs.declared.collection.RawGame.{RawGame}
 use Rattle.sgf_reader.specs.declared.collection.RawNode.{RawNode}
@@ -31,20 +33,37 @@ is_of text name pair = bytes_eq (identifier_of text pair) name
 abbrev pub offset_of : Pair → ℕ
 offset_of pair = pair.value.from - 1
 
--- the side for which a property's value is a move: B or W
-abbrev pub mover_of : List ℕ → Pair → Option Colour
-mover_of text pair =
-    if is_of text (codes "B") pair then Some colour.Black
-    else if is_of text (codes "W") pair then Some colour.White
+-- the side for which values of the property with this identifier are moves: B or W
+abbrev pub mover_named : List ℕ → Option Colour
+mover_named name =
+    if bytes_eq name (codes "B") then Some colour.Black
+    else if bytes_eq name (codes "W") then Some colour.White
     else None
 
--- the cell that a property's value sets points to: AB, AW or AE
-abbrev pub setter_of : List ℕ → Pair → Option Cell
-setter_of text pair =
-    if is_of text (codes "AB") pair then Some cell.Black
-    else if is_of text (codes "AW") pair then Some cell.White
-    else if is_of text (codes "AE") pair then Some cell.Empty
+-- the cell to which values of the property with this identifier set points: AB, AW or AE
+abbrev pub setter_named : List ℕ → Option Cell
+setter_named name =
+    if bytes_eq name (codes "AB") then Some cell.Black
+    else if bytes_eq name (codes "AW") then Some cell.White
+    else if bytes_eq name (codes "AE") then Some cell.Empty
     else None
+
+-- what the values of the property with this identifier do at a node
+abbrev pub property_named : List ℕ → Property
+property_named name = property_by (mover_named name) (setter_named name)
+  where
+    property_by : Option Colour → Option Cell → Property
+    property_by (Some side) setter = property.Moves side
+    property_by None (Some stone) = property.Sets stone
+    property_by None None = property.Other
+
+-- the side whose move the value is, if it is one
+abbrev pub mover_of : List ℕ → Pair → Option Colour
+mover_of text pair = mover_named (identifier_of text pair)
+
+-- the cell to which the value sets points, if it is a setup
+abbrev pub setter_of : List ℕ → Pair → Option Cell
+setter_of text pair = setter_named (identifier_of text pair)
 
 -- the values of a game's root
 abbrev pub root_pairs : RawGame → List Pair

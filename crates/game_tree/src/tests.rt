@@ -1,131 +1,211 @@
-use crate::{Bytes, Move, PlainError, plain};
-use kb_geometry::{Colour, Outcome, Point};
+ghost use Rattle.std.specs.Prelude.{◌<◌};
+ghost use Rattle.game_tree.specs.Tree.{node_count};
+
+use crate::{Bytes, GameTree, Info, Move, Setup, TreeBuilder};
+use kb_geometry::{Cell, Colour, Point, Rect, Shape};
+use std::alloc::Global;
+use std::process::Abort;
 use std::test::Fail;
 
-const THREE_MOVES: &str = "(;GM[1]FF[4]SZ[5];B[cc];W[bc];B[cb])";
+// A node of a table: its parent, what it plays, and its setups.
+type Row = (Option<u32>, Option<Move>, [Option<Setup>; 2]);
 
-// Each with the number of columns, and of nodes.
-const PLAIN: [(&str, u8, u32); 7] = [
-    (THREE_MOVES, 5, 4),
-    ("(;GM[1]FF[4]SZ[1])", 1, 1),
-    ("(;GM[1]FF[4]SZ[1];W[aa])", 1, 2),
-    ("(;GM[1]FF[4]SZ[9])\n", 9, 1),
-    ("(;GM[1]FF[4]SZ[10];B[jj])", 10, 2),
-    ("(;GM[1]FF[4]SZ[19];B[ss];B[as];W[sa])", 19, 4),
-    ("(;GM[1]FF[4]SZ[19];W[jj];B[kj])\n", 19, 3),
-];
+// What the readers answer at a node.
+#[derive(Clone, Copy, Debug, PartialEq)]
+struct Seen {
+    parent: Option<u32>,
+    first_child: Option<u32>,
+    next_sibling: Option<u32>,
+    children: [Option<u32>; 3],
+    move_number: u32,
+    is_main: bool,
+    played: Option<Move>,
+    setups: [Option<Setup>; 2],
+}
 
-const NOT_PLAIN: [&str; 25] = [
-    "",
-    "(;SZ[5];B[aa])",
-    "(;GM[1]FF[4]SZ[0])",
-    "(;GM[1]FF[4]SZ[20])",
-    "(;GM[1]FF[4]SZ[01])",
-    "(;GM[1]FF[4]SZ[100])",
-    "(;GM[1]FF[4]SZ[])",
-    "(;GM[1]FF[4]SZ[9:9])",
-    "(;GM[1]FF[4]SZ[9];B[jj])",
-    "(;GM[1]FF[4]SZ[9];B[aj])",
-    "(;GM[1]FF[4]SZ[9];B[ja])",
-    "(;GM[1]FF[4]SZ[9];B[Aa])",
-    "(;GM[1]FF[4]SZ[9];B[aA])",
-    "(;GM[1]FF[4]SZ[9];B[])",
-    "(;GM[1]FF[4]SZ[9];C[aa])",
-    "(;GM[1]FF[4]SZ[9];B[aa];W[aa])",
-    "(;GM[1]FF[4]SZ[9];B[aa];W[bb];B[cc];W[bb])",
-    "(;GM[1]FF[4]SZ[9];B[aa]",
-    "(;GM[1]FF[4]SZ[9];B[a",
-    "(;GM[1]FF[4]SZ[9",
-    "(;GM[1]FF[4]",
-    "(;GM[1]FF[4]SZ[9])x",
-    "(;GM[1]FF[4]SZ[9])\n\n",
-    "(;GM[1]FF[4]SZ[9] )",
-    " (;GM[1]FF[4]SZ[9])",
-];
-
-fn move_at(colour: Colour, x: u8, y: u8) -> Option<Move> {
+fn stone(colour: Colour, x: u8, y: u8) -> Option<Move> {
     Some(Move {
         colour,
         point: Some(Point { x, y }),
     })
 }
 
-#[test]
-fn plain_texts(rt: HostRuntime) -> Result<(), Fail> {
-    for (text, side, nodes) in PLAIN {
-        let tree = plain(rt.alloc(), text.as_bytes())?;
-        assert_eq!(rt; tree.shape().cols(), side, "{text}");
-        assert_eq!(rt; tree.shape().rows(), side, "{text}");
-        assert_eq!(rt; tree.node_count(), nodes, "{text}");
+fn setup(cell: Cell, x0: u8, y0: u8, x1: u8, y1: u8) -> Option<Setup> {
+    Some(Setup {
+        cell,
+        rect: Rect { x0, y0, x1, y1 },
+    })
+}
+
+fn add_row(rt: &impl Abort, builder: &mut TreeBuilder, row: Row) -> Result<(), Fail> {
+    let (parent, played, setups) = row;
+    for item in setups {
+        if let Some(setup) = item {
+            assert!(rt; builder.can_set(setup));
+            builder.add_setup(setup)?;
+        }
     }
+    assert!(rt; builder.can_add(parent, played));
+    builder.add_node(parent, played)?;
     Ok(())
 }
 
-#[test]
-fn texts_that_are_not_plain(rt: HostRuntime) {
-    for text in NOT_PLAIN {
-        let answer = plain(rt.alloc(), text.as_bytes()).err();
-        assert_eq!(rt; answer, Some(PlainError::NotYet), "{text}");
+fn finished(rt: &impl Abort, alloc: Global, builder: TreeBuilder) -> GameTree {
+    assert!(rt; builder.can_finish());
+    builder.finish(Info::empty(alloc))
+}
+
+fn built(rt: &impl Abort, alloc: Global, side: u8, rows: &[Row]) -> Result<GameTree, Fail> {
+    let mut builder = TreeBuilder::new(
+        alloc,
+        Shape::new(side, side).expect(rt, "a side of a board"),
+    );
+    for row in rows {
+        add_row(rt, &mut builder, *row)?;
+    }
+    Ok(finished(rt, alloc, builder))
+}
+
+// The first three children.
+fn children_of(tree: &GameTree, n: u32) -> [Option<u32>; 3]
+    requires { n < node_count tree.now }
+{
+    let mut children = tree.children(n);
+    [children.next(), children.next(), children.next()]
+}
+
+fn seen_at(tree: &GameTree, n: u32) -> Seen
+    requires { n < node_count tree.now }
+{
+    let setups = tree.setups(n);
+    Seen {
+        parent: tree.parent(n),
+        first_child: tree.first_child(n),
+        next_sibling: tree.next_sibling(n),
+        children: children_of(tree, n),
+        move_number: tree.move_number(n),
+        is_main: tree.is_main(n),
+        played: tree.played(n),
+        setups: [setups.first().copied(), setups.get(1).copied()],
+    }
+}
+
+// The tree of `(;B[aa](;W[bb](;B[cc])(;B[dd]))(;W[ee];B[ff]))`.
+fn branches() -> [Row; 6] {
+    [
+        (None, stone(Colour::Black, 0, 0), [None; 2]),
+        (Some(0), stone(Colour::White, 1, 1), [None; 2]),
+        (Some(1), stone(Colour::Black, 2, 2), [None; 2]),
+        (Some(1), stone(Colour::Black, 3, 3), [None; 2]),
+        (Some(0), stone(Colour::White, 4, 4), [None; 2]),
+        (Some(4), stone(Colour::Black, 5, 5), [None; 2]),
+    ]
+}
+
+// The tree of `(;AB[aa]AW[bb:cc](;B[dd];W[](;C[x])(;AE[aa]))(;AB[ee]))`.
+fn setups() -> [Row; 6] {
+    let corner = setup(Cell::Black, 0, 0, 0, 0);
+    let block = setup(Cell::White, 1, 1, 2, 2);
+    let pass = Some(Move {
+        colour: Colour::White,
+        point: None,
+    });
+    [
+        (None, None, [corner, block]),
+        (Some(0), stone(Colour::Black, 3, 3), [None; 2]),
+        (Some(1), pass, [None; 2]),
+        (Some(2), None, [None; 2]),
+        (Some(2), None, [setup(Cell::Empty, 0, 0, 0, 0), None]),
+        (Some(0), None, [setup(Cell::Black, 4, 4, 4, 4), None]),
+    ]
+}
+
+// What is wanted of a node's place: the first child, the next sibling, the children, the move number,
+// and whether it is on the main line.
+type Place = (Option<u32>, Option<u32>, [Option<u32>; 3], u32, bool);
+
+fn wanted(row: Row, place: Place) -> Seen {
+    let (parent, played, setups) = row;
+    let (first_child, next_sibling, children, move_number, is_main) = place;
+    Seen {
+        parent,
+        first_child,
+        next_sibling,
+        children,
+        move_number,
+        is_main,
+        played,
+        setups,
+    }
+}
+
+fn expect_nodes(rt: &impl Abort, tree: &GameTree, rows: &[Row], places: &[Place]) {
+    assert_eq!(rt; rows.len(), tree.node_count() as usize);
+    for n in 0..tree.node_count() {
+        let at = n as usize;
+        let want = rows
+            .get(at)
+            .zip(places.get(at))
+            .map(|(row, place)| wanted(*row, *place));
+        assert_eq!(rt; Some(seen_at(tree, n)), want, "{n}");
     }
 }
 
 #[test]
-fn moves_of_a_line(rt: HostRuntime) -> Result<(), Fail> {
-    let tree = plain(rt.alloc(), THREE_MOVES.as_bytes())?;
-    assert_eq!(rt; tree.node_count(), 4);
-    assert_eq!(rt; tree.played(0), None);
-    assert_eq!(rt; tree.played(1), move_at(Colour::Black, 2, 2));
-    assert_eq!(rt; tree.played(2), move_at(Colour::White, 1, 2));
-    assert_eq!(rt; tree.played(3), move_at(Colour::Black, 2, 1));
+fn readers_of_branches(rt: HostRuntime) -> Result<(), Fail> {
+    let rows = branches();
+    let tree = built(&rt, rt.alloc(), 9, &rows)?;
+    let places = [
+        (Some(1), None, [Some(1), Some(4), None], 1, true),
+        (Some(2), Some(4), [Some(2), Some(3), None], 2, true),
+        (None, Some(3), [None; 3], 3, true),
+        (None, None, [None; 3], 3, false),
+        (Some(5), None, [Some(5), None, None], 2, false),
+        (None, None, [None; 3], 3, false),
+    ];
+    expect_nodes(&rt, &tree, &rows, &places);
+    expect_nodes(&rt, &tree.copy(rt.alloc())?, &rows, &places);
     Ok(())
 }
 
 #[test]
-fn nodes_of_a_line(rt: HostRuntime) -> Result<(), Fail> {
-    let tree = plain(rt.alloc(), THREE_MOVES.as_bytes())?;
-    assert_eq!(rt; tree.node_count(), 4);
-    assert_eq!(rt; tree.parent(0), None);
-    assert_eq!(rt; tree.parent(3), Some(2));
-    assert_eq!(rt; tree.first_child(0), Some(1));
-    assert_eq!(rt; tree.first_child(3), None);
-    assert_eq!(rt; tree.next_sibling(0), None);
-    assert_eq!(rt; tree.next_sibling(2), None);
-    assert_eq!(rt; tree.setups(2).len(), 0);
-    assert_eq!(rt; tree.move_number(0), 0);
-    assert_eq!(rt; tree.move_number(3), 3);
-    assert!(rt; tree.is_main(0));
-    assert!(rt; tree.is_main(3));
-    Ok(())
-}
-
-#[test]
-fn children_of_a_line(rt: HostRuntime) -> Result<(), Fail> {
-    let tree = plain(rt.alloc(), THREE_MOVES.as_bytes())?;
-    assert_eq!(rt; tree.node_count(), 4);
-    let mut children = tree.children(0);
-    assert_eq!(rt; children.next(), Some(1));
-    assert_eq!(rt; children.next(), None);
-    assert_eq!(rt; tree.children(3).count(), 0);
-    Ok(())
-}
-
-#[test]
-fn a_copy_is_equal(rt: HostRuntime) -> Result<(), Fail> {
-    let tree = plain(rt.alloc(), THREE_MOVES.as_bytes())?;
+fn readers_of_setups(rt: HostRuntime) -> Result<(), Fail> {
+    let rows = setups();
+    let tree = built(&rt, rt.alloc(), 5, &rows)?;
+    let places = [
+        (Some(1), None, [Some(1), Some(5), None], 0, true),
+        (Some(2), Some(5), [Some(2), None, None], 1, true),
+        (Some(3), None, [Some(3), Some(4), None], 2, true),
+        (None, Some(4), [None; 3], 2, true),
+        (None, None, [None; 3], 2, false),
+        (None, None, [None; 3], 0, false),
+    ];
+    expect_nodes(&rt, &tree, &rows, &places);
     let copied = tree.copy(rt.alloc())?;
+    expect_nodes(&rt, &copied, &rows, &places);
     assert_eq!(rt; copied.shape().cols(), 5);
-    assert_eq!(rt; copied.node_count(), 4);
-    assert_eq!(rt; copied.played(2), move_at(Colour::White, 1, 2));
-    assert_eq!(rt; copied.played(3), move_at(Colour::Black, 2, 1));
+    assert_eq!(rt; copied.info().result().len(), 0);
     Ok(())
 }
 
 #[test]
-fn nothing_is_told_of_a_plain_text(rt: HostRuntime) -> Result<(), Fail> {
-    let tree = plain(rt.alloc(), THREE_MOVES.as_bytes())?;
-    let info = tree.info();
-    assert_eq!(rt; info.result().len(), 0);
-    assert_eq!(rt; info.outcome(), Outcome::Other);
+fn one_line_of_65536_nodes(rt: HostRuntime) -> Result<(), Fail> {
+    let mut builder = TreeBuilder::new(
+        rt.alloc(),
+        Shape::new(19, 19).expect(&rt, "a side of a board"),
+    );
+    add_row(&rt, &mut builder, (None, None, [None; 2]))?;
+    for n in 0..65535 {
+        add_row(
+            &rt,
+            &mut builder,
+            (Some(n), stone(Colour::Black, 3, 3), [None; 2]),
+        )?;
+    }
+    let tree = finished(&rt, rt.alloc(), builder);
+    assert_eq!(rt; tree.node_count(), 65536);
+    assert_eq!(rt; tree.move_number(65535), 65535);
+    assert!(rt; tree.is_main(65535));
     Ok(())
 }
 

@@ -1,6 +1,7 @@
 // A game tree.
-ghost use Rattle.std.specs.Prelude.{◌≡◌, ◌<◌, ◌≤◌, ◌↔◌, IsTrue, IfOk, IfSome, All};
+ghost use Rattle.std.specs.Prelude.{◌≡◌, ℕ, ◌<◌, ◌≤◌, ◌↔◌, IsTrue, IfOk, IfSome, All};
 
+use crate::stored::{TreeNode, setups_start};
 use crate::{Children, Info, Move, Setup};
 use kb_geometry::{NoMemory, Shape};
 use std::alloc::Global;
@@ -10,24 +11,26 @@ use std::marker::Model;
 ///
 /// Nodes are numbered from 0, the root, in order of the text. Each node has setups and at most one
 /// move. Contracts see it as a shape, an information and a list of nodes.
-// It holds a line: the root does nothing, and node n plays the move n - 1. A reader whose answer needs
-// no field still borrows `moves`, since the check learns there that the tree is a line.
+// The setups of all nodes stand in one list. The nodes below `main_line` are those of the main line: a
+// first child always has the number behind its parent's.
 #[derive(Debug, Drop)]
 pub struct GameTree {
     shape: Shape,
     info: Info,
-    moves: Vec<Move>,
+    nodes: Vec<TreeNode>,
+    setups: Vec<Setup>,
+    main_line: u32,
 }
 
 impl Model for GameTree {
     ghost use Rattle.game_tree.specs.Tree.{Tree};
-    ghost use Rattle.game_tree.specs.Line.{line_of, FitsTree};
+    ghost use Rattle.game_tree.specs.Stored.{shown_tree, IsStored};
 
     ghost Value = { Tree };
 
-    ghost view = { λ t. line_of t.shape t.info t.moves.items };
+    ghost view = { λ t. shown_tree t.shape t.info t.nodes.items t.setups.items };
 
-    ghost invariant = { λ t. FitsTree t.shape t.info t.moves.items };
+    ghost invariant = { λ t. IsStored t.shape t.info t.nodes.items t.setups.items t.main_line };
 }
 
 impl GameTree {
@@ -36,16 +39,28 @@ impl GameTree {
     ghost use Rattle.kb_geometry.specs.Board.{IsOnBoard};
     ghost use Rattle.game_tree.specs.declared.node.Setup.{Setup};
     ghost use Rattle.game_tree.specs.declared.node.Move.{Move};
-    ghost use Rattle.game_tree.specs.Line.{line_of, FitsTree, IsLine};
     ghost use Rattle.game_tree.specs.MainLine.{IsOnMainLine};
+    ghost use Rattle.game_tree.specs.Stored.{shown_tree, IsStored};
     ghost use Rattle.game_tree.specs.Tree.{Tree, IsTree, IsRectOnBoard, node_count, node_at, parent_of, children_of, first_child_of, next_sibling_of, move_number_of};
 
-    // The line of these moves.
-    pub(crate) fn line(shape: Shape, info: Info, moves: Vec<Move>) -> Self
-        requires { FitsTree shape info moves.items }
-        ensures { result ≡ line_of shape info moves.items }
+    // The tree that is stored so.
+    pub(crate) fn stored(
+        shape: Shape,
+        info: Info,
+        nodes: Vec<TreeNode>,
+        setups: Vec<Setup>,
+        main_line: u32,
+    ) -> Self
+        requires { IsStored shape info nodes.items setups.items main_line }
+        ensures { result ≡ shown_tree shape info nodes.items setups.items }
     {
-        GameTree { shape, info, moves }
+        GameTree {
+            shape,
+            info,
+            nodes,
+            setups,
+            main_line,
+        }
     }
 
     /// The board.
@@ -53,6 +68,7 @@ impl GameTree {
         ensures value { result ≡ self.now.shape }
         ensures tree { IsTree self.now }
     {
+        let _nodes = &self.nodes;
         self.shape
     }
 
@@ -63,15 +79,14 @@ impl GameTree {
         &self.info
     }
 
-    /// How many nodes there are, 1 to 65,536. The tree is one line.
+    /// How many nodes there are, 1 to 65,536.
     pub fn node_count(&self) -> u32
         ensures value { result ≡ node_count self.now }
         ensures some { 1 ≤ result }
         ensures most { result ≤ 65536 }
         ensures tree { IsTree self.now }
-        ensures line { IsLine self.now }
     {
-        self.moves.len() as u32 + 1
+        self.nodes.len() as u32
     }
 
     /// The parent of a node. The root has none.
@@ -80,9 +95,11 @@ impl GameTree {
         ensures value { result ≡ parent_of self.now n }
         ensures before { IfSome result (λ m. m < n) }
     {
-        // Each node of a line is the child of the node before it.
-        let _moves = &self.moves;
-        n.checked_sub(1)
+        if n == 0 {
+            None
+        } else {
+            Some(u32::from(self.nodes[n as usize].parent))
+        }
     }
 
     /// The first child of a node.
@@ -92,7 +109,10 @@ impl GameTree {
         ensures in_range { IfSome result (λ c. (n < c) × (c < node_count self.now)) }
         ensures child { IfSome result (λ c. parent_of self.now c ≡ Some n) }
     {
-        if (n as usize) < self.moves.len() {
+        // The first child stands behind its parent.
+        let nodes = self.nodes.as_slice();
+        let next = n as usize + 1;
+        if next < nodes.len() && u32::from(nodes[next].parent) == n {
             Some(n + 1)
         } else {
             None
@@ -106,9 +126,12 @@ impl GameTree {
         ensures in_range { IfSome result (λ s. (n < s) × (s < node_count self.now)) }
         ensures sibling { IfSome result (λ s. parent_of self.now s ≡ parent_of self.now n) }
     {
-        // No node of a line has a sibling.
-        let _moves = &self.moves;
-        None
+        let next = self.nodes[n as usize].next_sibling;
+        if next == 0 {
+            None
+        } else {
+            Some(u32::from(next))
+        }
     }
 
     /// What a node sets up, in order.
@@ -117,9 +140,10 @@ impl GameTree {
         ensures value { result.now ≡ (node_at self.now n).setups }
         ensures on_board { All (λ (s : Setup). IsRectOnBoard self.now.shape s.rect) result.now }
     {
-        // No node of a line sets anything up.
-        let _moves = &self.moves;
-        &[]
+        let nodes = self.nodes.as_slice();
+        let start = setups_start(nodes, n as usize);
+        let end = nodes[n as usize].setups_end as usize;
+        &self.setups[start..end]
     }
 
     /// The move that a node plays, if it plays one.
@@ -129,12 +153,7 @@ impl GameTree {
         ensures on_board { IfSome result (λ (m : Move).
             IfSome m.point (λ (p : Point). IsOnBoard self.now.shape p)) }
     {
-        let moves = self.moves.as_slice();
-        if n == 0 {
-            None
-        } else {
-            Some(moves[n as usize - 1])
-        }
+        self.nodes[n as usize].played
     }
 
     /// The number of moves and passes on the path from the root to a node, itself among them.
@@ -142,9 +161,8 @@ impl GameTree {
         requires { n < node_count self.now }
         ensures { result ≡ move_number_of self.now n }
     {
-        // Each node of a line but the root plays a move.
-        let _moves = &self.moves;
-        n
+        let node = self.nodes[n as usize];
+        u32::from(node.moves_above) + u32::from(node.played.is_some())
     }
 
     /// Whether a node lies on the main line: the root, and from there always the first child.
@@ -152,21 +170,18 @@ impl GameTree {
         requires { n < node_count self.now }
         ensures { IsTrue result ↔ IsOnMainLine self.now n }
     {
-        // Each node of a line lies on the main line.
-        let _moves = &self.moves;
-        true
+        n < self.main_line
     }
 
     /// The children of a node, in order of the text.
-    pub fn children(&self, n: u32) -> Children
+    pub fn children(&self, n: u32) -> Children<'_>
         requires { n < node_count self.now }
         ensures value { result ≡ children_of self.now n }
         ensures in_range { All (λ c. (n < c) × (c < node_count self.now)) result }
         ensures each { All (λ c. parent_of self.now c ≡ Some n) result }
     {
-        // No node of a line has a second child.
-        let _moves = &self.moves;
-        Children::of(self.first_child(n))
+        let _nodes = &self.nodes;
+        Children::of(self, self.first_child(n))
     }
 
     /// An equal tree. The only error is `NoMemory`.
@@ -174,11 +189,14 @@ impl GameTree {
         ensures { IfOk result (λ copied. copied ≡ self.now) }
     {
         let info = self.info.copy(alloc)?;
-        let moves = self.moves.as_slice().to_vec(alloc)?;
+        let nodes = self.nodes.as_slice().to_vec(alloc)?;
+        let setups = self.setups.as_slice().to_vec(alloc)?;
         Ok(GameTree {
             shape: self.shape,
             info,
-            moves,
+            nodes,
+            setups,
+            main_line: self.main_line,
         })
     }
 }

@@ -1,5 +1,5 @@
 -- The faults of a text's syntax, and the first of them.
-use Rattle.std.specs.Prelude.{◌≡◌, ◌⊎◌, ℕ, ◌+◌, ◌<◌, ◌≤◌, List, [], ◌∷◌, ◌++◌, length, take, Some, Contains}
+use Rattle.std.specs.Prelude.{◌≡◌, ◌⊎◌, ℕ, ◌+◌, ◌<◌, ◌≤◌, List, ◌∷◌, ◌++◌, length, take, Some, Contains}
 use Rattle.sgf_reader.specs.declared.collection.Collection.{Collection}
 use Rattle.sgf_reader.specs.declared.fault.FaultKind.{FaultKind}
 use Rattle.sgf_reader.specs.declared.fault.FaultKind.TheVariants as kind
@@ -76,3 +76,9 @@ pub record HasRead (text : List ℕ) (games : List SpelledGame) : Type 0 where
 -- The text has no fault, and this is the collection that it spells.
 abbrev pub IsRead : List ℕ → Collection → Type 0
 IsRead text collection = (games : List SpelledGame) × HasRead text games × (collection ≡ collection_of games)
+
+-- The games are within the limits.
+pub record AreWithinLimits (games : List SpelledGame) : Type 0 where
+  pub few : length games ≤ MAX_GAMES
+  pub nodes : (game : SpelledGame) → Contains games game → length game.nodes ≤ MAX_NODES
+  pub depths : (game : SpelledGame) → Contains games game → (node : SpelledNode) → Contains game.nodes node → node.depth ≤ MAX_OPEN

@@ -1,6 +1,6 @@
 -- For the reader's private functions: where a reader stands in a text, and how each byte leads it on. What a text spells
 -- is said by the grammar alone; that the two agree is proved.
-use Rattle.std.specs.Prelude.{ℕ, ◌+◌, zero, suc, List, [], ◌∷◌, ◌++◌, length, Option, Some, None, Bool, true, false, ◌||◌, ◌&&◌, nat_le, ◌==◌, option_and_then, if◌then◌else◌}
+use Rattle.std.specs.Prelude.{ℕ, ◌+◌, List, [], ◌∷◌, ◌++◌, length, Option, Some, None, Bool, ◌||◌, ◌&&◌, nat_le, ◌==◌, option_and_then, if◌then◌else◌}
 use Rattle.sgf_reader.specs.declared.collection.Span.{Span}
 use Rattle.sgf_reader.specs.declared.collection.Pair.{Pair}
 use Rattle.sgf_reader.specs.Grammar.{SpelledGame, SpelledNode}
@@ -154,3 +154,8 @@ scan s at (b ∷ bytes) = option_and_then (λ t. scan t (at + 1) bytes) (step s.
 -- at the start of a text
 abbrev pub at_start : Scan
 at_start = record { games = []; place = Outside }
+
+-- The place is outside trees.
+pub data IsOutside : Place → Type 0 where
+  outside : IsOutside Outside
+  before : {at : ℕ} → IsOutside (Before at)

@@ -7,6 +7,7 @@
 
 mod collection;
 mod fault;
+mod laws;
 mod limits;
 mod reader;
 
@@ -14,5 +15,6 @@ pub use collection::{
     Collection, Pair, PairList, RawGame, RawGameList, RawNode, RawNodeList, Span,
 };
 pub use fault::{FaultKind, ReadError, SgfFault};
+pub use laws::{a_text_is_read_within_the_limits, a_text_spells_one_collection};
 pub use limits::{MAX_FILE, MAX_GAMES, MAX_NODES, MAX_OPEN};
 pub use reader::read;

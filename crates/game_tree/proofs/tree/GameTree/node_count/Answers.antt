@@ -1,12 +1,16 @@
 use Rattle.std.proofs.Common.{arith}
-use Rattle.game_tree.proofs.Line.{is_line-shown, is_tree-shown, node_count-shown}
+use Rattle.game_tree.proofs.StoredTrees.{count_shown, tree_shown}
 use Rattle.game_tree.proofs.tree.GameTree.node_count.Goals as goal
 
+pub overflow_cast-result : goal.overflow_cast-result
+overflow_cast-result c =
+    let t = tree_shown _ _ _ _ _ _ c.self.view_is c.self.invariant in
+    omega (arith, c.len.ensures, c.self.inside.nodes.ok.0, count_shown _ _ _ _ _ _ c.self.view_is c.self.invariant, t.most)
+
 pub returns-clause-value : goal.returns-clause-value
-returns-clause-value c = omega (arith, node_count-shown _ _ _ _ c.self.view_is)
+returns-clause-value c = omega (arith, c.len.ensures, c.self.inside.nodes.ok.0, count_shown _ _ _ _ _ _ c.self.view_is c.self.invariant)
 
-pub returns-clause-tree : goal.returns-clause-tree
-returns-clause-tree c = is_tree-shown _ _ _ _ c.self.view_is c.self.invariant
-
-pub returns-clause-line : goal.returns-clause-line
-returns-clause-line c = is_line-shown _ _ _ _ c.self.view_is
+pub returns-clause-most : goal.returns-clause-most
+returns-clause-most c =
+    let t = tree_shown _ _ _ _ _ _ c.self.view_is c.self.invariant in
+    omega (arith, c.len.ensures, c.self.inside.nodes.ok.0, count_shown _ _ _ _ _ _ c.self.view_is c.self.invariant, t.most)

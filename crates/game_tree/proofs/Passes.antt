@@ -1,0 +1,59 @@
+-- Moves and setups of a value, by its text without white space at either end.
+use Rattle.std.proofs.Common.{◌≡◌, ◌≤◌, ◌∙◌, ◌⊎◌, ◌==◌, ℕ, List, [], ◌∷◌, length, ap, true, false, Bool, IsTrue, arith, Option, Some, None, refl, sym, subst, codes, inl, inr}
+use Rattle.std.proofs.lemmas.Bool.{eq-eqb, eqb-true}
+use Rattle.kb_geometry.specs.declared.shape.Point.{Point}
+use Rattle.kb_geometry.specs.declared.shape.Rect.{Rect}
+use Rattle.kb_geometry.specs.declared.shape.Shape.{Shape}
+use Rattle.kb_geometry.specs.Board.{cols_of, rows_of}
+use Rattle.game_tree.specs.Property.{IsTrimmed}
+use Rattle.game_tree.specs.Value.{IsMoveText, IsMoveValue, IsPoint, IsSetupText, IsSetupValue, ignored, pass, pass_tt, point}
+use Rattle.game_tree.proofs.Trimming.{IsTrimmed-only}
+
+-- which texts are a pass
+pub pass_texts : (shape : Shape) (text : List ℕ) → IsMoveText shape text None → (text ≡ []) ⊎ ((cols_of shape ≤ 19) × (rows_of shape ≤ 19) × (text ≡ codes "tt"))
+pass_texts shape _ pass = inl refl
+pass_texts shape _ (pass_tt cols rows) = inr (cols, rows, refl)
+
+pub empty_pass : (shape : Shape) (text : List ℕ) → text ≡ [] → IsMoveText shape text None
+empty_pass shape text is = subst (λ t. IsMoveText shape t None) (sym is) pass
+
+pub written_pass : (shape : Shape) (text : List ℕ) → text ≡ codes "tt" → cols_of shape ≤ 19 → rows_of shape ≤ 19 → IsMoveText shape text None
+written_pass shape text is cols rows = subst (λ t. IsMoveText shape t None) (sym is) (pass_tt cols rows)
+
+-- which text plays at a point
+pub point_text_of : (shape : Shape) (text : List ℕ) (p : Point) → IsMoveText shape text (Some p) → IsPoint shape text p
+point_text_of shape text p (point at) = at
+
+-- a value is no move where its text is none
+pub no_move : (shape : Shape) (value text : List ℕ) → IsTrimmed value text → ¬ IsMoveText shape text None → ((p : Point) → ¬ IsPoint shape text p) → (move : Option Point) → ¬ IsMoveValue shape value move
+no_move shape value text trimmed no_pass no_point None (inner, t, is) = no_pass (subst (λ t. IsMoveText shape t None) (IsTrimmed-only value inner text t trimmed) is)
+no_move shape value text trimmed no_pass no_point (Some p) (inner, t, is) = no_point p (point_text_of shape text p (subst (λ t. IsMoveText shape t (Some p)) (IsTrimmed-only value inner text t trimmed) is))
+
+pub move_at : (shape : Shape) (value text : List ℕ) (p : Point) → IsTrimmed value text → IsPoint shape text p → IsMoveValue shape value (Some p)
+move_at shape value text p trimmed at = (text, trimmed, point at)
+
+-- which text is ignored
+pub ignored_text : (shape : Shape) (text : List ℕ) → IsSetupText shape text None → text ≡ []
+ignored_text shape _ ignored = refl
+
+-- a value is no setup where its text is none
+pub no_setup : (shape : Shape) (value text : List ℕ) → IsTrimmed value text → ¬ (text ≡ []) → ((r : Rect) → ¬ IsSetupText shape text (Some r)) → (rect : Option Rect) → ¬ IsSetupValue shape value rect
+no_setup shape value text trimmed some rect None (inner, t, is) = some (ignored_text shape text (subst (λ t. IsSetupText shape t None) (IsTrimmed-only value inner text t trimmed) is))
+no_setup shape value text trimmed some rect (Some r) (inner, t, is) = rect r (subst (λ t. IsSetupText shape t (Some r)) (IsTrimmed-only value inner text t trimmed) is)
+
+pub nothing_set : (shape : Shape) (value text : List ℕ) → IsTrimmed value text → text ≡ [] → IsSetupValue shape value None
+nothing_set shape value text trimmed is = (text, trimmed, subst (λ t. IsSetupText shape t None) (sym is) ignored)
+
+pub empty_is : (text : List ℕ) → true ≡ (length text == 0) → text ≡ []
+empty_is [] e = refl
+empty_is (b ∷ text) e = absurd (omega (arith, eqb-true (length (b ∷ text)) 0 (sym e)))
+
+pub not_empty : (text : List ℕ) → false ≡ (length text == 0) → ¬ (text ≡ [])
+not_empty text e is = let there : (length text == 0) ≡ true = eq-eqb (length text) 0 (ap length is) in cc
+
+-- `tt` is a pass exactly on boards where it is one
+pub written_pass_on : (shape : Shape) (text : List ℕ) (small : Bool) → text ≡ codes "tt" → (IsTrue small → (cols_of shape ≤ 19) × (rows_of shape ≤ 19)) → ((cols_of shape ≤ 19) × (rows_of shape ≤ 19) → IsTrue small) → (IsTrue small → IsMoveText shape text None) × (IsMoveText shape text None → IsTrue small)
+written_pass_on shape text small is to from = (λ t. written_pass shape text is (to t).0 (to t).1, λ m. elim (pass_texts shape text m) [ inl none ↦ absurd (different (sym is ∙ none)) | inr (cols, rows, _) ↦ from (cols, rows) ])
+  where
+    different : ¬ (codes "tt" ≡ [])
+    different e = let l : length (codes "tt") ≡ 0 = ap length e in omega (arith, l)

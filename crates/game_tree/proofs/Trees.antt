@@ -1,0 +1,235 @@
+-- The order of a tree's nodes: ancestors, children and siblings by their numbers.
+use Prim.Native.Nat.{zero}
+use Rattle.std.proofs.Common.{◌≡◌, ◌≢◌, ℕ, ◌+◌, ◌-◌, ◌<◌, ◌≤◌, ◌↔◌, ◌⊎◌, suc, eqb, ltb, Bool, true, false, cond, List, [], ◌∷◌, length, get_or, Option, Some, None, All, refl, sym, ◌∙◌, ap, subst, arith, inl, inr}
+use Rattle.std.proofs.lemmas.Bool.{cases_eq, cases_lt, cases_Bool, eq-eqb, eqb-true, lt-ltb, ltb-true, ltb-false, and_from, and_parts, false_from_ne_true, both_ways}
+use Rattle.std.proofs.lemmas.List.{get_or_past}
+use Rattle.std.proofs.lemmas.List.Elements.{filter_passes, All-filter, All-weaker, All-from_get_or}
+use Rattle.std.proofs.lemmas.Option.{same_Some}
+use Rattle.std.specs.Prelude.{filter, option_and_then, ◌&&◌}
+use Rattle.std.specs.List.{range_with_len}
+use Rattle.std.specs.Option.{option_map_or}
+use Rattle.game_tree.specs.Built.{IsGrown}
+use Rattle.game_tree.specs.Tree.{Tree, Node, IsTree, IsAbove, itself, higher, node_count, node_at, parent_of, is_child_of, children_of, first_of, first_child_of, next_sibling_of}
+use Rattle.game_tree.specs.Stored.{siblings_from}
+use Rattle.game_tree.proofs.Ranges.{first_of-is, first_of-found, first_of-missing, filter_none, filter-filter, IsAscending-range, IsAscending, filter-later, first_and_later, filter-twice_later}
+
+-- an option is None or Some
+pub cases_Option : (o : Option ℕ) → (o ≡ None) ⊎ ((m : ℕ) × (o ≡ Some m))
+cases_Option None = inl refl
+cases_Option (Some m) = inr (m, refl)
+
+pub IsGrown-tree : (tree : Tree) → IsTree tree → IsGrown tree
+IsGrown-tree tree t = record { most = t.most; root = t.root; parents = t.parents; on_board = t.on_board }
+
+-- only nodes of the tree have a parent
+pub parent-in_range : (tree : Tree) (n m : ℕ) → parent_of tree n ≡ Some m → n < node_count tree
+parent-in_range tree n m e =
+    elim (cases_lt n (node_count tree)) [
+      | inl h ↦ h
+      | inr h ↦
+          let past : node_at tree n ≡ record { parent = None; setups = []; played = None } = get_or_past tree.nodes n _ h in
+          let none : None ≡ Some m = sym (ap (λ (d : Node). d.parent) past) ∙ e in
+          absurd cc
+    ]
+
+-- ---- tests for children
+
+pub is_child-true : (tree : Tree) (m n : ℕ) → parent_of tree n ≡ Some m → is_child_of tree m n ≡ true
+is_child-true tree m n e = ap (λ o. option_map_or (λ p. eqb p m) o false) e ∙ eq-eqb m m refl
+
+is_child-cases : (o : Option ℕ) (m : ℕ) → option_map_or (λ p. eqb p m) o false ≡ true → o ≡ Some m
+is_child-cases None m e = absurd cc
+is_child-cases (Some p) m e = ap (λ i. Some i) (eqb-true p m e)
+
+pub is_child-found : (tree : Tree) (m n : ℕ) → is_child_of tree m n ≡ true → parent_of tree n ≡ Some m
+is_child-found tree m n e = is_child-cases (parent_of tree n) m e
+
+pub is_child-false : (tree : Tree) (m n : ℕ) → parent_of tree n ≢ Some m → is_child_of tree m n ≡ false
+is_child-false tree m n ne = false_from_ne_true (is_child_of tree m n) (λ e. ne (is_child-found tree m n e))
+
+pub not_child : (tree : Tree) (m n : ℕ) → is_child_of tree m n ≡ false → parent_of tree n ≢ Some m
+not_child tree m n f e = both_ways (is_child_of tree m n) f (is_child-true tree m n e)
+
+-- ---- ancestors
+
+pub IsAbove-trans : (tree : Tree) {a b c : ℕ} → IsAbove tree a b → IsAbove tree b c → IsAbove tree a c
+IsAbove-trans tree up itself = up
+IsAbove-trans tree up (higher e above) = higher e (IsAbove-trans tree up above)
+
+-- an ancestor of a node is above its parent
+pub IsAbove-step : (tree : Tree) {a n : ℕ} → IsAbove tree a n → a ≢ n → (m : ℕ) × (parent_of tree n ≡ Some m) × IsAbove tree a m
+IsAbove-step tree itself ne = absurd (ne refl)
+IsAbove-step tree (higher e above) ne = (_, e, above)
+
+module _ (tree : Tree) (grown : IsGrown tree) where
+  pub parent-lt : (n m : ℕ) → parent_of tree n ≡ Some m → m < n
+  parent-lt zero m e = let none : None ≡ Some m = sym grown.root ∙ e in absurd cc
+  parent-lt (suc n) m e =
+      let p = grown.parents (suc n) (omega arith) (parent-in_range tree (suc n) m e) in
+      let same : p.0 ≡ m = same_Some p.0 m (sym p.1 ∙ e) in
+      omega (arith, p.2)
+
+  -- a parent is the node before, or above it
+  pub parent-above : (n m : ℕ) → parent_of tree (suc n) ≡ Some m → IsAbove tree m n
+  parent-above n m e =
+      let p = grown.parents (suc n) (omega arith) (parent-in_range tree (suc n) m e) in
+      let same : p.0 ≡ m = same_Some p.0 m (sym p.1 ∙ e) in
+      let before : suc n - 1 ≡ n = omega arith in
+      subst (λ (i : ℕ). IsAbove tree i n) same (subst (λ (j : ℕ). IsAbove tree p.0 j) before p.3)
+
+  pub IsAbove-le : {a n : ℕ} → IsAbove tree a n → a ≤ n
+  IsAbove-le itself = omega arith
+  IsAbove-le (higher {a = a} {m = m} {n = n} e above) = omega (arith, parent-lt n m e, IsAbove-le above)
+
+  -- the nodes from a node to one below it are all below it
+  pub IsAbove-between : (a n j : ℕ) → IsAbove tree a n → a ≤ j → j ≤ n → IsAbove tree a j
+  IsAbove-between a zero j up low high =
+      let here : zero ≡ j = omega arith in subst (λ (i : ℕ). IsAbove tree a i) here up
+  IsAbove-between a (suc n) j up low high =
+      elim (cases_eq j (suc n)) [
+        | inl e ↦ subst (λ (i : ℕ). IsAbove tree a i) (sym e) up
+        | inr ne ↦
+            let p = IsAbove-step tree up (omega arith) in
+            IsAbove-between a n j (IsAbove-trans tree p.2 (parent-above n p.0 p.1)) low (omega arith)
+      ]
+
+  -- a child's subtree has no child of the same parent but itself
+  pub not_below_sibling : (m c j : ℕ) → parent_of tree c ≡ Some m → parent_of tree j ≡ Some m → IsAbove tree c j → c ≡ j
+  not_below_sibling m c j ec ej up =
+      elim (cases_eq c j) [
+        | inl e ↦ e
+        | inr ne ↦
+            let p = IsAbove-step tree up ne in
+            let same : p.0 ≡ m = same_Some p.0 m (sym p.1 ∙ ej) in
+            absurd (omega (arith, IsAbove-le p.2, parent-lt c m ec))
+      ]
+
+  -- ---- the first child
+
+  -- where a node has a child, the node behind it is one
+  pub child_behind : (n c : ℕ) → parent_of tree c ≡ Some n → parent_of tree (n + 1) ≡ Some n
+  child_behind n c e =
+      let later = parent-lt c n e in
+      let up : IsAbove tree n c = higher e itself in
+      let p = IsAbove-step tree (IsAbove-between n c (n + 1) up (omega arith) (omega arith)) (omega arith) in
+      let same : p.0 ≡ n = omega (arith, IsAbove-le p.2, parent-lt (n + 1) p.0 p.1) in
+      p.1 ∙ ap (λ i. Some i) same
+
+  pub first_child-behind : (n : ℕ) → parent_of tree (n + 1) ≡ Some n → first_child_of tree n ≡ Some (n + 1)
+  first_child-behind n e =
+      first_of-is (is_child_of tree n) (n + 1) 0 (node_count tree) (omega arith) (omega (arith, parent-in_range tree (n + 1) n e)) (is_child-true tree n (n + 1) e)
+      (λ k low high. is_child-false tree n k (λ f. absurd (omega (arith, parent-lt k n f))))
+
+  pub children-none : (n : ℕ) → parent_of tree (n + 1) ≢ Some n → children_of tree n ≡ []
+  children-none n ne = filter_none (is_child_of tree n) 0 (node_count tree) (λ k low high. is_child-false tree n k (λ f. ne (child_behind n k f)))
+
+  pub first_child-none : (n : ℕ) → parent_of tree (n + 1) ≢ Some n → first_child_of tree n ≡ None
+  first_child-none n ne = ap first_of (children-none n ne)
+
+  -- the first child of a node can only be the node behind it
+  pub first_child-found : (n c : ℕ) → first_child_of tree n ≡ Some c → (c ≡ n + 1) × (parent_of tree (n + 1) ≡ Some n)
+  first_child-found n c e =
+      let f = first_of-found (is_child_of tree n) c 0 (node_count tree) e in
+      let behind = child_behind n c (is_child-found tree n c f.0) in
+      (same_Some c (n + 1) (sym e ∙ first_child-behind n behind), behind)
+
+-- ---- the list of children
+
+pub children-each : (tree : Tree) (n : ℕ) → All (λ (c : ℕ). parent_of tree c ≡ Some n) (children_of tree n)
+children-each tree n =
+    All-weaker (λ (c : ℕ). is_child_of tree n c ≡ true) (λ (c : ℕ). parent_of tree c ≡ Some n) (λ c t. is_child-found tree n c t) (children_of tree n)
+    (filter_passes (is_child_of tree n) (range_with_len 0 (node_count tree)))
+
+pub children-in_range : (tree : Tree) → IsGrown tree → (n : ℕ) → All (λ (c : ℕ). (n < c) × (c < node_count tree)) (children_of tree n)
+children-in_range tree grown n =
+    All-weaker (λ (c : ℕ). parent_of tree c ≡ Some n) (λ (c : ℕ). (n < c) × (c < node_count tree))
+    (λ c e. (parent-lt tree grown c n e, parent-in_range tree c n e)) (children_of tree n) (children-each tree n)
+
+-- ---- siblings
+
+-- a later child of the node's parent
+abbrev is_later : Tree → ℕ → ℕ → ℕ → Bool
+is_later tree m n j = is_child_of tree m j && ltb n j
+
+next_sibling-parent : (tree : Tree) (n m : ℕ) → parent_of tree n ≡ Some m → next_sibling_of tree n ≡ first_of (filter (is_later tree m n) (range_with_len 0 (node_count tree)))
+next_sibling-parent tree n m e =
+    ap (λ o. option_and_then (λ i. first_of (filter (ltb n) (children_of tree i))) o) e
+    ∙ ap first_of (filter-filter (is_child_of tree m) (ltb n) (range_with_len 0 (node_count tree)))
+
+is_later-false : (tree : Tree) (m n j : ℕ) → (n < j → parent_of tree j ≢ Some m) → is_later tree m n j ≡ false
+is_later-false tree m n j others = false_from_ne_true (is_later tree m n j) (λ e.
+    let p = and_parts (is_child_of tree m j) (ltb n j) e in others (ltb-true n j p.1) (is_child-found tree m j p.0))
+
+not_later : (tree : Tree) (m n j : ℕ) → is_later tree m n j ≡ false → n < j → parent_of tree j ≢ Some m
+not_later tree m n j f h e = both_ways (is_later tree m n j) f (and_from (is_child_of tree m j) (ltb n j) (is_child-true tree m j e) (lt-ltb n j h))
+
+pub next_sibling-root : (tree : Tree) (n : ℕ) → parent_of tree n ≡ None → next_sibling_of tree n ≡ None
+next_sibling-root tree n e = ap (λ o. option_and_then (λ i. first_of (filter (ltb n) (children_of tree i))) o) e
+
+pub next_sibling-is : (tree : Tree) (m n s : ℕ) → parent_of tree n ≡ Some m → parent_of tree s ≡ Some m → n < s → ((j : ℕ) → n < j → j < s → parent_of tree j ≢ Some m) → next_sibling_of tree n ≡ Some s
+next_sibling-is tree m n s en es later others =
+    next_sibling-parent tree n m en
+    ∙ first_of-is (is_later tree m n) s 0 (node_count tree) (omega arith) (omega (arith, parent-in_range tree s m es))
+    (and_from (is_child_of tree m s) (ltb n s) (is_child-true tree m s es) (lt-ltb n s later))
+    (λ k low high. is_later-false tree m n k (λ h. others k h high))
+
+pub next_sibling-none : (tree : Tree) (m n : ℕ) → parent_of tree n ≡ Some m → ((j : ℕ) → n < j → parent_of tree j ≢ Some m) → next_sibling_of tree n ≡ None
+next_sibling-none tree m n en others =
+    next_sibling-parent tree n m en
+    ∙ ap first_of (filter_none (is_later tree m n) 0 (node_count tree) (λ k low high. is_later-false tree m n k (others k)))
+
+-- the next sibling, by the parent m of the node
+pub next_sibling-found : (tree : Tree) (m n s : ℕ) → parent_of tree n ≡ Some m → next_sibling_of tree n ≡ Some s → (parent_of tree s ≡ Some m) × (n < s) × ((j : ℕ) → n < j → j < s → parent_of tree j ≢ Some m)
+next_sibling-found tree m n s en e =
+    let f = first_of-found (is_later tree m n) s 0 (node_count tree) (sym (next_sibling-parent tree n m en) ∙ e) in
+    let p = and_parts (is_child_of tree m s) (ltb n s) f.0 in
+    (is_child-found tree m s p.0, ltb-true n s p.1, λ j low high. not_later tree m n j (f.3 j (omega arith) high) low)
+
+pub next_sibling-missing : (tree : Tree) (m n : ℕ) → parent_of tree n ≡ Some m → next_sibling_of tree n ≡ None → (j : ℕ) → n < j → parent_of tree j ≢ Some m
+next_sibling-missing tree m n en e j later ej =
+    not_later tree m n j (first_of-missing (is_later tree m n) 0 (node_count tree) (sym (next_sibling-parent tree n m en) ∙ e) j (omega arith) (omega (arith, parent-in_range tree j m ej))) later ej
+
+-- ---- the list of children, from its first
+
+pub siblings_from-first : (tree : Tree) (n : ℕ) → siblings_from tree (first_child_of tree n) ≡ children_of tree n
+siblings_from-first tree n = go (first_child_of tree n) refl where
+  go : (o : Option ℕ) → first_child_of tree n ≡ o → siblings_from tree o ≡ children_of tree n
+  go None e = sym (filter_none (is_child_of tree n) 0 (node_count tree) (first_of-missing (is_child_of tree n) 0 (node_count tree) e))
+  go (Some c) e =
+      let f = first_of-found (is_child_of tree n) c 0 (node_count tree) e in
+      ap (λ o. c ∷ option_map_or (λ m. filter (ltb c) (children_of tree m)) o []) (is_child-found tree n c f.0)
+      ∙ sym (first_and_later c 0 (children_of tree n) (IsAscending-range (is_child_of tree n) 0 (node_count tree)) e)
+
+pub siblings_from-next : (tree : Tree) (n : ℕ) → siblings_from tree (Some n) ≡ n ∷ siblings_from tree (next_sibling_of tree n)
+siblings_from-next tree n = go (parent_of tree n) refl where
+  later : (m : ℕ) → parent_of tree n ≡ Some m → (o : Option ℕ) → next_sibling_of tree n ≡ o → filter (ltb n) (children_of tree m) ≡ siblings_from tree o
+  later m e None f =
+      filter-filter (is_child_of tree m) (ltb n) (range_with_len 0 (node_count tree))
+      ∙ filter_none (is_later tree m n) 0 (node_count tree) (first_of-missing (is_later tree m n) 0 (node_count tree) (sym (next_sibling-parent tree n m e) ∙ f))
+  later m e (Some s) f =
+      let found = next_sibling-found tree m n s e f in
+      let both = filter-filter (is_child_of tree m) (ltb n) (range_with_len 0 (node_count tree)) in
+      let rest : filter (ltb s) (filter (is_later tree m n) (range_with_len 0 (node_count tree))) ≡ filter (ltb s) (children_of tree m) =
+      ap (filter (ltb s)) (sym both) ∙ filter-twice_later n s (children_of tree m) (omega (arith, found.1)) in
+      both
+      ∙ first_and_later s 0 (filter (is_later tree m n) (range_with_len 0 (node_count tree))) (IsAscending-range (is_later tree m n) 0 (node_count tree)) (sym (next_sibling-parent tree n m e) ∙ f)
+      ∙ ap (λ xs. s ∷ xs) rest
+      ∙ ap (λ o. s ∷ option_map_or (λ i. filter (ltb s) (children_of tree i)) o []) (sym found.0)
+
+  go : (o : Option ℕ) → parent_of tree n ≡ o → siblings_from tree (Some n) ≡ n ∷ siblings_from tree (next_sibling_of tree n)
+  go None e =
+      ap (λ o. n ∷ option_map_or (λ m. filter (ltb n) (children_of tree m)) o []) e
+      ∙ ap (λ o. n ∷ siblings_from tree o) (sym (next_sibling-root tree n e))
+  go (Some m) e =
+      ap (λ o. n ∷ option_map_or (λ i. filter (ltb n) (children_of tree i)) o []) e
+      ∙ ap (λ xs. n ∷ xs) (later m e (next_sibling_of tree n) refl)
+
+-- a next sibling stands behind the node, in the tree, below the same parent
+pub next_sibling-facts : (tree : Tree) (n s : ℕ) → next_sibling_of tree n ≡ Some s → (n < s) × (s < node_count tree) × (parent_of tree s ≡ parent_of tree n)
+next_sibling-facts tree n s e =
+    elim (cases_Option (parent_of tree n)) [
+      | inl none ↦ let f : None ≡ Some s = sym (next_sibling-root tree n none) ∙ e in absurd cc
+      | inr p ↦
+          let found = next_sibling-found tree p.0 n s p.1 e in
+          (found.1, parent-in_range tree s p.0 found.0, found.0 ∙ sym p.1)
+    ]

@@ -1,0 +1,86 @@
+-- How a tree is stored: words for the private functions of trees.
+use Prim.Native.Nat.{zero}
+use Rattle.std.specs.Prelude.{◌≡◌, ◌≢◌, ℕ, ◌+◌, ◌-◌, ◌<◌, ◌≤◌, suc, Bool, nat_lt, filter, List, [], ◌∷◌, length, map, drop, slice_index_or, Option, Some, None, All, is_some, if◌then◌else◌}
+use Rattle.std.specs.List.{range_with_len, between}
+use Rattle.std.specs.Option.{option_map_or}
+use Rattle.kb_geometry.specs.declared.shape.Shape.{Shape}
+use Rattle.game_tree.specs.declared.node.Setup.{Setup}
+use Rattle.game_tree.specs.declared.stored.TreeNode.{TreeNode}
+use Rattle.game_tree.specs.Built.{Built, IsGrown, tree_so_far}
+use Rattle.game_tree.specs.Information.{Information}
+use Rattle.game_tree.specs.Tree.{Tree, Node, IsTree, IsRectOnBoard, node_count, parent_of, children_of, next_sibling_of, move_number_of}
+
+-- the stored node with this number
+abbrev pub node_in : List TreeNode → ℕ → TreeNode
+node_in ts n = slice_index_or ts n (record { parent = 0; next_sibling = 0; moves_above = 0; setups_end = 0; played = None })
+
+-- where the setups of a node begin: where those of the node before it end
+abbrev pub setups_start : List TreeNode → ℕ → ℕ
+setups_start ts zero = 0
+setups_start ts (suc n) = (node_in ts n).setups_end
+
+-- the parent of a node, which the root does not have
+abbrev pub shown_parent : List TreeNode → ℕ → Option ℕ
+shown_parent ts zero = None
+shown_parent ts (suc n) = Some (node_in ts (suc n)).parent
+
+-- the node with this number
+abbrev pub shown_node : List TreeNode → List Setup → ℕ → Node
+shown_node ts setups n = record { parent = shown_parent ts n; setups = between (setups_start ts n) (node_in ts n).setups_end setups; played = (node_in ts n).played }
+
+-- the nodes
+abbrev pub shown_nodes : List TreeNode → List Setup → List Node
+shown_nodes ts setups = map (shown_node ts setups) (range_with_len 0 (length ts))
+
+-- the tree
+abbrev pub shown_tree : Shape → Information → List TreeNode → List Setup → Tree
+shown_tree shape info ts setups = record { shape = shape; info = info; nodes = shown_nodes ts setups }
+
+-- what is being built: the setups behind those of the last node are those of the node that is being read
+abbrev pub shown_built : Shape → List TreeNode → List Setup → Built
+shown_built shape ts setups = record { shape = shape; nodes = shown_nodes ts setups; pending = drop (setups_start ts (length ts)) setups; setup_count = length setups }
+
+-- the number, or 0 if there is none
+abbrev pub or_zero : Option ℕ → ℕ
+or_zero o = option_map_or (λ n. n) o 0
+
+-- 1 if it is true, else 0
+abbrev pub one_if : Bool → ℕ
+one_if b = if b then 1 else 0
+
+-- The nodes below this number are those of the main line: each is the child of the one before, and the next node is not.
+pub record IsMainEnd (tree : Tree) (main : ℕ) : Type 0 where
+  pub within : main ≤ node_count tree
+  pub some : 1 ≤ node_count tree → 1 ≤ main
+  pub line : (n : ℕ) → n + 1 < main → parent_of tree (n + 1) ≡ Some n
+  pub ended : main < node_count tree → parent_of tree main ≢ Some (main - 1)
+
+-- the setups of each node end behind its start and within the list
+pub record AreEnds (ts : List TreeNode) (setups : List Setup) : Type 0 where
+  pub starts : (n : ℕ) → n < length ts → setups_start ts n ≤ (node_in ts n).setups_end
+  pub ends : (n : ℕ) → n < length ts → (node_in ts n).setups_end ≤ length setups
+
+-- the stored numbers are those of the tree: the next siblings, the moves above each node, and the end of the main line
+pub record AreLinks (tree : Tree) (ts : List TreeNode) (main : ℕ) : Type 0 where
+  pub siblings : (n : ℕ) → n < length ts → (node_in ts n).next_sibling ≡ or_zero (next_sibling_of tree n)
+  pub moves : (n : ℕ) → n < length ts → (node_in ts n).moves_above + one_if (is_some (node_in ts n).played) ≡ move_number_of tree n
+  pub main_end : IsMainEnd tree main
+
+-- a whole tree is stored
+pub record IsStored (shape : Shape) (info : Information) (ts : List TreeNode) (setups : List Setup) (main : ℕ) : Type 0 where
+  pub tree : IsTree (shown_tree shape info ts setups)
+  pub ends : AreEnds ts setups
+  pub links : AreLinks (shown_tree shape info ts setups) ts main
+
+-- the beginning of a tree is stored, and perhaps setups of its next node
+pub record IsBeginning (shape : Shape) (ts : List TreeNode) (setups : List Setup) (main : ℕ) : Type 0 where
+  pub grown : IsGrown (tree_so_far (shown_built shape ts setups))
+  pub ends : AreEnds ts setups
+  pub links : AreLinks (tree_so_far (shown_built shape ts setups)) ts main
+  pub pending : All (λ (s : Setup). IsRectOnBoard shape s.rect) (drop (setups_start ts (length ts)) setups)
+  pub room : length setups < 4294967296
+
+-- a node, if there is one, and then the later children of its parent
+abbrev pub siblings_from : Tree → Option ℕ → List ℕ
+siblings_from tree None = []
+siblings_from tree (Some n) = n ∷ option_map_or (λ m. filter (nat_lt n) (children_of tree m)) (parent_of tree n) []
