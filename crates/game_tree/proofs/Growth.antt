@@ -1,14 +1,13 @@
 -- A tree with one node more.
-use Prim.Native.Nat.{zero}
-use Rattle.std.proofs.Common.{◌≡◌, ◌≢◌, ℕ, ◌+◌, ◌-◌, ◌<◌, ◌≤◌, suc, List, [], ◌∷◌, ◌++◌, length, get_or, Option, Some, None, refl, sym, ◌∙◌, ap, subst, arith, inl, inr}
-use Rattle.std.proofs.lemmas.Bool.{cases_eq, cases_lt}
+use Rattle.std.proofs.Common.{◌≡◌, ◌≢◌, ℕ, ◌+◌, ◌-◌, ◌<◌, ◌≤◌, [], length, Option, Some, None, refl, sym, ◌∙◌, ap, subst, arith, inl, inr}
+use Rattle.std.proofs.lemmas.Bool.{cases_lt}
 use Rattle.std.proofs.lemmas.List.{get_or_append_left, get_or_push, length_push}
 use Rattle.std.proofs.lemmas.Option.{same_Some}
 use Rattle.std.specs.Prelude.{is_some}
 use Rattle.game_tree.specs.declared.node.Move.{Move}
 use Rattle.game_tree.specs.Built.{Built, IsGrown, IsNextParent, tree_so_far, with_node}
 use Rattle.game_tree.specs.Stored.{IsMainEnd, one_if}
-use Rattle.game_tree.specs.Tree.{Tree, Node, IsAbove, IsNodeOnBoard, node_count, node_at, parent_of, next_sibling_of, move_number_of}
+use Rattle.game_tree.specs.Tree.{Node, IsAbove, IsNodeOnBoard, node_count, node_at, parent_of, next_sibling_of, move_number_of}
 use Rattle.game_tree.proofs.Paths.{IsAbove-same, move_number-same, move_number-parent, move_number-root}
 use Rattle.game_tree.proofs.Trees.{cases_Option, parent-in_range, parent-lt, next_sibling-is, next_sibling-none, next_sibling-found, next_sibling-missing, next_sibling-root}
 

@@ -1,10 +1,10 @@
 -- The main line: the nodes below one number.
 use Prim.Native.Nat.{zero}
-use Rattle.std.proofs.Common.{◌≡◌, ◌≢◌, ℕ, ◌+◌, ◌-◌, ◌<◌, ◌≤◌, ◌↔◌, suc, Option, Some, None, refl, sym, ◌∙◌, ap, subst, arith, inl, inr, add-one}
+use Rattle.std.proofs.Common.{◌≡◌, ℕ, ◌+◌, ◌-◌, ◌<◌, ◌≤◌, ◌↔◌, suc, Some, None, sym, ◌∙◌, ap, arith, inl, inr, add-one}
 use Rattle.std.proofs.lemmas.Bool.{cases_eq, cases_lt}
 use Rattle.game_tree.specs.Built.{IsGrown}
 use Rattle.game_tree.specs.MainLine.{IsOnMainLine}
-use Rattle.game_tree.specs.Tree.{Tree, node_count, parent_of, first_child_of}
+use Rattle.game_tree.specs.Tree.{Tree, node_count, parent_of}
 use Rattle.game_tree.specs.Stored.{IsMainEnd}
 use Rattle.game_tree.proofs.Trees.{cases_Option, parent-in_range, first_child-behind, first_child-found}
 

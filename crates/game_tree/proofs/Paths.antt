@@ -1,12 +1,11 @@
 -- The path from a node to the root, and the moves on it.
 use Prim.Native.Nat.{zero}
-use Rattle.std.proofs.Common.{◌≡◌, ◌≢◌, ℕ, ◌+◌, ◌-◌, ◌<◌, ◌≤◌, suc, eqb, ltb, Bool, true, false, cond, List, [], ◌∷◌, length, get_or, Option, Some, None, refl, sym, ◌∙◌, ap, subst, arith, inl, inr, add-one}
-use Rattle.std.proofs.lemmas.Bool.{cases_Bool}
+use Rattle.std.proofs.Common.{◌≡◌, ℕ, ◌+◌, ◌<◌, ◌≤◌, suc, Bool, true, false, cond, [], ◌∷◌, Some, None, refl, sym, ◌∙◌, ap, arith, inl, inr, add-one}
 use Rattle.std.proofs.lemmas.List.Sums.{sum_by-cons}
 use Rattle.std.specs.Prelude.{count_by, is_some}
 use Rattle.std.specs.Option.{option_map_or}
 use Rattle.game_tree.specs.Built.{IsGrown}
-use Rattle.game_tree.specs.Tree.{Tree, Node, IsAbove, itself, higher, node_count, node_at, parent_of, path_within, path_to, move_number_of}
+use Rattle.game_tree.specs.Tree.{Tree, IsAbove, itself, higher, node_at, parent_of, path_within, path_to, move_number_of}
 use Rattle.game_tree.specs.Stored.{one_if}
 use Rattle.game_tree.proofs.Trees.{cases_Option, parent-lt}
 

@@ -1,15 +1,14 @@
 -- What the stored nodes say of the tree that is being built.
 use Prim.Native.Nat.{zero}
-use Rattle.std.proofs.Common.{◌≡◌, ◌≢◌, ℕ, ◌+◌, ◌-◌, ◌<◌, ◌≤◌, suc, List, [], ◌∷◌, ◌++◌, length, get_or, Option, Some, None, refl, sym, ◌∙◌, ap, subst, arith, inl, inr}
-use Rattle.std.specs.Prelude.{is_some, All, IfSome, drop}
+use Rattle.std.proofs.Common.{◌≡◌, ◌≢◌, ℕ, ◌<◌, suc, List, length, Some, refl, sym, ◌∙◌, ap, subst, arith}
+use Rattle.std.specs.Prelude.{All}
 use Rattle.kb_geometry.specs.declared.shape.Shape.{Shape}
-use Rattle.game_tree.specs.declared.node.Move.{Move}
 use Rattle.game_tree.specs.declared.node.Setup.{Setup}
 use Rattle.game_tree.specs.declared.stored.TreeNode.{TreeNode}
-use Rattle.game_tree.specs.Built.{Built, IsGrown, IsNextParent, tree_so_far, with_node}
+use Rattle.game_tree.specs.Built.{Built, IsGrown, tree_so_far}
 use Rattle.game_tree.specs.Information.{no_information}
-use Rattle.game_tree.specs.Tree.{Tree, Node, IsRectOnBoard, node_count, node_at, parent_of}
-use Rattle.game_tree.specs.Stored.{node_in, setups_start, shown_node, shown_nodes, shown_built, IsBeginning, AreLinks}
+use Rattle.game_tree.specs.Tree.{Node, IsRectOnBoard, node_at, parent_of}
+use Rattle.game_tree.specs.Stored.{node_in, shown_node, shown_built, IsBeginning, AreLinks}
 use Rattle.game_tree.proofs.StoredTrees.{length-shown, node_at-shown}
 
 module _ (shape : Shape) (ts : List TreeNode) (setups : List Setup) (main : ℕ) (b : Built) (shown : shown_built shape ts setups ≡ b) (begun : IsBeginning shape ts setups main) where

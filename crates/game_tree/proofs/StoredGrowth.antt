@@ -1,8 +1,8 @@
 -- What is stored, with one setup or one node more.
 use Prim.Native.Nat.{zero}
-use Rattle.std.proofs.Common.{◌≡◌, ◌≢◌, ℕ, ◌+◌, ◌-◌, ◌<◌, ◌≤◌, suc, List, [], ◌∷◌, ◌++◌, length, get_or, set, take, drop, Option, Some, None, refl, sym, ◌∙◌, ap, subst, arith, inl, inr, add-one}
+use Rattle.std.proofs.Common.{◌≡◌, ◌≢◌, ℕ, ◌+◌, ◌-◌, ◌<◌, ◌≤◌, suc, List, [], ◌∷◌, ◌++◌, length, get_or, set, take, drop, Option, Some, None, refl, sym, ◌∙◌, ap, subst, arith, inl, inr}
 use Rattle.std.proofs.lemmas.Bool.{cases_eq, cases_lt}
-use Rattle.std.proofs.lemmas.List.{get_or_append_left, get_or_push, length_push, length-append, length-drop, length-set, get_or-set_same, get_or-set_other, drop-append-le, take-append-le, drop_all}
+use Rattle.std.proofs.lemmas.List.{get_or_append_left, get_or_push, length_push, length-drop, length-set, get_or-set_same, get_or-set_other, drop-append-le, take-append-le, drop_all}
 use Rattle.std.proofs.lemmas.List.Elements.{All-push, All-nil}
 use Rattle.std.proofs.lemmas.List.FromFn.{map-range_with_len_more}
 use Rattle.std.proofs.lemmas.Slice.{between_to_end}
@@ -18,9 +18,9 @@ use Rattle.game_tree.specs.declared.node.Setup.{Setup}
 use Rattle.game_tree.specs.declared.stored.TreeNode.{TreeNode}
 use Rattle.game_tree.specs.Built.{Built, IsGrown, IsNextParent, tree_of, tree_so_far, with_setup, with_node}
 use Rattle.game_tree.specs.Information.{Information, HasSimpleTexts}
-use Rattle.game_tree.specs.Tree.{Tree, Node, IsTree, IsRectOnBoard, IsNodeOnBoard, node_count, node_at, parent_of, next_sibling_of, move_number_of, branchings_to}
-use Rattle.game_tree.specs.Stored.{node_in, setups_start, shown_parent, shown_node, shown_nodes, shown_tree, shown_built, or_zero, one_if, IsStored, IsBeginning, IsMainEnd, AreEnds, AreLinks}
-use Rattle.game_tree.proofs.Growth.{node_count-more, next_parent-none, next_parent-some, IsGrown-more, sibling-new, sibling-last, siblings-first, siblings-other, moves-before, moves-last, moves-root}
+use Rattle.game_tree.specs.Tree.{IsTree, IsRectOnBoard, IsNodeOnBoard, node_count, parent_of, next_sibling_of, move_number_of, branchings_to}
+use Rattle.game_tree.specs.Stored.{node_in, setups_start, shown_parent, shown_node, shown_nodes, shown_built, or_zero, one_if, IsBeginning, IsMainEnd, AreEnds, AreLinks}
+use Rattle.game_tree.proofs.Growth.{next_parent-none, next_parent-some, IsGrown-more, sibling-new, sibling-last, siblings-first, siblings-other, moves-before, moves-last, moves-root}
 use Rattle.game_tree.proofs.Paths.{IsAbove-same, move_number-same}
 use Rattle.game_tree.proofs.StoredTrees.{length-shown, node_read, bool_byte-one_if}
 use Rattle.game_tree.proofs.Trees.{cases_Option}

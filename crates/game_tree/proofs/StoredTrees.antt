@@ -1,13 +1,11 @@
 -- What the stored nodes say of the tree that they show.
 use Prim.Native.Nat.{zero}
-use Rattle.std.proofs.Common.{◌≡◌, ◌≢◌, ℕ, ◌+◌, ◌-◌, ◌<◌, ◌≤◌, ◌↔◌, suc, Bool, true, false, List, [], length, get_or, Option, Some, None, refl, sym, ◌∙◌, ap, subst, arith, inl, inr, add-one}
-use Rattle.std.proofs.lemmas.Bool.{cases_lt}
+use Rattle.std.proofs.Common.{◌≡◌, ◌≢◌, ℕ, ◌+◌, ◌<◌, ◌≤◌, ◌↔◌, suc, Bool, true, false, List, length, get_or, Option, Some, None, refl, sym, ◌∙◌, ap, subst, arith, inl, inr}
 use Rattle.std.proofs.lemmas.List.{get_or_read}
 use Rattle.std.proofs.lemmas.List.FromFn.{length-map-range_with_len, get_or-map-range_with_len}
 use mir.Val.{bool_byte}
 use Rattle.std.specs.Prelude.{is_some, All, IfSome}
 use Rattle.std.specs.List.{between}
-use Rattle.std.specs.Option.{option_map_or}
 use Rattle.kb_geometry.specs.declared.shape.Shape.{Shape}
 use Rattle.kb_geometry.specs.declared.shape.Point.{Point}
 use Rattle.kb_geometry.specs.Board.{IsOnBoard}
@@ -16,10 +14,10 @@ use Rattle.game_tree.specs.declared.node.Setup.{Setup}
 use Rattle.game_tree.specs.declared.stored.TreeNode.{TreeNode}
 use Rattle.game_tree.specs.Information.{Information}
 use Rattle.game_tree.specs.MainLine.{IsOnMainLine}
-use Rattle.game_tree.specs.Tree.{Tree, Node, IsTree, IsNodeOnBoard, IsRectOnBoard, node_count, node_at, parent_of, first_child_of, next_sibling_of, move_number_of}
-use Rattle.game_tree.specs.Stored.{node_in, setups_start, shown_node, shown_nodes, shown_tree, or_zero, one_if, IsStored, AreLinks, AreEnds}
+use Rattle.game_tree.specs.Tree.{Tree, Node, IsTree, IsRectOnBoard, node_count, node_at, parent_of, first_child_of, next_sibling_of, move_number_of}
+use Rattle.game_tree.specs.Stored.{node_in, setups_start, shown_node, shown_nodes, shown_tree, or_zero, one_if, IsStored, AreLinks}
 use Rattle.game_tree.proofs.MainLines.{IsOnMainLine-below}
-use Rattle.game_tree.proofs.Trees.{cases_Option, IsGrown-tree, parent-lt, parent-in_range, first_child-behind, first_child-none, next_sibling-facts}
+use Rattle.game_tree.proofs.Trees.{cases_Option, IsGrown-tree, parent-in_range, first_child-behind, first_child-none, next_sibling-facts}
 
 -- ---- lists of nodes
 

@@ -1,7 +1,7 @@
 -- Subtrees: a node with all below it is an interval of numbers.
 use Prim.Native.Nat.{zero}
-use Rattle.std.proofs.Common.{◌≡◌, ◌≢◌, ℕ, ◌+◌, ◌-◌, ◌<◌, ◌≤◌, suc, Option, Some, None, refl, sym, ◌∙◌, ap, subst, arith, inl, inr}
-use Rattle.std.proofs.lemmas.Bool.{cases_lt, cases_eq}
+use Rattle.std.proofs.Common.{◌≡◌, ℕ, ◌+◌, ◌-◌, ◌<◌, ◌≤◌, suc, Some, None, sym, ◌∙◌, subst, arith, inl, inr}
+use Rattle.std.proofs.lemmas.Bool.{cases_lt}
 use Rattle.std.proofs.lemmas.Option.{same_Some}
 use Rattle.game_tree.specs.Built.{IsGrown}
 use Rattle.game_tree.specs.Tree.{Tree, IsAbove, itself, higher, node_count, parent_of, next_sibling_of}
@@ -65,6 +65,9 @@ module _ (tree : Tree) (grown : IsGrown tree) where
       subtree_from n (node_count tree - (n + 1)) (n + 1) (omega arith) (omega arith) (λ j low upper.
       let here : n ≡ j = omega arith in subst (λ (i : ℕ). IsAbove tree n i) here itself)
 
+  same_parent : (p m c : ℕ) → parent_of tree c ≡ Some p → parent_of tree c ≡ Some m → p ≡ m
+  same_parent p m c e f = same_Some p m (sym e ∙ f)
+
   -- a node behind a child's subtree, but within that of the parent, is the parent's child
   behind_child : (m c e : ℕ) → parent_of tree c ≡ Some m → IsSubtree tree c e → e < node_count tree → IsAbove tree m e → parent_of tree e ≡ Some m
   behind_child m c e ec sub h up =
@@ -72,15 +75,15 @@ module _ (tree : Tree) (grown : IsGrown tree) where
       let step = IsAbove-step tree up (omega (arith, less, sub.later)) in
       let q = step.0 in
       let last : suc (e - 1) ≡ e = omega (arith, sub.later) in
-      let above_last : IsAbove tree q (e - 1) = parent-above tree grown (e - 1) q (ap (parent_of tree) last ∙ step.1) in
+      let above_last : IsAbove tree q (e - 1) = parent-above tree grown (e - 1) q (subst (λ (i : ℕ). parent_of tree i ≡ Some q) (sym last) step.1) in
       let low : q < c = elim (cases_lt q c) [
         | inl l ↦ l
         | inr l ↦ absurd (omega (arith, sub.only e h (higher step.1 (sub.inside q l (parent-lt tree grown e q step.1)))))
       ] in
       let above_child : IsAbove tree q c = IsAbove-between tree grown q (e - 1) c above_last (omega (arith, low)) (omega (arith, sub.later)) in
       let above_parent = IsAbove-step tree above_child (omega (arith, low)) in
-      let same : q ≡ m = omega (arith, same_Some above_parent.0 m (sym above_parent.1 ∙ ec), IsAbove-le tree grown above_parent.2, IsAbove-le tree grown step.2) in
-      step.1 ∙ ap (λ i. Some i) same
+      let same : q ≡ m = omega (arith, same_parent above_parent.0 m c above_parent.1 ec, IsAbove-le tree grown above_parent.2, IsAbove-le tree grown step.2) in
+      subst (λ (i : ℕ). parent_of tree e ≡ Some i) same step.1
 
   -- the next child begins where the subtree of the one before ends
   pub IsSubtree-next : (m c s : ℕ) → parent_of tree c ≡ Some m → next_sibling_of tree c ≡ Some s → IsSubtree tree c s

@@ -1,9 +1,9 @@
 -- The order of a tree's nodes: ancestors, children and siblings by their numbers.
 use Prim.Native.Nat.{zero}
-use Rattle.std.proofs.Common.{◌≡◌, ◌≢◌, ℕ, ◌+◌, ◌-◌, ◌<◌, ◌≤◌, ◌↔◌, ◌⊎◌, suc, eqb, ltb, Bool, true, false, cond, List, [], ◌∷◌, length, get_or, Option, Some, None, All, refl, sym, ◌∙◌, ap, subst, arith, inl, inr}
-use Rattle.std.proofs.lemmas.Bool.{cases_eq, cases_lt, cases_Bool, eq-eqb, eqb-true, lt-ltb, ltb-true, ltb-false, and_from, and_parts, false_from_ne_true, both_ways}
+use Rattle.std.proofs.Common.{◌≡◌, ◌≢◌, ℕ, ◌+◌, ◌-◌, ◌<◌, ◌≤◌, ◌⊎◌, suc, eqb, ltb, Bool, true, false, [], ◌∷◌, Option, Some, None, All, refl, sym, ◌∙◌, ap, subst, arith, inl, inr}
+use Rattle.std.proofs.lemmas.Bool.{cases_eq, cases_lt, eq-eqb, eqb-true, lt-ltb, ltb-true, and_from, and_parts, false_from_ne_true, both_ways}
 use Rattle.std.proofs.lemmas.List.{get_or_past}
-use Rattle.std.proofs.lemmas.List.Elements.{filter_passes, All-filter, All-weaker, All-from_get_or}
+use Rattle.std.proofs.lemmas.List.Elements.{filter_passes, All-weaker}
 use Rattle.std.proofs.lemmas.Option.{same_Some}
 use Rattle.std.specs.Prelude.{filter, option_and_then, ◌&&◌}
 use Rattle.std.specs.List.{range_with_len}
@@ -11,7 +11,7 @@ use Rattle.std.specs.Option.{option_map_or}
 use Rattle.game_tree.specs.Built.{IsGrown}
 use Rattle.game_tree.specs.Tree.{Tree, Node, IsTree, IsAbove, itself, higher, node_count, node_at, parent_of, is_child_of, children_of, first_of, first_child_of, next_sibling_of}
 use Rattle.game_tree.specs.Stored.{siblings_from}
-use Rattle.game_tree.proofs.Ranges.{first_of-is, first_of-found, first_of-missing, filter_none, filter-filter, IsAscending-range, IsAscending, filter-later, first_and_later, filter-twice_later}
+use Rattle.game_tree.proofs.Ranges.{first_of-is, first_of-found, first_of-missing, filter_none, filter-filter, IsAscending-range, first_and_later, filter-twice_later}
 
 -- an option is None or Some
 pub cases_Option : (o : Option ℕ) → (o ≡ None) ⊎ ((m : ℕ) × (o ≡ Some m))

@@ -1,10 +1,10 @@
 -- A tree that is being built, node by node in order of the text.
-use Rattle.std.specs.Prelude.{◌≡◌, ℕ, ◌+◌, ◌-◌, ◌<◌, ◌≤◌, List, [], ◌∷◌, ◌++◌, length, Option, Some, None, IfSome, All}
+use Rattle.std.specs.Prelude.{◌≡◌, ℕ, ◌+◌, ◌-◌, ◌<◌, ◌≤◌, List, [], ◌∷◌, ◌++◌, length, Option, Some, None}
 use Rattle.kb_geometry.specs.declared.shape.Shape.{Shape}
 use Rattle.game_tree.specs.declared.node.Setup.{Setup}
 use Rattle.game_tree.specs.declared.node.Move.{Move}
 use Rattle.game_tree.specs.Information.{Information, no_information}
-use Rattle.game_tree.specs.Tree.{Tree, Node, IsAbove, IsNodeOnBoard, IsRectOnBoard, node_count, node_at, parent_of}
+use Rattle.game_tree.specs.Tree.{Tree, Node, IsAbove, IsNodeOnBoard, node_count, node_at, parent_of}
 
 -- the board, the nodes that were read, the setups so far of the node that is being read, and the number of all setups
 pub record Built : Type 0 where

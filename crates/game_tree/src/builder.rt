@@ -8,7 +8,7 @@ use std::alloc::Global;
 use std::marker::Model;
 
 #[cfg(test)]
-mod checks;
+pub(crate) mod tests;
 
 // Takes the nodes of a game in order of the text, each with its setups and then its parent and its move.
 //

@@ -3,6 +3,7 @@ ghost use Rattle.std.specs.Prelude.{◌≡◌, ◌<◌, length};
 ghost use Rattle.game_tree.specs.Stored.{setups_start};
 
 use crate::Move;
+use std::mem::size_of;
 
 // One node, in 16 bytes. The number of a node is less than 65,536, and that of a child is more than 0.
 #[derive(Clone, Copy, Debug)]
@@ -17,6 +18,8 @@ pub(crate) struct TreeNode {
     pub(crate) moves_above: u16,
     pub(crate) played: Option<Move>,
 }
+
+const _: () = prove!(size_of::<TreeNode>() == 16);
 
 // Where the setups of a node begin: where those of the node before it end.
 pub(crate) fn setups_start(nodes: &[TreeNode], n: usize) -> usize

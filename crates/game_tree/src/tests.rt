@@ -1,6 +1,7 @@
 ghost use Rattle.std.specs.Prelude.{◌<◌};
 ghost use Rattle.game_tree.specs.Tree.{node_count};
 
+use crate::builder::tests::{can_add, can_finish, can_set};
 use crate::{Bytes, GameTree, Info, Move, Setup, TreeBuilder};
 use kb_geometry::{Cell, Colour, Point, Rect, Shape};
 use std::alloc::Global;
@@ -41,17 +42,17 @@ fn add_row(rt: &impl Abort, builder: &mut TreeBuilder, row: Row) -> Result<(), F
     let (parent, played, setups) = row;
     for item in setups {
         if let Some(setup) = item {
-            assert!(rt; builder.can_set(setup));
+            assert!(rt; can_set(builder, setup));
             builder.add_setup(setup)?;
         }
     }
-    assert!(rt; builder.can_add(parent, played));
+    assert!(rt; can_add(builder, parent, played));
     builder.add_node(parent, played)?;
     Ok(())
 }
 
 fn finished(rt: &impl Abort, alloc: Global, builder: TreeBuilder) -> GameTree {
-    assert!(rt; builder.can_finish());
+    assert!(rt; can_finish(&builder));
     builder.finish(Info::empty(alloc))
 }
 

@@ -1,8 +1,7 @@
-use Rattle.std.proofs.Common.{◌≡◌, ℕ, List, [], ◌++◌, ◌∷◌, length, None, Some, sym, subst, ◌∙◌, ap, arith}
-use Rattle.game_tree.specs.declared.stored.TreeNode.{TreeNode}
+use Rattle.std.proofs.Common.{None, ◌∙◌, ap}
 use Rattle.game_tree.specs.Built.{Built, IsNextParent, with_node}
 use Rattle.game_tree.specs.Stored.{shown_built}
-use Rattle.game_tree.proofs.StoredGrowth.{shown_built-push, IsBeginning-first}
+use Rattle.game_tree.proofs.StoredGrowth.{shown_built-push}
 use Rattle.game_tree.proofs.builder.TreeBuilder.add_root.Goals as goal
 
 pub returns-clause-ok : goal.returns-clause-ok

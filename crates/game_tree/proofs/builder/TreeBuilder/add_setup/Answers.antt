@@ -1,4 +1,4 @@
-use Rattle.std.proofs.Common.{sym, subst, ◌∙◌, ap, arith, List, length}
+use Rattle.std.proofs.Common.{sym, subst, ◌∙◌, ap, arith, List}
 use Rattle.game_tree.specs.declared.node.Setup.{Setup}
 use Rattle.game_tree.specs.Built.{Built, with_setup}
 use Rattle.game_tree.specs.Tree.{IsRectOnBoard}

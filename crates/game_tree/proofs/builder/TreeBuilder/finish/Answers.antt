@@ -1,4 +1,4 @@
-use Rattle.std.proofs.Common.{ℕ, ◌<◌, ◌≤◌, sym, subst, ap, arith, length}
+use Rattle.std.proofs.Common.{ℕ, ◌<◌, ◌≤◌, sym, subst, length}
 use Rattle.game_tree.specs.Built.{Built, tree_of}
 use Rattle.game_tree.specs.Stored.{shown_built}
 use Rattle.game_tree.specs.Tree.{branchings_to}

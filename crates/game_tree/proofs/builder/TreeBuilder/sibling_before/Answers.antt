@@ -1,10 +1,9 @@
-use Rattle.std.proofs.Common.{◌≡◌, ◌≢◌, ℕ, ◌-◌, ◌<◌, length, Some, subst, sym, ◌∙◌, ap, arith}
+use Rattle.std.proofs.Common.{◌≡◌, ℕ, ◌-◌, length, Some, subst, sym, ◌∙◌, ap, arith}
 use Rattle.game_tree.specs.Built.{tree_so_far}
 use Rattle.game_tree.specs.Stored.{node_in}
-use Rattle.game_tree.specs.Tree.{IsAbove, node_count, parent_of}
+use Rattle.game_tree.specs.Tree.{parent_of}
 use Rattle.game_tree.proofs.Climbs.{IsClimbed, IsClimbed-none, IsClimbed-more, IsClimbed-all}
 use Rattle.game_tree.proofs.StoredBuilds.{grown_built, count_built, parent_built}
-use Rattle.game_tree.proofs.Growth.{IsGrown-more}
 use Rattle.game_tree.proofs.Trees.{parent-lt}
 use Rattle.game_tree.proofs.builder.TreeBuilder.sibling_before.Goals as goal
 

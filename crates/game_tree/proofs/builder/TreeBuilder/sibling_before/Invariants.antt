@@ -1,6 +1,5 @@
 use Rattle.game_tree.specs.Built.{tree_so_far}
 use Rattle.game_tree.proofs.Climbs.{IsClimbed}
-use Rattle.game_tree.proofs.Growth.{IsGrown-more}
 use Rattle.game_tree.proofs.builder.TreeBuilder.sibling_before.Given as goal
 
 abbrev pub invariant-loop-n : goal.invariant-loop-n

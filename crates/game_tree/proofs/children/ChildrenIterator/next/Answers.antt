@@ -1,4 +1,4 @@
-use Rattle.std.proofs.Common.{rules, sym, ◌∙◌, ap, arith, ◌∷◌}
+use Rattle.std.proofs.Common.{rules, sym, ◌∙◌, ap, ◌∷◌}
 use Rattle.game_tree.specs.Stored.{siblings_from}
 use Rattle.game_tree.proofs.Trees.{siblings_from-next}
 use Rattle.game_tree.proofs.children.ChildrenIterator.next.Goals as goal

@@ -1,6 +1,5 @@
-use Rattle.std.proofs.Common.{◌≡◌, ℕ, ◌<◌, Some, ◌∙◌, ap, arith}
+use Rattle.std.proofs.Common.{◌≡◌, ℕ, ◌<◌, Some, ◌∙◌, ap}
 use Rattle.std.proofs.lemmas.List.Elements.{All-same}
-use Rattle.std.proofs.lemmas.Option.{IfSome_then}
 use Rattle.game_tree.specs.Stored.{siblings_from}
 use Rattle.game_tree.specs.Tree.{node_count, parent_of, children_of}
 use Rattle.game_tree.proofs.StoredTrees.{tree_shown}

@@ -1,5 +1,4 @@
-use Rattle.std.proofs.Common.{◌≡◌, ℕ, ◌+◌, ◌≤◌, length, sym, ◌∙◌, ap, arith}
-use Rattle.game_tree.specs.declared.stored.TreeNode.{TreeNode}
+use Rattle.std.proofs.Common.{◌+◌, length, sym, ◌∙◌, ap, arith}
 use Rattle.game_tree.specs.Stored.{node_in}
 use Rattle.game_tree.proofs.StoredTrees.{count_shown, first_child_shown, first_child_is, other_child_shown, last_node_shown}
 use Rattle.game_tree.proofs.tree.GameTree.first_child.Goals.{else-next-nodes-via-then-next-nodes+else-from-n, else-next-nodes-via-else-next-nodes}

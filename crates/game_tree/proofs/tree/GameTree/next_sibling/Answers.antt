@@ -1,6 +1,5 @@
-use Rattle.std.proofs.Common.{◌≡◌, Some, sym, ◌∙◌, ap, arith}
+use Rattle.std.proofs.Common.{sym, ◌∙◌, ap, arith}
 use Rattle.game_tree.specs.declared.stored.TreeNode.{TreeNode}
-use Rattle.game_tree.specs.Stored.{node_in}
 use Rattle.game_tree.proofs.StoredTrees.{node_read, within_shown, next_sibling_shown, no_sibling_shown}
 use Rattle.game_tree.proofs.Trees.{next_sibling-facts}
 use Rattle.game_tree.proofs.tree.GameTree.next_sibling.Goals as goal

@@ -1,6 +1,5 @@
 use Rattle.std.proofs.Common.{Some, sym, ◌∙◌, ap, arith}
 use Rattle.game_tree.specs.declared.stored.TreeNode.{TreeNode}
-use Rattle.game_tree.specs.Tree.{parent_of}
 use Rattle.game_tree.proofs.StoredTrees.{node_read, tree_shown, within_shown, parent_shown}
 use Rattle.game_tree.proofs.Trees.{IsGrown-tree, parent-lt}
 use Rattle.game_tree.proofs.tree.GameTree.parent.Goals as goal

@@ -1,6 +1,5 @@
-use Rattle.std.proofs.Common.{◌≡◌, ℕ, ◌+◌, ◌≤◌, length, sym, ◌∙◌, ap, arith}
+use Rattle.std.proofs.Common.{ℕ, length, ◌∙◌, ap, arith}
 use Rattle.std.specs.List.{between}
-use Rattle.game_tree.specs.declared.stored.TreeNode.{TreeNode}
 use Rattle.game_tree.specs.Stored.{node_in, setups_start}
 use Rattle.game_tree.proofs.StoredTrees.{within_shown, setups_shown, setups_on_board}
 use Rattle.game_tree.proofs.tree.GameTree.setups.Goals as goal
