@@ -8,12 +8,14 @@ pub mod NodeHits
 pub mod Outcome
 pub mod PointSet
 pub mod Reads
+pub mod Rooms
 pub mod Run
 pub mod RunErrors
 pub mod Script
 pub mod Serial
 pub mod Session
 pub mod Simple
+pub mod SimpleParts
 pub mod Steps
 pub mod Texts
 pub mod Wins

@@ -1,10 +1,12 @@
 // What becomes of a file by its bytes.
-ghost use Rattle.std.specs.Prelude.{IfOk};
-ghost use Rattle.search_run.specs.Outcome.{IsOutcome};
+ghost use Rattle.std.specs.Prelude.{◌≡◌, ◌<◌, IfOk, length};
+ghost use Rattle.search_run.specs.Outcome.{IsOutcome, nodes_of, with_games};
+ghost use Rattle.search_run.specs.Rooms.{AreCountable, IsAddedBy};
 
-use game_tree::GameTree;
+use crate::simple::are_simple;
+use game_tree::{BuildError, GameTree, build};
 use kb_geometry::NoMemory;
-use sgf_reader::FaultKind;
+use sgf_reader::{FaultKind, ReadError, read};
 use std::alloc::Global;
 
 /// The most games that a base may have.
@@ -36,8 +38,74 @@ pub enum FileOutcome {
 }
 
 /// What becomes of a file with these bytes, and the games that it adds.
-pub(crate) fn outcome_of(alloc: Global, bytes: &[u8], before: Counts) -> Result<(FileOutcome, Vec<GameTree>), NoMemory>
+pub(crate) fn outcome_of(
+    alloc: Global,
+    bytes: &[u8],
+    before: Counts,
+) -> Result<(FileOutcome, Vec<GameTree>), NoMemory>
     ensures { IfOk result (λ r. IsOutcome bytes.now before r.0 r.1.items) }
 {
-    Err(NoMemory)
+    let collection = match read(alloc, bytes) {
+        Ok(collection) => collection,
+        Err(ReadError::Fault(fault)) => {
+            let refused = FileOutcome::Refused {
+                kind: fault.kind,
+                at: fault.at,
+            };
+            return Ok((refused, Vec::new(alloc)));
+        }
+        Err(ReadError::NoMemory) => return Err(NoMemory),
+    };
+    let trees = match build(alloc, bytes, &collection) {
+        Ok(trees) => trees,
+        Err(BuildError::Fault(fault)) => {
+            let refused = FileOutcome::Refused {
+                kind: fault.kind,
+                at: fault.at,
+            };
+            return Ok((refused, Vec::new(alloc)));
+        }
+        Err(BuildError::NoMemory) => return Err(NoMemory),
+    };
+    if !are_simple(&trees) {
+        return Ok((FileOutcome::NotYet, Vec::new(alloc)));
+    }
+    Ok(in_room(alloc, trees, before))
+}
+
+// These games, where there is room for them.
+fn in_room(alloc: Global, trees: Vec<GameTree>, before: Counts) -> (FileOutcome, Vec<GameTree>)
+    requires { length trees.items < 4294967296 }
+    ensures { IsAddedBy before trees.items result.0 result.1.items }
+{
+    let games = u64::from(before.games) + trees.len() as u64;
+    let nodes = u64::from(before.nodes) + nodes_of(&trees);
+    if games > u64::from(MAX_BASE_GAMES) || nodes > u64::from(MAX_BASE_NODES) {
+        return (FileOutcome::Full { games, nodes }, Vec::new(alloc));
+    }
+    let games = trees.len() as u32;
+    (FileOutcome::Accepted { games }, trees)
+}
+
+// How many nodes these games have.
+fn nodes_of(trees: &[GameTree]) -> u64
+    requires { length trees.now < 4294967296 }
+    ensures value { result ≡ nodes_of trees.now }
+    ensures most { result < 281474976710656 }
+{
+    let mut nodes = 0;
+    for tree in trees {
+        nodes += u64::from(tree.node_count());
+    }
+    nodes
+}
+
+/// The counts of a base with these games more.
+pub(crate) fn with_games(before: Counts, trees: &[GameTree]) -> Counts
+    requires { AreCountable before trees.now }
+    ensures { result ≡ with_games before trees.now }
+{
+    let games = before.games + trees.len() as u32;
+    let nodes = before.nodes + nodes_of(trees) as u32;
+    Counts { games, nodes }
 }
