@@ -1,5 +1,5 @@
 // The import of a folder: which files it has, and what becomes of each.
-ghost use Rattle.std.specs.Prelude.{◌≡◌, ◌≢◌, ◌⊎◌, ◌×◌, ◌≤◌, ◌∷◌, [], map, All, IfOk, OnOk, string_bytes, List, ℕ};
+ghost use Rattle.std.specs.Prelude.{◌≡◌, ◌≢◌, ◌⊎◌, ◌≤◌, ◌∷◌, [], map, All, IfOk, OnOk, string_bytes, List, ℕ};
 ghost use Rattle.kb_edges.specs.Faults.{Rose, RoseBy};
 ghost use Rattle.kb_edges.specs.Files.{HasFile};
 ghost use Rattle.kb_edges.specs.Told.{IfTold};
@@ -149,7 +149,8 @@ pub fn import_one<F: Folder>(
         Err(FolderError::Failed) => return Ok((FileOutcome::Unread, Vec::new(alloc))),
         Err(FolderError::Missing) => return Ok((FileOutcome::Unread, Vec::new(alloc))),
     };
-    outcome_of(alloc, &bytes, before)
+    let (outcome, games) = outcome_of(alloc, &bytes, before)?;
+    Ok((outcome, games))
 }
 
 // Imports one file after others, and adds what became of it.

@@ -1,6 +1,8 @@
 // Which trees are simple.
 ghost use Rattle.std.specs.Prelude.{◌≡◌, ◌<◌, ◌↔◌, All, IfSome, IsTrue, Option};
-ghost use Rattle.game_tree.specs.Tree.{node_count};
+ghost use Rattle.game_tree.specs.Result.{outcome_of};
+ghost use Rattle.game_tree.specs.Tree.{IsTree, node_count};
+ghost use Rattle.kb_geometry.specs.declared.stone.Outcome.TheVariants.{Other};
 ghost use Rattle.kb_geometry.specs.declared.shape.Point.{Point};
 ghost use Rattle.kb_geometry.specs.Board.{IsOnBoard};
 ghost use Rattle.search_run.specs.Simple.{IsSimple};
@@ -23,7 +25,8 @@ fn has_no_setups(tree: &GameTree) -> bool
 
 // Whether no node has a next sibling.
 fn has_no_siblings(tree: &GameTree) -> bool
-    ensures { IsTrue result ↔ HasNoSiblings tree.now }
+    ensures is { IsTrue result ↔ HasNoSiblings tree.now }
+    ensures tree { IsTree tree.now }
 {
     for node in 0..tree.node_count() {
         if tree.next_sibling(node).is_some() {
@@ -66,14 +69,29 @@ fn has_no_point_twice(tree: &GameTree) -> bool
     true
 }
 
+// Whether the result is of no known class.
+fn is_other(tree: &GameTree) -> bool
+    ensures is { IsTrue result ↔ (outcome_of tree.now.info.outcome_text ≡ Other) }
+    ensures tree { IsTree tree.now }
+{
+    let _shape = tree.shape();
+    matches!(tree.info().outcome(), Outcome::Other)
+}
+
 /// Whether a tree is simple.
 pub(crate) fn is_simple(tree: &GameTree) -> bool
     ensures { IsTrue result ↔ IsSimple tree.now }
 {
-    has_no_setups(tree)
-        && has_no_siblings(tree)
-        && has_no_point_twice(tree)
-        && matches!(tree.info().outcome(), Outcome::Other)
+    if !has_no_setups(tree) {
+        return false;
+    }
+    if !has_no_siblings(tree) {
+        return false;
+    }
+    if !has_no_point_twice(tree) {
+        return false;
+    }
+    is_other(tree)
 }
 
 /// Whether all these trees are simple.

@@ -31,4 +31,4 @@ returns-clause-found g c = λ files told.
     let there = AreNames-there files _ _ are in
     let read = c.in_ok-files.ensures.found files (c.list.ensures.same ∙ told) (rw c.deref.ensures.value there) in
     let few : length names ≤ MAX_NAMES = omega arith in
-    IsImported-read files c.args.path.now names _ _ _ _ _ c.list.ensures.later (c.in-Ok.ensures.there files told) are few (rw c.deref.ensures.value at read)
+    IsImported-read files c.args.path.now c.args.before names _ _ _ _ _ c.list.ensures.later (c.in-Ok.ensures.there files told) are few (rw c.deref.ensures.value at read)
