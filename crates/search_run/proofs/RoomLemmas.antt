@@ -16,7 +16,7 @@ use Rattle.sgf_reader.specs.Grammar.{raw_game}
 use Rattle.sgf_reader.proofs.WithinLimits.{read-within_limits}
 use Rattle.game_tree.specs.Trees.{AreTreesOf, IsTreeOf}
 use Rattle.search_run.specs.Outcome.{HasRoom, HaveGames, IsOutcome, accepted, full, games_after, nodes_after, nodes_of, not_yet, refused, with_games}
-use Rattle.search_run.specs.Rooms.{AddsSimple, AreAdded, AreCountable, IsAdded, IsAddedBy}
+use Rattle.search_run.specs.Rooms.{AddsSimple, AreAdded, IsAdded, IsAddedBy}
 use Rattle.search_run.specs.Simple.{IsSimple}
 
 -- the nodes of one game more
@@ -61,13 +61,9 @@ IsAdded-outcome bytes before (file.Full _ _) _ (full trees have simple room) = r
 IsAdded-outcome bytes before (file.Accepted _) _ (accepted have simple room) = (refl, room, simple)
 IsAdded-outcome bytes before file.Unread trees h = elim h [ ]
 
--- the counts with what is added are numbers of 32 bits
-pub AreCountable-added : (before : Counts) (outcome : FileOutcome) (trees : List Tree) → before.games < 4294967296 → before.nodes < 4294967296 → IsAdded before outcome trees → AreCountable before trees
-AreCountable-added before (file.Accepted games) trees few small h = let room = h.1 in (omega (arith, room.0), omega (arith, room.1))
-AreCountable-added before (file.Refused of at) trees few small h = rw h (omega (arith, few), omega (arith, small))
-AreCountable-added before file.NotYet trees few small h = rw h (omega (arith, few), omega (arith, small))
-AreCountable-added before (file.Full games nodes) trees few small h = rw h (omega (arith, few), omega (arith, small))
-AreCountable-added before file.Unread trees few small h = rw h (omega (arith, few), omega (arith, small))
+-- the counts without a game more
+pub with_games-is : (before : Counts) (trees : List Tree) → trees ≡ [] → before ≡ with_games before trees
+with_games-is before trees none = rw none (sym (with_games-none before))
 
 -- what is added is simple
 pub All-added : (before : Counts) (outcome : FileOutcome) (trees : List Tree) → IsAdded before outcome trees → All IsSimple trees

@@ -20,10 +20,6 @@ IsAdded before file.NotYet added = added ≡ []
 IsAdded before (file.Full games nodes) added = added ≡ []
 IsAdded before file.Unread added = added ≡ []
 
--- the counts with these games are numbers of 32 bits
-abbrev pub AreCountable : Counts → List Tree → Type 0
-AreCountable before trees = (games_after before trees < 4294967296) × (nodes_after before trees < 4294967296)
-
 -- these games are added to a base, all simple, and these are its counts before and after
 abbrev pub AreAdded : Counts → Counts → List Tree → Type 0
 AreAdded before after trees = (after ≡ with_games before trees) × All IsSimple trees

@@ -11,7 +11,7 @@ ghost use Rattle.search_run.specs.Reads.{file_reports, HasReadAll, IsOneMoreRead
 ghost use Rattle.search_run.specs.Rooms.{AddsSimple, AreAdded, IsAdded};
 ghost use Rattle.search_run.specs.Session.{trees_of};
 
-use crate::outcome::{Counts, FileOutcome, outcome_of, with_games};
+use crate::outcome::{Counts, FileOutcome, outcome_of, with_added};
 use game_tree::GameTree;
 use kb_edges::{Folder, FolderError, sort_names};
 use kb_geometry::NoMemory;
@@ -172,7 +172,7 @@ fn read_next<F: Folder>(
 {
     let own_name = String::from_str(alloc, name)?;
     let (outcome, mut games) = import_one(alloc, folder, path, name, *counts)?;
-    *counts = with_games(*counts, &games);
+    *counts = with_added(*counts, outcome, &games);
     trees.append(&mut games)?;
     files.push(ImportedFile {
         name: own_name,

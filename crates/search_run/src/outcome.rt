@@ -1,7 +1,7 @@
 // What becomes of a file by its bytes.
 ghost use Rattle.std.specs.Prelude.{◌≡◌, ◌<◌, IfOk, length};
-ghost use Rattle.search_run.specs.Outcome.{IsOutcome, nodes_of, with_games};
-ghost use Rattle.search_run.specs.Rooms.{AreCountable, IsAddedBy};
+ghost use Rattle.search_run.specs.Outcome.{HasRoom, IsOutcome, nodes_of, with_games};
+ghost use Rattle.search_run.specs.Rooms.{IsAdded, IsAddedBy};
 
 use crate::simple::are_simple;
 use game_tree::{BuildError, GameTree, build};
@@ -100,9 +100,26 @@ fn nodes_of(trees: &[GameTree]) -> u64
     nodes
 }
 
-/// The counts of a base with these games more.
-pub(crate) fn with_games(before: Counts, trees: &[GameTree]) -> Counts
-    requires { AreCountable before trees.now }
+/// The counts of a base with the games more that a file with this outcome adds.
+pub(crate) fn with_added(before: Counts, outcome: FileOutcome, games: &[GameTree]) -> Counts
+    requires { IsAdded before outcome games.now }
+    ensures { result ≡ with_games before games.now }
+{
+    match outcome {
+        FileOutcome::Accepted { games: _count } => with_games(before, games),
+        FileOutcome::Refused { kind: _kind, at: _at } => before,
+        FileOutcome::NotYet => before,
+        FileOutcome::Full {
+            games: _games,
+            nodes: _nodes,
+        } => before,
+        FileOutcome::Unread => before,
+    }
+}
+
+// The counts of a base with these games more.
+fn with_games(before: Counts, trees: &[GameTree]) -> Counts
+    requires { HasRoom before trees.now }
     ensures { result ≡ with_games before trees.now }
 {
     let games = before.games + trees.len() as u32;

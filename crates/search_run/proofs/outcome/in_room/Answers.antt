@@ -1,4 +1,4 @@
-use Rattle.std.proofs.Common.{◌≡◌, ◌<◌, ◌≤◌, ◌⊎◌, ◌+◌, arith, inl, inr}
+use Rattle.std.proofs.Common.{◌≡◌, ◌<◌, ◌≤◌, ◌⊎◌, ◌+◌, arith, inl, inr, length}
 use Rattle.search_run.specs.Outcome.{games_after, nodes_after}
 use Rattle.search_run.specs.declared.outcome.TheConstants.{MAX_BASE_GAMES, MAX_BASE_NODES}
 use Rattle.search_run.proofs.RoomLemmas.{accepted_is, full_is}
@@ -23,6 +23,7 @@ returns c =
     let trees = c.args.trees.items in
     let games : c.from.result + c.len.result ≡ games_after before trees = omega (arith, c.from.ensures, c.len.ensures) in
     let nodes : c.from-2.result + c.nodes_of.result ≡ nodes_after before trees = omega (arith, c.from-2.ensures, (rw c.deref.ensures.value at c.nodes_of.ensures.value)) in
-    accepted_is before trees c.len-games.result (c.from.result + c.len.result) (c.from-2.result + c.nodes_of.result) c.len-games.ensures games nodes
+    let counted : c.len-games.result ≡ length trees = omega (arith, c.len-games.ensures) in
+    accepted_is before trees c.len-games.result (c.from.result + c.len.result) (c.from-2.result + c.nodes_of.result) counted games nodes
     (let within = c.if-games-from.false in omega (arith, within, c.from-3.ensures))
     (let within = c.if-nodes-from.false in omega (arith, within, c.from-else-games-from.ensures))
