@@ -15,7 +15,7 @@ use Rattle.sgf_reader.specs.Faults.{IsRead}
 use Rattle.sgf_reader.specs.Grammar.{raw_game}
 use Rattle.sgf_reader.proofs.WithinLimits.{read-within_limits}
 use Rattle.game_tree.specs.Trees.{AreTreesOf, IsTreeOf}
-use Rattle.search_run.specs.Outcome.{HasRoom, HaveGames, IsOutcome, accepted, full, games_after, nodes_after, nodes_of, not_yet, refused, with_games}
+use Rattle.search_run.specs.Outcome.{HasRoom, HaveGames, IsOutcome, accepted, counts_of, full, games_after, nodes_after, nodes_of, not_yet, refused, with_games}
 use Rattle.search_run.specs.Rooms.{AddsSimple, AreAdded, IsAdded, IsAddedBy}
 use Rattle.search_run.specs.Simple.{IsSimple}
 
@@ -125,3 +125,15 @@ few_trees bytes collection trees is_read are =
     let few = limits.few in
     let games : length collection.games ≡ length is_read.0 = ap (λ (c : Collection). length c.games) is_read.2 ∙ length-map is_read.0 raw_game in
     omega (arith, few, games, length-AllZip (IsTreeOf bytes) collection.games trees are)
+
+-- the counts of a base with more games
+counts_of-append : (trees more : List Tree) → with_games (counts_of trees) more ≡ counts_of (trees ++ more)
+counts_of-append trees more =
+    let games : length trees + length more ≡ length (trees ++ more) = rw length-append refl in
+    let nodes : nodes_of trees + nodes_of more ≡ nodes_of (trees ++ more) = sym (nodes_of-append trees more) in
+    cc
+
+-- a base of simple games whose counts are known gets more of them
+pub counts_of-more : (before after : Counts) (trees found more : List Tree) → (before ≡ counts_of trees) × All IsSimple trees → AreAdded before after found → more ≡ trees ++ found → (after ≡ counts_of more) × All IsSimple more
+counts_of-more before after trees found more h added pushed =
+    rw pushed (added.0 ∙ ap (λ (c : Counts). with_games c found) h.0 ∙ counts_of-append trees found, All-append IsSimple trees found h.1 added.1)

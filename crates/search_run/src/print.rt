@@ -1,5 +1,5 @@
 // The printed texts.
-ghost use Rattle.std.specs.Prelude.{◌≡◌, ◌++◌, OnOk, count_by, string_bytes};
+ghost use Rattle.std.specs.Prelude.{◌≡◌, ◌++◌, OnOk, codes, count_by, string_bytes};
 ghost use Rattle.search_run.specs.Imported.{found_of};
 ghost use Rattle.search_run.specs.Reads.{file_report, file_reports};
 ghost use Rattle.search_run.specs.Texts.{counts_head, counts_of, counts_tail, counts_text, file_text, black_wins, hit_text, other_games, search_head, search_text, totals_line, totals_text, white_wins, import_text, full_text, is_accepted, is_full, is_refused, is_unread, kind_word, listed_text, refused_text, report_text, too_many_text, unlisted_text, unread_text, wait_text};
@@ -101,6 +101,13 @@ fn print_refused(out: &mut String, word: &str, at: u32, name: &str) -> Result<()
     Ok(())
 }
 
+// Prints the line of a file of which not all games are simple.
+fn print_not_yet(out: &mut String, name: &str) -> Result<(), NoMemory>
+    ensures { OnOk result (string_bytes out.new ≡ string_bytes out.old ++ refused_text (codes "NotYet") 0 name.now) }
+{
+    print_refused(out, "NotYet", 0, name)
+}
+
 // Prints the line of a file for which there was no room.
 fn print_full(out: &mut String, games: u64, nodes: u64, name: &str) -> Result<(), NoMemory>
     ensures { OnOk result (string_bytes out.new ≡ string_bytes out.old ++ full_text games nodes name.now) }
@@ -125,7 +132,7 @@ fn print_file(out: &mut String, file: &ImportedFile) -> Result<(), NoMemory>
     match file.outcome {
         FileOutcome::Accepted { games: _games } => {}
         FileOutcome::Refused { kind, at } => print_refused(out, kind_word(kind), at, name)?,
-        FileOutcome::NotYet => print_refused(out, "NotYet", 0, name)?,
+        FileOutcome::NotYet => print_not_yet(out, name)?,
         FileOutcome::Full { games, nodes } => print_full(out, games, nodes, name)?,
         FileOutcome::Unread => print_unread(out, name)?,
     }
