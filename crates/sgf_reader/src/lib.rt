@@ -9,7 +9,12 @@ mod collection;
 mod fault;
 mod laws;
 mod limits;
+mod place;
 mod reader;
+mod reading;
+mod stays;
+mod step;
+mod turn;
 
 pub use collection::{
     Collection, Pair, PairList, RawGame, RawGameList, RawNode, RawNodeList, Span,
@@ -18,3 +23,8 @@ pub use fault::{FaultKind, ReadError, SgfFault};
 pub use laws::{a_text_is_read_within_the_limits, a_text_spells_one_collection};
 pub use limits::{MAX_FILE, MAX_GAMES, MAX_NODES, MAX_OPEN};
 pub use reader::read;
+
+#[cfg(test)]
+mod recogniser_tests;
+#[cfg(test)]
+mod tests;

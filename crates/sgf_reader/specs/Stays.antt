@@ -1,0 +1,70 @@
+-- For the reader's private functions: bytes that leave a reader where it stands, and how far it has read.
+use Rattle.std.specs.Prelude.{◌≡◌, ◌≢◌, ℕ, ◌<◌, ◌≤◌, List, [], length, take, slice_index, Some, None, false}
+use Rattle.sgf_reader.specs.declared.fault.FaultKind.TheVariants as kind
+use Rattle.sgf_reader.specs.declared.fault.ReadError.{ReadError}
+use Rattle.sgf_reader.specs.declared.fault.ReadError.TheVariants.{Fault}
+use Rattle.sgf_reader.specs.declared.fault.SgfFault.{SgfFault}
+use Rattle.sgf_reader.specs.declared.limits.TheConstants.{MAX_FILE, MAX_GAMES}
+use Rattle.sgf_reader.specs.declared.place.Phase as phases
+use Rattle.sgf_reader.specs.declared.place.Phase.TheVariants as at
+use Rattle.sgf_reader.specs.declared.place.Place as places
+use Rattle.sgf_reader.specs.declared.place.Place.TheVariants as stands
+use Rattle.sgf_reader.specs.Scan.{Scan, scan, at_start}
+use Rattle.sgf_reader.specs.Reading.{View, Shows, IsWithinLimits, Fails}
+
+-- no byte of a value that ends it or hides the next one
+abbrev pub IsPlain : ℕ → Type 0
+IsPlain byte = (byte ≢ 93) × (byte ≢ 92)
+
+-- this byte leaves a reader in this phase
+abbrev pub StaysIn : phases.Phase → ℕ → Type 0
+StaysIn (at.InName from upper) byte = ⊥
+StaysIn (at.Escaped name from) byte = ⊥
+StaysIn (at.InValue name from) byte = IsPlain byte
+StaysIn _ byte = byte ≤ 32
+
+-- this byte leaves a reader at this place
+abbrev pub StaysAt : places.Place → ℕ → Type 0
+StaysAt stands.Outside byte = byte ≢ 40
+StaysAt (stands.Before from) byte = byte ≤ 32
+StaysAt (stands.Within phase) byte = StaysIn phase byte
+
+-- each byte from the first offset up to the second one
+abbrev pub EachFrom : List ℕ → ℕ → ℕ → (ℕ → Type 0) → Type 0
+EachFrom text from to P = (k : ℕ) → from ≤ k → k < to → P (slice_index text k)
+
+-- the first bytes, so many, lead the scan here, and the limits held all the way
+pub record IsReadTo (text : List ℕ) (count : ℕ) (s : Scan) : Type 0 where
+  pub scans : scan at_start 0 (take count text) ≡ Some s
+  pub limits : (j : ℕ) (t : Scan) → j ≤ count → scan at_start 0 (take j text) ≡ Some t → IsWithinLimits (length t.games) t.place
+
+-- so many bytes were read, and this is what was read
+pub record HasReadTo (text : List ℕ) (count : ℕ) (v : View) (now : places.Place) : Type 0 where
+  pub reached : Scan
+  pub read : IsReadTo text count reached
+  pub shows : Shows v now reached
+
+-- at one of the first bytes, so many, is this fault, and all before it was read
+pub record FailsIn (text : List ℕ) (end : ℕ) (fault : SgfFault) : Type 0 where
+  pub count : ℕ
+  pub reached : Scan
+  pub there : count < end
+  pub read : IsReadTo text count reached
+  pub fails : Fails reached count (slice_index text count) fault
+
+-- from this offset on stands white space and then a `;`
+pub record IsNodeNext (text : List ℕ) (from : ℕ) : Type 0 where
+  pub semicolon : ℕ
+  pub behind : from ≤ semicolon
+  pub there : semicolon < length text
+  pub white : EachFrom text from semicolon (λ b. b ≤ 32)
+  pub here : slice_index text semicolon ≡ 59
+
+-- the fault of a text that goes on at this offset, past its greatest length
+pub data IsPastEnd (v : View) (now : places.Place) (text : List ℕ) (end : ℕ) : ReadError → Type 0 where
+  too_many_games : (from : ℕ) → now ≡ stands.Before from → MAX_GAMES ≤ length v.games → IsNodeNext text end → IsPastEnd v now text end (Fault (record { kind = kind.TooManyGames; at = from }))
+  too_long : ((from : ℕ) → now ≡ stands.Before from → MAX_GAMES ≤ length v.games → ¬ IsNodeNext text end) → IsPastEnd v now text end (Fault (record { kind = kind.TooLong; at = MAX_FILE }))
+
+-- nothing was read so far
+abbrev pub nothing : View
+nothing = record { games = []; nodes = []; is_reading = false; parents = []; last = None }

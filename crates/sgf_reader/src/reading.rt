@@ -1,0 +1,184 @@
+// What was read so far of a text.
+ghost use Rattle.std.specs.Prelude.{◌≡◌, ◌+◌, ◌<◌, ◌≤◌, ◌⊎◌, ℕ, Some, [], ◌∷◌, true, false, length, IfOk, Err};
+ghost use Rattle.sgf_reader.specs.declared.fault.ReadError.TheVariants.{Fault};
+ghost use Rattle.sgf_reader.specs.declared.fault.SgfFault.{SgfFault};
+ghost use Rattle.sgf_reader.specs.declared.fault.FaultKind.TheVariants as kind;
+ghost use Rattle.sgf_reader.specs.Reading.{with_raw_pair, with_raw_node, with_raw_bracket, closed_view, closed_place, IsPlaceOutside, IsEndFault};
+
+use crate::limits::{MAX_GAMES, MAX_NODES, MAX_OPEN};
+use crate::place::{Phase, Place};
+use crate::{
+    Collection, FaultKind, Pair, PairList, RawGame, RawGameList, RawNode, RawNodeList, ReadError,
+    SgfFault,
+};
+use std::alloc::Global;
+use std::marker::Model;
+use std::mem;
+
+// The games that have ended, and of the game that has not its nodes and its open brackets. The values of
+// the node that is being read stand aside, in a vector that serves one node after another.
+#[derive(Drop)]
+pub(crate) struct Reading {
+    alloc: Global,
+    games: Vec<RawGame>,
+    nodes: Vec<RawNode>,
+    is_reading: bool,
+    parent: Option<u32>,
+    pairs: Vec<Pair>,
+    parents: Vec<Option<u32>>,
+    last: Option<u32>,
+}
+
+impl Model for Reading {
+    ghost use Rattle.std.specs.Prelude.{reverse};
+    ghost use Rattle.sgf_reader.specs.Reading.{View, all_nodes};
+
+    ghost Value = { View };
+
+    ghost view = { λ r. record {
+      games = r.games.items;
+      nodes = all_nodes r.nodes.items r.is_reading r.parent r.pairs.items;
+      is_reading = r.is_reading;
+      parents = reverse r.parents.items;
+      last = r.last;
+    } };
+}
+
+// This fault at this offset.
+pub(crate) fn fault(kind: FaultKind, at: u32) -> ReadError
+    ensures { result ≡ Fault (record { kind = kind; at = at }) }
+{
+    ReadError::Fault(SgfFault { kind, at })
+}
+
+impl Reading {
+    // How many games have ended.
+    pub(crate) fn game_count(&self) -> usize
+        ensures { result ≡ length self.now.games }
+    {
+        self.games.len()
+    }
+
+    // Nothing so far.
+    pub(crate) fn new(alloc: Global) -> Self
+        ensures { result ≡ record { games = []; nodes = []; is_reading = false; parents = []; last = None } }
+    {
+        Reading {
+            alloc,
+            games: Vec::new(alloc),
+            nodes: Vec::new(alloc),
+            is_reading: false,
+            parent: None,
+            pairs: Vec::new(alloc),
+            parents: Vec::new(alloc),
+            last: None,
+        }
+    }
+
+    // The node that is being read has no more values.
+    fn finish_node(&mut self) -> Result<(), ReadError>
+        ensures ok { IfOk result (λ _. self.new ≡ record self.old { is_reading = false }) }
+        ensures fault { (f : SgfFault) → result ≡ Err (Fault f) → ⊥ }
+    {
+        if !self.is_reading {
+            return Ok(());
+        }
+        let mut pairs = Vec::with_capacity(self.alloc, self.pairs.len())?;
+        pairs.extend_from_slice(&self.pairs)?;
+        self.nodes.push(RawNode {
+            parent: self.parent,
+            pairs: PairList::new(pairs),
+        })?;
+        self.is_reading = false;
+        Ok(())
+    }
+
+    // One value more of the node that is being read.
+    pub(crate) fn add_value(&mut self, pair: Pair) -> Result<(), ReadError>
+        ensures ok { self.old.is_reading ≡ true → IfOk result (λ _. self.new ≡ record self.old { nodes = with_raw_pair self.old.nodes pair }) }
+        ensures fault { (f : SgfFault) → result ≡ Err (Fault f) → ⊥ }
+    {
+        self.pairs.push(pair)?;
+        Ok(())
+    }
+
+    // A node begins at this offset.
+    pub(crate) fn begin_node(&mut self, at: u32) -> Result<(), ReadError>
+        ensures ok { IfOk result (λ _. (self.new ≡ with_raw_node self.old) × (length self.old.nodes < MAX_NODES)) }
+        ensures fault { (f : SgfFault) → result ≡ Err (Fault f) → (f ≡ record { kind = kind.TooManyNodes; at = at }) × (MAX_NODES ≤ length self.old.nodes) }
+    {
+        self.finish_node()?;
+        let number = self.nodes.len();
+        if number >= MAX_NODES as usize {
+            return Err(fault(FaultKind::TooManyNodes, at));
+        }
+        self.pairs.clear();
+        self.parent = self.last;
+        self.last = Some(number as u32);
+        self.is_reading = true;
+        Ok(())
+    }
+
+    // A bracket is opened at this offset.
+    pub(crate) fn open_bracket(&mut self, at: u32) -> Result<(), ReadError>
+        ensures ok { IfOk result (λ _. (self.new ≡ with_raw_bracket self.old) × (length self.old.parents < MAX_OPEN)) }
+        ensures fault { (f : SgfFault) → result ≡ Err (Fault f) → (f ≡ record { kind = kind.TooDeep; at = at }) × (MAX_OPEN ≤ length self.old.parents) }
+    {
+        self.finish_node()?;
+        if self.parents.len() >= MAX_OPEN as usize {
+            return Err(fault(FaultKind::TooDeep, at));
+        }
+        self.parents.push(self.last)?;
+        Ok(())
+    }
+
+    // The innermost bracket is closed. With the outermost one the game ends.
+    pub(crate) fn close_bracket(&mut self) -> Result<Place, ReadError>
+        ensures ok { IfOk result (λ place. (self.new ≡ closed_view self.old self.old.parents) × (place ≡ closed_place self.old.parents)) }
+        ensures fault { (f : SgfFault) → result ≡ Err (Fault f) → ⊥ }
+    {
+        self.finish_node()?;
+        let Some(parent) = self.parents.pop() else {
+            return Ok(Place::Outside);
+        };
+        self.last = parent;
+        if !self.parents.is_empty() {
+            return Ok(Place::Within(Phase::AfterTree));
+        }
+        let nodes = mem::replace(&mut self.nodes, Vec::new(self.alloc));
+        self.games.push(RawGame {
+            nodes: RawNodeList::new(nodes),
+        })?;
+        Ok(Place::Outside)
+    }
+
+    // A game begins: its bracket at the first offset, its root at the second.
+    pub(crate) fn begin_game(&mut self, from: u32, at: u32) -> Result<(), ReadError>
+        ensures ok { IfOk result (λ _. (self.new ≡ with_raw_node (record self.old { is_reading = false; parents = None ∷ self.old.parents; last = None })) × (length self.old.games < MAX_GAMES)) }
+        ensures fault { (f : SgfFault) → result ≡ Err (Fault f) → ((f ≡ record { kind = kind.TooManyGames; at = from }) × (MAX_GAMES ≤ length self.old.games)) ⊎ (MAX_NODES ≤ length self.old.nodes) }
+    {
+        if self.games.len() >= MAX_GAMES as usize {
+            return Err(fault(FaultKind::TooManyGames, from));
+        }
+        self.finish_node()?;
+        self.parents.push(None)?;
+        self.last = None;
+        self.begin_node(at)
+    }
+
+    // The text ends at this offset. The games are its collection where it ends outside trees, behind one or more.
+    pub(crate) fn finish(self, place: Place, at: u32) -> Result<Collection, ReadError>
+        ensures ok { IfOk result (λ collection. (collection ≡ record { games = self.games }) × (1 ≤ length self.games) × IsPlaceOutside place) }
+        ensures fault { (f : SgfFault) → result ≡ Err (Fault f) → IsEndFault self place at f }
+    {
+        if let Place::Within(_) = place {
+            return Err(fault(FaultKind::Ended, at));
+        }
+        if self.games.is_empty() {
+            return Err(fault(FaultKind::NoGame, at));
+        }
+        Ok(Collection {
+            games: RawGameList::new(self.games),
+        })
+    }
+}

@@ -1,0 +1,86 @@
+// How far a reader stays where it stands.
+ghost use Rattle.std.specs.Prelude.{◌≡◌, ◌≢◌, ◌<◌, ◌≤◌, ◌↔◌, IsTrue, length, slice_index};
+ghost use Rattle.sgf_reader.specs.Stays.{EachFrom, IsPlain, StaysAt, IsNodeNext};
+
+use crate::place::{Phase, Place};
+
+// The first byte that is no white space, from the first offset on and before the second one.
+pub(crate) fn black_from(text: &[u8], from: usize, end: usize) -> usize
+    requires start { from ≤ end }
+    requires within { end ≤ length text.now }
+    ensures least { from ≤ result }
+    ensures most { result ≤ end }
+    ensures white { EachFrom text.now from result (λ b. b ≤ 32) }
+    ensures black { result < end → 32 < slice_index text.now result }
+{
+    for i in from..end {
+        if text[i] > 32 {
+            return i;
+        }
+    }
+    end
+}
+
+// The first byte that ends a value or hides the next byte.
+fn special_from(text: &[u8], from: usize, end: usize) -> usize
+    requires start { from ≤ end }
+    requires within { end ≤ length text.now }
+    ensures least { from ≤ result }
+    ensures most { result ≤ end }
+    ensures plain { EachFrom text.now from result IsPlain }
+{
+    for i in from..end {
+        if text[i] == b']' || text[i] == b'\\' {
+            return i;
+        }
+    }
+    end
+}
+
+// The first `(`.
+fn bracket_from(text: &[u8], from: usize, end: usize) -> usize
+    requires start { from ≤ end }
+    requires within { end ≤ length text.now }
+    ensures least { from ≤ result }
+    ensures most { result ≤ end }
+    ensures none { EachFrom text.now from result (λ b. b ≢ 40) }
+{
+    for i in from..end {
+        if text[i] == b'(' {
+            return i;
+        }
+    }
+    end
+}
+
+// The first byte that may lead the reader away from where it stands.
+pub(crate) fn next_from(text: &[u8], from: usize, end: usize, place: Place) -> usize
+    requires start { from ≤ end }
+    requires within { end ≤ length text.now }
+    ensures least { from ≤ result }
+    ensures most { result ≤ end }
+    ensures stays { EachFrom text.now from result (StaysAt place) }
+{
+    match place {
+        Place::Outside => bracket_from(text, from, end),
+        Place::Before(_) => black_from(text, from, end),
+        Place::Within(phase) => match phase {
+            Phase::InValue { name: _, from: _ } => special_from(text, from, end),
+            Phase::InName {
+                from: _,
+                has_upper: _,
+            } => from,
+            Phase::Escaped { name: _, from: _ } => from,
+            _ => black_from(text, from, end),
+        },
+    }
+}
+
+// Whether white space and then a `;` follow.
+pub(crate) fn is_node_next(text: &[u8], from: usize) -> bool
+    requires { from ≤ length text.now }
+    ensures { IsTrue result ↔ IsNodeNext text.now from }
+{
+    let next = black_from(text, from, text.len());
+    next < text.len() && text[next] == b';'
+}
