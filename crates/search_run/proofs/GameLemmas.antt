@@ -10,12 +10,13 @@ use Rattle.std.proofs.lemmas.List.{append-nil, get_or_append_left, get_or-replic
 use Rattle.kb_geometry.specs.Board.{point_count}
 use Rattle.kb_geometry.specs.Capture.{Position, cell_at, empty_board}
 use Rattle.kb_geometry.specs.declared.stone.Cell.TheVariants as cell
-use Rattle.game_tree.specs.Line.{IsLine}
 use Rattle.game_tree.specs.Tree.{IsTree, Tree, node_at, node_count, parent_of}
 use Rattle.game_tree.specs.Position.{ArePositions, IsMoved, position_above, set_up_all}
 use Rattle.search_run.specs.Hits.{Game, hits_at, hits_from, hits_in, is_black, occurs, stands_at}
 use Rattle.search_run.specs.Session.{AreGames}
+use Rattle.search_run.specs.Simple.{IsSimple}
 use Rattle.search_run.proofs.ScriptLemmas.{each_at-push}
+use Rattle.search_run.proofs.SimpleLemmas.{simple_is_line}
 use Rattle.search_run.specs.NodeHits.{hit_on, is_new, node_hits}
 use Rattle.search_run.proofs.SearchLemmas.{kept-same, range_from_0-more}
 use Rattle.search_run.specs.declared.hit.Hit.{Hit}
@@ -71,12 +72,12 @@ at_of_take front xs x n counted begins = sym (get_or-take (n + 1) xs n [] (omega
 flat_map_one_more : {X : Type 0} (f : ℕ → List X) (n : ℕ) → flat_map f (range_with_len 0 (n + 1)) ≡ flat_map f (range_with_len 0 n) ++ f n
 flat_map_one_more f n = ap (flat_map f) (range_from_0-more n) ∙ flat_map-append f (range_with_len 0 n) (n ∷ []) ∙ ap (λ xs. flat_map f (range_with_len 0 n) ++ xs) (append-nil (f n))
 
-module _ (tree : Tree) (is_tree : IsTree tree) (is_line : IsLine tree) where
-  -- in a line the position above a node is that of the node before it
+module _ (tree : Tree) (is_tree : IsTree tree) (simple : IsSimple tree) where
+  -- a simple tree is a line, so the position above a node is that of the node before it
   above_is : (positions : List Position) (k : ℕ) → k < node_count tree → position_above tree positions k ≡ get_or (empty_board tree.shape ∷ positions) k []
   above_is positions zero below = rw is_tree.root refl
   above_is positions (suc k) below =
-      let parent : parent_of tree (suc k) ≡ Some k = rw add-one at (is_line.parents k (omega arith)) in
+      let parent : parent_of tree (suc k) ≡ Some k = rw add-one at (simple_is_line tree is_tree simple k (omega arith)) in
       rw parent refl
 
   -- more positions do not change what is above an earlier node
@@ -98,7 +99,7 @@ module _ (tree : Tree) (is_tree : IsTree tree) (is_line : IsLine tree) where
       rw (above_same positions (after ∷ []) k (omega arith) (omega arith), get_or_append_left positions (after ∷ []) [] k (omega arith)) (stepped k lt))
       (let same : position_above tree (positions ++ after ∷ []) n ≡ position = above_same positions (after ∷ []) n below (omega arith) ∙ above_is positions n below ∙ sym here in
       let last : get_or (positions ++ after ∷ []) n [] ≡ after = subst (λ i. get_or (positions ++ after ∷ []) i [] ≡ after) counted (get_or-append_seam positions after [] []) in
-      rw (same, last, is_line.no_setups n below) moved)
+      rw (same, last, simple.no_setups n below) moved)
 
   -- where black stones stood at the parent of a node, by the position above it
   before_is : (game : Game) (positions : List Position) (n p : ℕ) (position : Position) → game.tree ≡ tree → n < node_count tree → p < point_count tree.shape → take n game.positions ≡ positions → position ≡ get_or (empty_board tree.shape ∷ positions) n []
@@ -106,7 +107,7 @@ module _ (tree : Tree) (is_tree : IsTree tree) (is_line : IsLine tree) where
   before_is game positions zero p position same below within begins here =
       rw (same, is_tree.root, here) (sym (empty_board-clear (point_count tree.shape) p within))
   before_is game positions (suc m) p position same below within begins here =
-      let parent : parent_of tree (suc m) ≡ Some m = rw add-one at (is_line.parents m (omega arith)) in
+      let parent : parent_of tree (suc m) ≡ Some m = rw add-one at (simple_is_line tree is_tree simple m (omega arith)) in
       let at : get_or game.positions m [] ≡ position = sym (get_or-take (suc m) game.positions m [] (omega arith)) ∙ ap (λ ps. get_or ps m []) begins ∙ sym here in
       rw (same, parent) (ap (λ (q : Position). is_black (cell_at q p)) at)
 

@@ -14,13 +14,14 @@ use Rattle.kb_edges.specs.Files.{File, HasFile, HasPath, IsListing, content_of}
 use Rattle.kb_edges.specs.Told.{IfTold}
 use Rattle.kb_edges.specs.Faults.{Rose, RoseBy}
 use Rattle.game_tree.specs.Tree.{Tree}
-use Rattle.search_run.specs.Course.{AreNames, FileReport, Files, ImportCourse, IsContent, IsImported, losses_of, accepted, not_read, nothing, refused}
-use Rattle.search_run.specs.Reads.{HasReadAll, IsFileRead, IsOneMoreRead, file_reports}
+use Rattle.search_run.specs.Course.{AreNames, FileReport, Files, ImportCourse, IsContent, IsImported, losses_of, not_read, nothing, read}
+use Rattle.search_run.specs.Reads.{HasReadAll, IsOneMoreRead, file_reports}
 use Rattle.search_run.specs.declared.import.ImportedFile.{ImportedFile}
 use Rattle.search_run.specs.declared.import.TheConstants.{MAX_NAMES}
-use Rattle.search_run.specs.declared.import.FileOutcome.{FileOutcome}
-use Rattle.search_run.specs.declared.import.FileOutcome.TheVariants as file
-use Rattle.search_run.specs.declared.import.FileRead.TheVariants as read
+use Rattle.search_run.specs.declared.outcome.Counts.{Counts}
+use Rattle.search_run.specs.declared.outcome.FileOutcome.{FileOutcome}
+use Rattle.search_run.specs.declared.outcome.FileOutcome.TheVariants as file
+use Rattle.search_run.specs.Outcome.{IsOutcome, with_games}
 use Rattle.kb_edges.proofs.Places.{HasFile-any, has_place}
 
 -- what passes a test is found
@@ -35,14 +36,14 @@ pub content_of-there : (files : List File) (path name : List ℕ) → HasFile fi
 content_of-there files path name there none = find-some (λ (file : File). file.bytes) (has_place path name) files (HasFile-any files path name there) none
 
 -- what was read of a content that is there
-read_of : (content : Option (List ℕ)) (read : List ℕ) → IsSome content → IfTold content (λ bytes. read ≡ take 16777217 bytes) → (whole : List ℕ) × (content ≡ Some whole) × (read ≡ take 16777217 whole)
-read_of None read there is = absurd (false≢true there)
-read_of (Some whole) read there is = (whole, refl, is whole refl)
+read_of : (content : Option (List ℕ)) (given : List ℕ) → IsSome content → IfTold content (λ bytes. given ≡ take 16777217 bytes) → (whole : List ℕ) × (content ≡ Some whole) × (given ≡ take 16777217 whole)
+read_of None given there is = absurd (false≢true there)
+read_of (Some whole) given there is = (whole, refl, is whole refl)
 
 -- the bytes that were read are those that count
-pub IsContent-read : (files : List File) (path name read bytes : List ℕ) → bytes ≡ read → IsSome (content_of files path name) → IfTold (content_of files path name) (λ whole. read ≡ take 16777217 whole) → IsContent files path name bytes
-IsContent-read files path name read bytes same there is =
-    let h = read_of (content_of files path name) read there is in
+pub IsContent-read : (files : List File) (path name given bytes : List ℕ) → bytes ≡ given → IsSome (content_of files path name) → IfTold (content_of files path name) (λ whole. given ≡ take 16777217 whole) → IsContent files path name bytes
+IsContent-read files path name given bytes same there is =
+    let h = read_of (content_of files path name) given there is in
     (h.0, h.1, same ∙ h.2)
 
 -- a count that has not fallen rose by nothing
@@ -62,30 +63,25 @@ pub reports_push : (all more : List ImportedFile) (f : ImportedFile) (name : Lis
 reports_push all more f name pushed named =
     ap file_reports pushed ∙ map_push _ all f ∙ ap (λ n. file_reports all ++ record { name = n; outcome = f.outcome } ∷ []) named
 
-module _ (files : List File) (path name : List ℕ) (before now : ℕ) (reports : List FileReport) (trees : List Tree) (outcome : FileOutcome) (more_trees : List Tree) where
-  -- a file more is accepted
-  pub one_more-accepted : (tree : Tree) → IsFileRead files path name before now (read.Plain tree) → before ≤ now → outcome ≡ file.Accepted → more_trees ≡ trees ++ tree ∷ [] → IsOneMoreRead files path name before now reports trees (reports ++ record { name = name; outcome = outcome } ∷ []) more_trees
-  one_more-accepted tree h later is pushed = λ unread so_far.
-      rw (is, pushed) ([], rw append-nil (accepted name h.0 tree so_far h.1 h.2), rose_by_none before now later, names_push reports name file.Accepted)
-
-  -- a file more is refused
-  pub one_more-refused : IsFileRead files path name before now read.NotPlain → before ≤ now → outcome ≡ file.Refused → more_trees ≡ trees → IsOneMoreRead files path name before now reports trees (reports ++ record { name = name; outcome = outcome } ∷ []) more_trees
-  one_more-refused h later is same = λ unread so_far.
-      rw (is, same) ([], rw append-nil (refused name h.0 so_far h.1 h.2), rose_by_none before now later, names_push reports name file.Refused)
+module _ (files : List File) (path name : List ℕ) (before now : ℕ) (counts : Counts) (reports : List FileReport) (trees : List Tree) (outcome : FileOutcome) (more_trees : List Tree) where
+  -- a file more is read
+  pub one_more-read : (games : List Tree) → (bytes : List ℕ) × IsContent files path name bytes × IsOutcome bytes counts outcome games → before ≤ now → more_trees ≡ trees ++ games → IsOneMoreRead files path name before now counts reports trees (reports ++ record { name = name; outcome = outcome } ∷ []) more_trees
+  one_more-read games h later pushed = λ base unread is so_far.
+      rw pushed ([], rw append-nil (read name h.0 outcome games so_far h.1 (rw is at h.2)), rose_by_none before now later, names_push reports name outcome)
 
   -- a file more was not read
-  pub one_more-not_read : Rose before now → outcome ≡ file.Unread → more_trees ≡ trees → IsOneMoreRead files path name before now reports trees (reports ++ record { name = name; outcome = outcome } ∷ []) more_trees
-  one_more-not_read rose is same = λ unread so_far.
+  pub one_more-not_read : Rose before now → outcome ≡ file.Unread → more_trees ≡ trees → IsOneMoreRead files path name before now counts reports trees (reports ++ record { name = name; outcome = outcome } ∷ []) more_trees
+  one_more-not_read rose is same = λ base unread so_far_is so_far.
       rw (is, same) (name ∷ [], not_read name so_far, rose, names_push reports name file.Unread)
 
 -- nothing is read yet
-pub HasReadAll-start : (files : List File) (path : List ℕ) (count : ℕ) → HasReadAll files path [] count count [] []
-HasReadAll-start files path count = record { unread = []; read = nothing; named = refl; lost = omega arith }
+pub HasReadAll-start : (files : List File) (path : List ℕ) (base : Counts) (count : ℕ) → HasReadAll files path base [] count count [] []
+HasReadAll-start files path base count = record { unread = []; read = nothing; named = refl; lost = omega arith }
 
 -- one file more is read
-pub HasReadAll-more : (files : List File) (path : List ℕ) (names : List (List ℕ)) (name : List ℕ) (before between now : ℕ) (reports more_reports : List FileReport) (trees more_trees : List Tree) → HasReadAll files path names before between reports trees → IsOneMoreRead files path name between now reports trees more_reports more_trees → HasReadAll files path (names ++ name ∷ []) before now more_reports more_trees
-HasReadAll-more files path names name before between now reports more_reports trees more_trees h more =
-    let next = more h.unread h.read in
+pub HasReadAll-more : (files : List File) (path : List ℕ) (base counts : Counts) (names : List (List ℕ)) (name : List ℕ) (before between now : ℕ) (reports more_reports : List FileReport) (trees more_trees : List Tree) → counts ≡ with_games base trees → HasReadAll files path base names before between reports trees → IsOneMoreRead files path name between now counts reports trees more_reports more_trees → HasReadAll files path base (names ++ name ∷ []) before now more_reports more_trees
+HasReadAll-more files path base counts names name before between now reports more_reports trees more_trees is h more =
+    let next = more base h.unread is h.read in
     record {
       unread = h.unread ++ next.0;
       read = next.1;
@@ -123,7 +119,7 @@ RoseBy-earlier : (n before between now : ℕ) → before ≤ between → RoseBy 
 RoseBy-earlier n before between now later rose = omega arith
 
 -- an import of these names, whose files are read
-pub IsImported-read : (files : List File) (path : List ℕ) (names : List (String Global)) (before between now : ℕ) (reports : List FileReport) (trees : List Tree) → before ≤ between → HasPath files path → AreNames files path (map string_bytes names) → length names ≤ MAX_NAMES → HasReadAll files path (map string_bytes names) between now reports trees → (entry : ImportCourse) × IsImported files path entry (Files reports trees) × RoseBy (losses_of (entry ∷ [])) before now
-IsImported-read files path names before between now reports trees later there are few h =
+pub IsImported-read : (files : List File) (path : List ℕ) (base : Counts) (names : List (String Global)) (before between now : ℕ) (reports : List FileReport) (trees : List Tree) → before ≤ between → HasPath files path → AreNames files path (map string_bytes names) → length names ≤ MAX_NAMES → HasReadAll files path base (map string_bytes names) between now reports trees → (entry : ImportCourse) × IsImported files path base entry (Files reports trees) × RoseBy (losses_of (entry ∷ [])) before now
+IsImported-read files path base names before between now reports trees later there are few h =
     let counted : length reports ≡ length names = sym (length-map reports (λ (f : FileReport). f.name)) ∙ ap length h.named ∙ length-map names string_bytes in
     (record { unlisted = false; unread = h.unread }, (there, rw h.named are, rw counted few, h.read, refl), one_loss (length h.unread) before now (RoseBy-earlier (length h.unread) before between now later h.lost))

@@ -13,4 +13,6 @@ mod ReadLemmas
 mod RunLemmas
 mod ScriptLemmas
 mod SearchLemmas
+mod SimpleLemmas
+mod RoomLemmas
 pub mod Walks

@@ -4,11 +4,13 @@ use Rattle.std.specs.Cmp.Lexicographic.{slice_cmp}
 use Rattle.std.specs.Ordering.{nat_cmp}
 use Rattle.std.specs.declared.cmp.Ordering.TheVariants.{Less}
 use Rattle.kb_edges.specs.Files.{File, HasFile, HasPath, IsSgfName, content_of}
-use Rattle.game_tree.specs.Plain.{SpellsPlain}
 use Rattle.game_tree.specs.Tree.{Tree}
-use Rattle.search_run.specs.declared.import.FileOutcome.{FileOutcome}
-use Rattle.search_run.specs.declared.import.FileOutcome.TheVariants as file
-use Rattle.search_run.specs.declared.import.TheConstants.{MAX_FILE, MAX_NAMES}
+use Rattle.search_run.specs.declared.outcome.FileOutcome.{FileOutcome}
+use Rattle.search_run.specs.declared.outcome.FileOutcome.TheVariants as file
+use Rattle.search_run.specs.declared.outcome.Counts.{Counts}
+use Rattle.search_run.specs.declared.import.TheConstants.{MAX_NAMES}
+use Rattle.search_run.specs.Outcome.{IsOutcome, with_games}
+use Rattle.sgf_reader.specs.declared.limits.TheConstants.{MAX_FILE}
 
 -- what the report says of a file of an import: its name, and what became of it
 pub record FileReport : Type 0 where
@@ -44,16 +46,16 @@ pub record AreNames (files : List File) (path : List ℕ) (names : List (List �
 abbrev pub IsContent : List File → List ℕ → List ℕ → List ℕ → Type 0
 IsContent files path name bytes = (whole : List ℕ) × (content_of files path name ≡ Some whole) × (bytes ≡ take (MAX_FILE + 1) whole)
 
--- What became of the files of an import, one after another: the reports, the trees of the accepted files,
--- and the names of the files that were not read. A file that was read is accepted exactly if its bytes are plain.
-pub data AreRead (files : List File) (path : List ℕ) : List FileReport → List Tree → List (List ℕ) → Type 0 where
-  nothing : AreRead files path [] [] []
-  accepted : {reports : List FileReport} {trees : List Tree} {unread : List (List ℕ)} (name bytes : List ℕ) (tree : Tree) → AreRead files path reports trees unread → IsContent files path name bytes → SpellsPlain bytes tree → AreRead files path (reports ++ record { name = name; outcome = file.Accepted } ∷ []) (trees ++ tree ∷ []) unread
-  refused : {reports : List FileReport} {trees : List Tree} {unread : List (List ℕ)} (name bytes : List ℕ) → AreRead files path reports trees unread → IsContent files path name bytes → ((tree : Tree) → ¬ SpellsPlain bytes tree) → AreRead files path (reports ++ record { name = name; outcome = file.Refused } ∷ []) trees unread
-  not_read : {reports : List FileReport} {trees : List Tree} {unread : List (List ℕ)} (name : List ℕ) → AreRead files path reports trees unread → AreRead files path (reports ++ record { name = name; outcome = file.Unread } ∷ []) trees (unread ++ name ∷ [])
+-- What became of the files of an import, one after another, in a base with these counts before it: the reports, the games
+-- that were added, and the names of the files that were not read. Each file is judged by its bytes and by the counts of the
+-- base with the games of the files before it.
+pub data AreRead (files : List File) (path : List ℕ) (before : Counts) : List FileReport → List Tree → List (List ℕ) → Type 0 where
+  nothing : AreRead files path before [] [] []
+  read : {reports : List FileReport} {trees : List Tree} {unread : List (List ℕ)} (name bytes : List ℕ) (outcome : FileOutcome) (games : List Tree) → AreRead files path before reports trees unread → IsContent files path name bytes → IsOutcome bytes (with_games before trees) outcome games → AreRead files path before (reports ++ record { name = name; outcome = outcome } ∷ []) (trees ++ games) unread
+  not_read : {reports : List FileReport} {trees : List Tree} {unread : List (List ℕ)} (name : List ℕ) → AreRead files path before reports trees unread → AreRead files path before (reports ++ record { name = name; outcome = file.Unread } ∷ []) trees (unread ++ name ∷ [])
 
--- what an import of this path finds in these files, by this entry of the course
-abbrev pub IsImported : List File → List ℕ → ImportCourse → Found → Type 0
-IsImported files path entry Unlisted = ((entry.unlisted ≡ true) ⊎ ((entry.unlisted ≡ false) × (¬ HasPath files path))) × (entry.unread ≡ [])
-IsImported files path entry (TooMany count) = (names : List (List ℕ)) × HasPath files path × AreNames files path names × (count ≡ length names) × (MAX_NAMES < count) × (entry ≡ nothing_lost)
-IsImported files path entry (Files reports trees) = HasPath files path × AreNames files path (map (λ (f : FileReport). f.name) reports) × (length reports ≤ MAX_NAMES) × AreRead files path reports trees entry.unread × (entry.unlisted ≡ false)
+-- what an import of this path, in a base with these counts, finds in these files, by this entry of the course
+abbrev pub IsImported : List File → List ℕ → Counts → ImportCourse → Found → Type 0
+IsImported files path before entry Unlisted = ((entry.unlisted ≡ true) ⊎ ((entry.unlisted ≡ false) × (¬ HasPath files path))) × (entry.unread ≡ [])
+IsImported files path before entry (TooMany count) = (names : List (List ℕ)) × HasPath files path × AreNames files path names × (count ≡ length names) × (MAX_NAMES < count) × (entry ≡ nothing_lost)
+IsImported files path before entry (Files reports trees) = HasPath files path × AreNames files path (map (λ (f : FileReport). f.name) reports) × (length reports ≤ MAX_NAMES) × AreRead files path before reports trees entry.unread × (entry.unlisted ≡ false)

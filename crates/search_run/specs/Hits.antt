@@ -35,7 +35,7 @@ occurs game n p = stands_at game n p && not (option_map_or (λ m. stands_at game
 abbrev pub point_at : Shape → ℕ → Point
 point_at shape p = record { x = p % cols_of shape; y = p / cols_of shape }
 
--- The hits at a node, in order of the points' numbers: by row, then by column. As no point of a plain game is played
+-- The hits at a node, in order of the points' numbers: by row, then by column. As no point of a simple game is played
 -- twice, no move follows on the point of a hit, so a hit has no continuation.
 abbrev pub hits_at : ℕ → Game → ℕ → List Hit
 hits_at number game n =

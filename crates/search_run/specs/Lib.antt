@@ -5,13 +5,17 @@ pub mod Imported
 pub mod Lines
 pub mod NextLine
 pub mod NodeHits
+pub mod Outcome
 pub mod PointSet
 pub mod Reads
+pub mod Rooms
 pub mod Run
 pub mod RunErrors
 pub mod Script
 pub mod Serial
 pub mod Session
+pub mod Simple
+pub mod SimpleParts
 pub mod Steps
 pub mod Texts
 pub mod Wins

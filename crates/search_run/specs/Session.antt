@@ -5,6 +5,7 @@ use Rattle.game_tree.specs.Tree.{Tree}
 use Rattle.game_tree.specs.Position.{ArePositions}
 use Rattle.search_run.specs.Course.{Files, Found, ImportCourse, IsImported, TooMany, Unlisted}
 use Rattle.search_run.specs.Hits.{Game, hits_from}
+use Rattle.search_run.specs.Outcome.{counts_of}
 use Rattle.search_run.specs.Texts.{import_text, report_text, search_text, wait_text}
 use Rattle.search_run.specs.declared.statement.Placed.{Placed}
 use Rattle.search_run.specs.declared.statement.Statement.{Statement}
@@ -64,7 +65,7 @@ IsText s p text = IsTextAt s p.line p.statement text
 -- The state after a statement, and what the course says of it: an import takes one entry of the course, and finds
 -- what it finds by that entry.
 abbrev pub LeadsAt : List File → State → ℕ → Statement → List ImportCourse → State → Type 0
-LeadsAt files s line (statement.Import path) used next = (entry : ImportCourse) × (found : Found) × (used ≡ entry ∷ []) × IsImported files path entry found × (next ≡ after_import s line found)
+LeadsAt files s line (statement.Import path) used next = (entry : ImportCourse) × (found : Found) × (used ≡ entry ∷ []) × IsImported files path (counts_of s.trees) entry found × (next ≡ after_import s line found)
 LeadsAt files s line statement.Wait used next = (used ≡ []) × (next ≡ joined s)
 LeadsAt files s line statement.Search used next = (used ≡ []) × (next ≡ s)
 

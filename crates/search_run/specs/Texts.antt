@@ -2,12 +2,14 @@
 use Rattle.std.specs.Prelude.{ℕ, not, ◌&&◌, Bool, true, false, List, [], ◌∷◌, ◌++◌, length, codes, count_by}
 use Rattle.std.specs.Fmt.{decimal}
 use Rattle.std.specs.List.{flat_map}
+use Rattle.sgf_reader.specs.declared.fault.FaultKind.{FaultKind}
+use Rattle.sgf_reader.specs.declared.fault.FaultKind.TheVariants as kind
 use Rattle.search_run.specs.Wins.{is_black_win, is_white_win}
 use Rattle.search_run.specs.Course.{FileReport, Found, Files, TooMany, Unlisted}
 use Rattle.search_run.specs.declared.hit.Hit.{Hit}
-use Rattle.search_run.specs.declared.print.Counts.{Counts}
-use Rattle.search_run.specs.declared.import.FileOutcome.{FileOutcome}
-use Rattle.search_run.specs.declared.import.FileOutcome.TheVariants as file
+use Rattle.search_run.specs.declared.print.FileCounts.{FileCounts}
+use Rattle.search_run.specs.declared.outcome.FileOutcome.{FileOutcome}
+use Rattle.search_run.specs.declared.outcome.FileOutcome.TheVariants as file
 
 -- a line: these pieces and a line feed
 abbrev pub line_text : List (List ℕ) → List ℕ
@@ -22,65 +24,102 @@ import_text line path = line_text (decimal line ∷ codes " import " ∷ path �
 abbrev pub wait_text : ℕ → ℕ → List ℕ
 wait_text line version = line_text (decimal line ∷ codes " wait version " ∷ decimal version ∷ [])
 
--- `refused NotYet 0 NAME`
-abbrev pub refused_text : List ℕ → List ℕ
-refused_text name = line_text (codes "refused NotYet 0 " ∷ name ∷ [])
+-- the word of a fault's kind
+abbrev pub kind_word : FaultKind → List ℕ
+kind_word kind.NoGame = codes "NoGame"
+kind_word kind.Unexpected = codes "Unexpected"
+kind_word kind.Ended = codes "Ended"
+kind_word kind.TooLong = codes "TooLong"
+kind_word kind.TooDeep = codes "TooDeep"
+kind_word kind.TooManyNodes = codes "TooManyNodes"
+kind_word kind.TooManyGames = codes "TooManyGames"
+kind_word kind.NotGo = codes "NotGo"
+kind_word kind.BadSize = codes "BadSize"
+kind_word kind.BadPoint = codes "BadPoint"
+kind_word kind.TwoMoves = codes "TwoMoves"
+
+-- `refused KIND AT NAME`
+abbrev pub refused_text : List ℕ → ℕ → List ℕ → List ℕ
+refused_text word at name = line_text (codes "refused " ∷ word ∷ codes " " ∷ decimal at ∷ codes " " ∷ name ∷ [])
+
+-- `full GAMES NODES NAME`
+abbrev pub full_text : ℕ → ℕ → List ℕ → List ℕ
+full_text games nodes name = line_text (codes "full " ∷ decimal games ∷ codes " " ∷ decimal nodes ∷ codes " " ∷ name ∷ [])
 
 -- `unread NAME`
 abbrev pub unread_text : List ℕ → List ℕ
 unread_text name = line_text (codes "unread " ∷ name ∷ [])
 
--- the line of a file that was not accepted; an accepted one has none
+-- the line of a file that was not accepted; an accepted one has none; one whose games aren't simple is refused as NotYet
 abbrev pub file_text : FileReport → List ℕ
 file_text f = text f.outcome
   where
     text : FileOutcome → List ℕ
-    text file.Accepted = []
-    text file.Refused = refused_text f.name
+    text (file.Accepted games) = []
+    text (file.Refused of at) = refused_text (kind_word of) at f.name
+    text file.NotYet = refused_text (codes "NotYet") 0 f.name
+    text (file.Full games nodes) = full_text games nodes f.name
     text file.Unread = unread_text f.name
 
 abbrev pub is_accepted : FileReport → Bool
 is_accepted f = test f.outcome
   where
     test : FileOutcome → Bool
-    test file.Accepted = true
-    test file.Refused = false
+    test (file.Accepted games) = true
+    test (file.Refused of at) = false
+    test file.NotYet = false
+    test (file.Full games nodes) = false
     test file.Unread = false
 
 abbrev pub is_refused : FileReport → Bool
 is_refused f = test f.outcome
   where
     test : FileOutcome → Bool
-    test file.Accepted = false
-    test file.Refused = true
+    test (file.Accepted games) = false
+    test (file.Refused of at) = true
+    test file.NotYet = true
+    test (file.Full games nodes) = false
+    test file.Unread = false
+
+abbrev pub is_full : FileReport → Bool
+is_full f = test f.outcome
+  where
+    test : FileOutcome → Bool
+    test (file.Accepted games) = false
+    test (file.Refused of at) = false
+    test file.NotYet = false
+    test (file.Full games nodes) = true
     test file.Unread = false
 
 abbrev pub is_unread : FileReport → Bool
 is_unread f = test f.outcome
   where
     test : FileOutcome → Bool
-    test file.Accepted = false
-    test file.Refused = false
+    test (file.Accepted games) = false
+    test (file.Refused of at) = false
+    test file.NotYet = false
+    test (file.Full games nodes) = false
     test file.Unread = true
 
 -- how many files an import has, and how many were accepted and refused
-abbrev pub counts_head : ℕ → Counts → List ℕ
+abbrev pub counts_head : ℕ → FileCounts → List ℕ
 counts_head line counts = decimal line ++ (codes " imported files " ++ (decimal counts.files ++ (codes " accepted " ++ (decimal counts.accepted ++ (codes " refused " ++ decimal counts.refused)))))
 
--- how many were not read, the games that were added, and the version after it
-abbrev pub counts_tail : Counts → ℕ → ℕ → List ℕ
-counts_tail counts games version = line_text (codes " full 0 unread " ∷ decimal counts.unread ∷ codes " games " ∷ decimal games ∷ codes " version " ∷ decimal version ∷ [])
+-- how many there was no room for, how many were not read, the games that were added, and the version after it
+abbrev pub counts_tail : FileCounts → ℕ → ℕ → List ℕ
+counts_tail counts games version = line_text (codes " full " ∷ decimal counts.full ∷ codes " unread " ∷ decimal counts.unread ∷ codes " games " ∷ decimal games ∷ codes " version " ∷ decimal version ∷ [])
 
 -- the counts of an import
-abbrev pub counts_text : ℕ → Counts → ℕ → ℕ → List ℕ
+abbrev pub counts_text : ℕ → FileCounts → ℕ → ℕ → List ℕ
 counts_text line counts games version = counts_head line counts ++ counts_tail counts games version
 
--- how many files there are, and how many were accepted, refused and not read
-abbrev pub counts_of : List FileReport → Counts
+-- how many files there are, and how many were accepted, refused, not added for want of room, and not read
+abbrev pub counts_of : List FileReport → FileCounts
 counts_of reports = record {
   files = length reports;
   accepted = count_by is_accepted reports;
   refused = count_by is_refused reports;
+  full = count_by is_full reports;
   unread = count_by is_unread reports;
 }
 

@@ -1,30 +1,25 @@
 // The import of a folder: which files it has, and what becomes of each.
-ghost use Rattle.std.specs.Prelude.{◌≡◌, ◌≤◌, ◌∷◌, [], map, All, IfOk, OnOk, string_bytes};
-ghost use Rattle.kb_edges.specs.Faults.{RoseBy};
+ghost use Rattle.std.specs.Prelude.{◌≡◌, ◌≢◌, ◌⊎◌, ◌≤◌, ◌∷◌, [], map, All, IfOk, OnOk, string_bytes, List, ℕ};
+ghost use Rattle.kb_edges.specs.Faults.{Rose, RoseBy};
 ghost use Rattle.kb_edges.specs.Files.{HasFile};
 ghost use Rattle.kb_edges.specs.Told.{IfTold};
-ghost use Rattle.search_run.specs.Course.{ImportCourse, IsImported, losses_of};
+ghost use Rattle.search_run.specs.declared.outcome.FileOutcome.TheVariants.{Unread};
+ghost use Rattle.search_run.specs.Course.{ImportCourse, IsContent, IsImported, losses_of};
 ghost use Rattle.search_run.specs.Imported.{found_of};
-ghost use Rattle.search_run.specs.Reads.{file_reports, HasReadAll, IsFileRead, IsOneMoreRead};
+ghost use Rattle.search_run.specs.Outcome.{IsOutcome};
+ghost use Rattle.search_run.specs.Reads.{file_reports, HasReadAll, IsOneMoreRead};
+ghost use Rattle.search_run.specs.Rooms.{AddsSimple, AreAdded, IsAdded};
+ghost use Rattle.search_run.specs.Session.{trees_of};
 
-use game_tree::{GameTree, PlainError, plain};
+use crate::outcome::{Counts, FileOutcome, outcome_of, with_added};
+use game_tree::GameTree;
 use kb_edges::{Folder, FolderError, sort_names};
 use kb_geometry::NoMemory;
+use sgf_reader::MAX_FILE;
 use std::alloc::Global;
-
-/// The most bytes that a file may have.
-pub(crate) const MAX_FILE: usize = 16_777_216;
 
 /// The most names that an import may have.
 pub(crate) const MAX_NAMES: usize = 64;
-
-/// What became of a file.
-#[derive(Clone, Copy, Debug, PartialEq, Eq)]
-pub(crate) enum FileOutcome {
-    Accepted,
-    Refused,
-    Unread,
-}
 
 /// A file of an import, by its name, and what became of it.
 #[derive(Debug, Drop)]
@@ -35,20 +30,30 @@ pub(crate) struct ImportedFile {
 
 impl ImportedFile {
     ghost use Rattle.search_run.specs.Reads.{file_report};
-    ghost use Rattle.search_run.specs.Texts.{is_accepted, is_refused, is_unread};
+    ghost use Rattle.search_run.specs.Texts.{is_accepted, is_full, is_refused, is_unread};
 
     /// Whether it was accepted.
     pub fn is_accepted(&self) -> bool
         ensures { result ≡ is_accepted (file_report self.now) }
     {
-        matches!(self.outcome, FileOutcome::Accepted)
+        matches!(self.outcome, FileOutcome::Accepted { .. })
     }
 
     /// Whether it was refused.
     pub fn is_refused(&self) -> bool
         ensures { result ≡ is_refused (file_report self.now) }
     {
-        matches!(self.outcome, FileOutcome::Refused)
+        matches!(
+            self.outcome,
+            FileOutcome::Refused { .. } | FileOutcome::NotYet
+        )
+    }
+
+    /// Whether there was no room for it.
+    pub fn is_full(&self) -> bool
+        ensures { result ≡ is_full (file_report self.now) }
+    {
+        matches!(self.outcome, FileOutcome::Full { .. })
     }
 
     /// Whether it was not read.
@@ -90,91 +95,85 @@ impl Imported {
     }
 }
 
-/// Imports the files of a path whose names end in `.sgf`.
+/// Imports the files of a path whose names end in `.sgf`, in a base with these counts. Hands back what was found,
+/// and the counts with the games that are to be added.
 pub(crate) fn import<F: Folder>(
     alloc: Global,
     folder: &mut F,
     path: &str,
-) -> Result<Imported, NoMemory>
-    ensures found { IfTold (F.files folder.old) (λ files. IfOk result (λ imported.
-        (course : ImportCourse) × IsImported files path.now course (found_of imported)
+    before: Counts,
+) -> Result<(Imported, Counts), NoMemory>
+    ensures found { IfTold (F.files folder.old) (λ files. IfOk result (λ r.
+        (course : ImportCourse) × IsImported files path.now before course (found_of r.0)
         × RoseBy (losses_of (course ∷ [])) (F.faults folder.old) (F.faults folder.new))) }
+    ensures added { IfOk result (λ r. AreAdded before r.1 (trees_of (found_of r.0))) }
     ensures same { F.files folder.new ≡ F.files folder.old }
     ensures later { F.faults folder.old ≤ F.faults folder.new }
 {
     let mut names = match folder.list(alloc, path) {
         Ok(names) => names,
         Err(FolderError::NoMemory) => return Err(NoMemory),
-        Err(FolderError::Failed) => return Ok(Imported::Unlisted),
-        Err(FolderError::Missing) => return Ok(Imported::Unlisted),
+        Err(FolderError::Failed) => return Ok((Imported::Unlisted, before)),
+        Err(FolderError::Missing) => return Ok((Imported::Unlisted, before)),
     };
     sort_names(&mut names);
     if names.len() > MAX_NAMES {
-        return Ok(Imported::TooMany {
-            listed: names.len(),
-        });
+        let listed = names.len();
+        return Ok((Imported::TooMany { listed }, before));
     }
-    let (files, trees) = read_files(alloc, folder, path, &names)?;
-    Ok(Imported::Files { files, trees })
+    let (files, trees, counts) = read_files(alloc, folder, path, &names, before)?;
+    Ok((Imported::Files { files, trees }, counts))
 }
 
-// What reading one file gave.
-#[derive(Debug, Drop)]
-enum FileRead {
-    Plain(GameTree),
-    NotPlain,
-    Failed,
-}
-
-// Reads one file.
-fn read_file<F: Folder>(
+/// What becomes of one file of a folder in a base with these counts, and the games that it adds.
+///
+/// A file that can't be read, or that isn't there, is `Unread`. The only error is `NoMemory`.
+pub fn import_one<F: Folder>(
     alloc: Global,
     folder: &mut F,
     path: &str,
     name: &str,
-) -> Result<FileRead, NoMemory>
-    ensures found { IfTold (F.files folder.old) (λ files. HasFile files path.now name.now → IfOk result
-        (IsFileRead files path.now name.now (F.faults folder.old) (F.faults folder.new))) }
+    before: Counts,
+) -> Result<(FileOutcome, Vec<GameTree>), NoMemory>
+    ensures outcome { IfTold (F.files folder.old) (λ files. IfOk result (λ r. r.0 ≢ Unread →
+        (bytes : List ℕ) × IsContent files path.now name.now bytes × IsOutcome bytes before r.0 r.1.items)) }
+    ensures unread { IfTold (F.files folder.old) (λ files. IfOk result (λ r. r.0 ≡ Unread →
+        Rose (F.faults folder.old) (F.faults folder.new) ⊎ (¬ HasFile files path.now name.now))) }
+    ensures added { IfOk result (λ r. IsAdded before r.0 r.1.items) }
     ensures same { F.files folder.new ≡ F.files folder.old }
     ensures later { F.faults folder.old ≤ F.faults folder.new }
 {
-    let bytes = match folder.read(alloc, path, name, MAX_FILE) {
+    let bytes = match folder.read(alloc, path, name, MAX_FILE as usize) {
         Ok(bytes) => bytes,
         Err(FolderError::NoMemory) => return Err(NoMemory),
-        Err(FolderError::Failed) => return Ok(FileRead::Failed),
-        Err(FolderError::Missing) => return Ok(FileRead::Failed),
+        Err(FolderError::Failed) => return Ok((FileOutcome::Unread, Vec::new(alloc))),
+        Err(FolderError::Missing) => return Ok((FileOutcome::Unread, Vec::new(alloc))),
     };
-    match plain(alloc, &bytes) {
-        Ok(tree) => Ok(FileRead::Plain(tree)),
-        Err(PlainError::NotYet) => Ok(FileRead::NotPlain),
-        Err(PlainError::NoMemory) => Err(NoMemory),
-    }
+    let (outcome, games) = outcome_of(alloc, &bytes, before)?;
+    Ok((outcome, games))
 }
 
-// Reads one file after others, and adds what became of it.
+// Imports one file after others, and adds what became of it.
 fn read_next<F: Folder>(
     alloc: Global,
     folder: &mut F,
     path: &str,
     name: &str,
+    counts: &mut Counts,
     files: &mut Vec<ImportedFile>,
     trees: &mut Vec<GameTree>,
 ) -> Result<(), NoMemory>
     ensures found { IfTold (F.files folder.old) (λ all. HasFile all path.now name.now → OnOk result
-        (IsOneMoreRead all path.now name.now (F.faults folder.old) (F.faults folder.new)
+        (IsOneMoreRead all path.now name.now (F.faults folder.old) (F.faults folder.new) counts.old
         (file_reports files.old.items) trees.old.items (file_reports files.new.items) trees.new.items)) }
+    ensures added { OnOk result (AddsSimple counts.old counts.new trees.old.items trees.new.items) }
     ensures same { F.files folder.new ≡ F.files folder.old }
     ensures later { F.faults folder.old ≤ F.faults folder.new }
 {
     let own_name = String::from_str(alloc, name)?;
-    let outcome = match read_file(alloc, folder, path, name)? {
-        FileRead::Plain(tree) => {
-            trees.push(tree)?;
-            FileOutcome::Accepted
-        }
-        FileRead::NotPlain => FileOutcome::Refused,
-        FileRead::Failed => FileOutcome::Unread,
-    };
+    let (outcome, mut games) = import_one(alloc, folder, path, name, *counts)?;
+    *counts = with_added(*counts, outcome, &games);
+    trees.append(&mut games)?;
     files.push(ImportedFile {
         name: own_name,
         outcome,
@@ -182,23 +181,34 @@ fn read_next<F: Folder>(
     Ok(())
 }
 
-// Reads the files of these names, in order.
+// Imports the files of these names, in order. Hands back what became of them, the games, and the counts with these.
 fn read_files<F: Folder>(
     alloc: Global,
     folder: &mut F,
     path: &str,
     names: &[String],
-) -> Result<(Vec<ImportedFile>, Vec<GameTree>), NoMemory>
+    before: Counts,
+) -> Result<(Vec<ImportedFile>, Vec<GameTree>, Counts), NoMemory>
     ensures found { IfTold (F.files folder.old) (λ all. All (HasFile all path.now) (map string_bytes names.now) →
-        IfOk result (λ read. HasReadAll all path.now (map string_bytes names.now)
+        IfOk result (λ read. HasReadAll all path.now before (map string_bytes names.now)
         (F.faults folder.old) (F.faults folder.new) (file_reports read.0.items) read.1.items)) }
+    ensures added { IfOk result (λ read. AreAdded before read.2 read.1.items) }
     ensures same { F.files folder.new ≡ F.files folder.old }
     ensures later { F.faults folder.old ≤ F.faults folder.new }
 {
     let mut files = Vec::new(alloc);
     let mut trees = Vec::new(alloc);
+    let mut counts = before;
     for name in names {
-        read_next(alloc, folder, path, name.as_str(), &mut files, &mut trees)?;
+        read_next(
+            alloc,
+            folder,
+            path,
+            name.as_str(),
+            &mut counts,
+            &mut files,
+            &mut trees,
+        )?;
     }
-    Ok((files, trees))
+    Ok((files, trees, counts))
 }

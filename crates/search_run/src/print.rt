@@ -1,13 +1,15 @@
 // The printed texts.
-ghost use Rattle.std.specs.Prelude.{◌≡◌, ◌++◌, OnOk, count_by, string_bytes};
+ghost use Rattle.std.specs.Prelude.{◌≡◌, ◌++◌, OnOk, codes, count_by, string_bytes};
 ghost use Rattle.search_run.specs.Imported.{found_of};
 ghost use Rattle.search_run.specs.Reads.{file_report, file_reports};
-ghost use Rattle.search_run.specs.Texts.{counts_head, counts_of, counts_tail, counts_text, file_text, black_wins, hit_text, other_games, search_head, search_text, totals_line, totals_text, white_wins, import_text, is_accepted, is_refused, is_unread, listed_text, refused_text, report_text, too_many_text, unlisted_text, unread_text, wait_text};
+ghost use Rattle.search_run.specs.Texts.{counts_head, counts_of, counts_tail, counts_text, file_text, black_wins, hit_text, other_games, search_head, search_text, totals_line, totals_text, white_wins, import_text, full_text, is_accepted, is_full, is_refused, is_unread, kind_word, listed_text, refused_text, report_text, too_many_text, unlisted_text, unread_text, wait_text};
 ghost use Rattle.std.specs.List.{flat_map};
 
 use crate::hit::Hit;
-use crate::import::{FileOutcome, Imported, ImportedFile};
+use crate::import::{Imported, ImportedFile};
+use crate::outcome::FileOutcome;
 use kb_geometry::NoMemory;
+use sgf_reader::FaultKind;
 use std::fmt::Write;
 
 /// Prints the line of an import.
@@ -26,12 +28,13 @@ pub(crate) fn print_wait(out: &mut String, line: u32, version: u64) -> Result<()
     Ok(())
 }
 
-// How many files an import has, and how many were accepted, refused and not read.
+// How many files an import has, and how many were accepted, refused, not added for want of room, and not read.
 #[derive(Clone, Copy, Debug, PartialEq, Eq)]
-struct Counts {
+struct FileCounts {
     files: usize,
     accepted: usize,
     refused: usize,
+    full: usize,
     unread: usize,
 }
 
@@ -47,28 +50,69 @@ fn refused_count(files: &[ImportedFile]) -> usize
     files.iter().filter(|f| f.is_refused()).count()
 }
 
+fn full_count(files: &[ImportedFile]) -> usize
+    ensures { result ≡ count_by is_full (file_reports files.now) }
+{
+    files.iter().filter(|f| f.is_full()).count()
+}
+
 fn unread_count(files: &[ImportedFile]) -> usize
     ensures { result ≡ count_by is_unread (file_reports files.now) }
 {
     files.iter().filter(|f| f.is_unread()).count()
 }
 
-fn counts_of(files: &[ImportedFile]) -> Counts
+fn counts_of(files: &[ImportedFile]) -> FileCounts
     ensures { result ≡ counts_of (file_reports files.now) }
 {
-    Counts {
+    FileCounts {
         files: files.len(),
         accepted: accepted_count(files),
         refused: refused_count(files),
+        full: full_count(files),
         unread: unread_count(files),
     }
 }
 
-// Prints the line of a file that was refused.
-fn print_refused(out: &mut String, name: &str) -> Result<(), NoMemory>
-    ensures { OnOk result (string_bytes out.new ≡ string_bytes out.old ++ refused_text name.now) }
+// The word of a fault's kind.
+fn kind_word(kind: FaultKind) -> &'static str
+    ensures { result.now ≡ kind_word kind }
 {
-    writeln!(out, "refused NotYet 0 {name}")?;
+    match kind {
+        FaultKind::NoGame => "NoGame",
+        FaultKind::Unexpected => "Unexpected",
+        FaultKind::Ended => "Ended",
+        FaultKind::TooLong => "TooLong",
+        FaultKind::TooDeep => "TooDeep",
+        FaultKind::TooManyNodes => "TooManyNodes",
+        FaultKind::TooManyGames => "TooManyGames",
+        FaultKind::NotGo => "NotGo",
+        FaultKind::BadSize => "BadSize",
+        FaultKind::BadPoint => "BadPoint",
+        FaultKind::TwoMoves => "TwoMoves",
+    }
+}
+
+// Prints the line of a file that was refused.
+fn print_refused(out: &mut String, word: &str, at: u32, name: &str) -> Result<(), NoMemory>
+    ensures { OnOk result (string_bytes out.new ≡ string_bytes out.old ++ refused_text word.now at name.now) }
+{
+    writeln!(out, "refused {word} {at} {name}")?;
+    Ok(())
+}
+
+// Prints the line of a file of which not all games are simple.
+fn print_not_yet(out: &mut String, name: &str) -> Result<(), NoMemory>
+    ensures { OnOk result (string_bytes out.new ≡ string_bytes out.old ++ refused_text (codes "NotYet") 0 name.now) }
+{
+    print_refused(out, "NotYet", 0, name)
+}
+
+// Prints the line of a file for which there was no room.
+fn print_full(out: &mut String, games: u64, nodes: u64, name: &str) -> Result<(), NoMemory>
+    ensures { OnOk result (string_bytes out.new ≡ string_bytes out.old ++ full_text games nodes name.now) }
+{
+    writeln!(out, "full {games} {nodes} {name}")?;
     Ok(())
 }
 
@@ -86,8 +130,10 @@ fn print_file(out: &mut String, file: &ImportedFile) -> Result<(), NoMemory>
 {
     let name = file.name.as_str();
     match file.outcome {
-        FileOutcome::Accepted => {}
-        FileOutcome::Refused => print_refused(out, name)?,
+        FileOutcome::Accepted { games: _games } => {}
+        FileOutcome::Refused { kind, at } => print_refused(out, kind_word(kind), at, name)?,
+        FileOutcome::NotYet => print_not_yet(out, name)?,
+        FileOutcome::Full { games, nodes } => print_full(out, games, nodes, name)?,
         FileOutcome::Unread => print_unread(out, name)?,
     }
     Ok(())
@@ -104,10 +150,10 @@ fn print_files(out: &mut String, files: &[ImportedFile]) -> Result<(), NoMemory>
 }
 
 // Prints how many files an import has, and how many were accepted and refused.
-fn print_counts_head(out: &mut String, line: u32, counts: Counts) -> Result<(), NoMemory>
+fn print_counts_head(out: &mut String, line: u32, counts: FileCounts) -> Result<(), NoMemory>
     ensures { OnOk result (string_bytes out.new ≡ string_bytes out.old ++ counts_head line counts) }
 {
-    let Counts {
+    let FileCounts {
         files,
         accepted,
         refused,
@@ -120,19 +166,20 @@ fn print_counts_head(out: &mut String, line: u32, counts: Counts) -> Result<(), 
     Ok(())
 }
 
-// Prints how many files were not read, the games that were added, and the version after it.
+// Prints for how many files there was no room, how many were not read, the games that were added, and the version after it.
 fn print_counts_tail(
     out: &mut String,
-    counts: Counts,
+    counts: FileCounts,
     games: usize,
     version: u64,
 ) -> Result<(), NoMemory>
     ensures { OnOk result (string_bytes out.new ≡ string_bytes out.old ++ counts_tail counts games version) }
 {
+    let full = counts.full;
     let unread = counts.unread;
     writeln!(
         out,
-        " full 0 unread {unread} games {games} version {version}"
+        " full {full} unread {unread} games {games} version {version}"
     )?;
     Ok(())
 }
@@ -141,7 +188,7 @@ fn print_counts_tail(
 fn print_counts(
     out: &mut String,
     line: u32,
-    counts: Counts,
+    counts: FileCounts,
     games: usize,
     version: u64,
 ) -> Result<(), NoMemory>

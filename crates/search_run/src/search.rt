@@ -1,5 +1,5 @@
 // The occurrences of a black stone in games.
-ghost use Rattle.std.specs.Prelude.{◌≡◌, ◌<◌, ◌≤◌, ◌++◌, ◌&&◌, ℕ, not, List, length, map, false, filter, slice_index_or, IfOk, IfSome, OnOk};
+ghost use Rattle.std.specs.Prelude.{◌≡◌, All, ◌<◌, ◌≤◌, ◌++◌, ◌&&◌, ℕ, not, List, length, map, false, filter, slice_index_or, IfOk, IfSome, OnOk};
 ghost use Rattle.std.specs.List.{range_with_len};
 ghost use Rattle.kb_geometry.specs.declared.shape.Point.{Point};
 ghost use Rattle.kb_geometry.specs.Board.{IsOnBoard, point_count};
@@ -9,6 +9,7 @@ ghost use Rattle.game_tree.specs.Position.{ArePositions, IsMoved};
 ghost use Rattle.search_run.specs.Hits.{Game, hits_from, hits_in, is_black};
 ghost use Rattle.search_run.specs.NodeHits.{hit_on, node_hits};
 ghost use Rattle.search_run.specs.Session.{AreGames};
+ghost use Rattle.search_run.specs.Simple.{IsSimple};
 
 use crate::board::Board;
 use crate::hit::Hit;
@@ -90,6 +91,7 @@ fn search_nodes(
     stood: &mut [bool],
     hits: &mut Vec<Hit>,
 ) -> Result<(), NoMemory>
+    requires simple { IsSimple tree.now }
     requires room { length stood.old ≡ point_count tree.now.shape }
     requires clear { (p : ℕ) → slice_index_or stood.old p false ≡ false }
     ensures { OnOk result ((played : Game) × (played.tree ≡ tree.now) × ArePositions played.tree played.positions
@@ -115,6 +117,7 @@ const ROOM: usize = MAX_POINTS as usize;
 
 // Adds the hits of a game.
 fn search_game(game: usize, tree: &GameTree, hits: &mut Vec<Hit>) -> Result<(), NoMemory>
+    requires { IsSimple tree.now }
     ensures { OnOk result ((played : Game) × (played.tree ≡ tree.now) × ArePositions played.tree played.positions
         × (hits.new.items ≡ hits.old.items ++ hits_in game played)) }
 {
@@ -123,8 +126,9 @@ fn search_game(game: usize, tree: &GameTree, hits: &mut Vec<Hit>) -> Result<(), 
     search_nodes(game, tree, &mut stood[..points], hits)
 }
 
-/// The hits in games, which are numbered from 0.
+/// The hits in games, all simple, which are numbered from 0.
 pub(crate) fn search(alloc: Global, trees: &[GameTree]) -> Result<Vec<Hit>, NoMemory>
+    requires { All IsSimple trees.now }
     ensures { IfOk result (λ hits. (games : List Game) × AreGames trees.now games × (hits.items ≡ hits_from 0 games)) }
 {
     let mut hits = Vec::new(alloc);

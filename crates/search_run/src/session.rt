@@ -1,9 +1,10 @@
 // A session: what it has imported, and the text of each statement.
-ghost use Rattle.std.specs.Prelude.{◌≡◌, ◌<◌, ◌≤◌, ◌+◌, ◌-◌, ◌^◌, ◌++◌, ◌∷◌, [], length, List, IfOk, OnOk, string_bytes};
+ghost use Rattle.std.specs.Prelude.{◌≡◌, ◌<◌, ◌≤◌, ◌+◌, ◌-◌, ◌^◌, ◌++◌, ◌∷◌, [], length, List, IfOk, OnErr, OnOk, string_bytes};
 ghost use Rattle.search_run.specs.Imported.{found_of};
 ghost use Rattle.search_run.specs.Session.{trees_of};
 
 use crate::import::{Imported, import};
+use crate::outcome::Counts;
 use crate::print::{print_import, print_report, print_search, print_wait};
 use crate::search::search;
 use crate::statement::{Placed, Statement};
@@ -18,23 +19,29 @@ use std::marker::Model;
 pub(crate) struct Session {
     version: u64,
     trees: Vec<GameTree>,
+    counts: Counts,
     /// The report of an import that isn't joined yet, or nothing.
     unjoined: String,
 }
 
 impl Model for Session {
-    ghost use Rattle.std.specs.Prelude.{string_bytes};
+    ghost use Rattle.std.specs.Prelude.{◌≡◌, All, string_bytes};
+    ghost use Rattle.search_run.specs.Outcome.{counts_of};
     ghost use Rattle.search_run.specs.Session.{State};
+    ghost use Rattle.search_run.specs.Simple.{IsSimple};
 
     ghost Value = { State };
 
     ghost view = { λ s. record { version = s.version; trees = s.trees.items; unjoined = string_bytes s.unjoined } };
+
+    ghost invariant = { λ s. (s.counts ≡ counts_of s.trees.items) × All IsSimple s.trees.items };
 }
 
 impl Session {
     ghost use Rattle.kb_edges.specs.Faults.{RoseBy};
     ghost use Rattle.kb_edges.specs.Told.{IfTold};
     ghost use Rattle.search_run.specs.Course.{Found, ImportCourse, IsImported, losses_of};
+    ghost use Rattle.search_run.specs.Outcome.{counts_of};
     ghost use Rattle.search_run.specs.Session.{AreGames, IsText, Leads, after_import, at_start};
     ghost use Rattle.search_run.specs.Hits.{Game, hits_from};
     ghost use Rattle.search_run.specs.Texts.{import_text, search_text, wait_text};
@@ -46,6 +53,7 @@ impl Session {
         Session {
             version: 0,
             trees: Vec::new(alloc),
+            counts: Counts { games: 0, nodes: 0 },
             unjoined: String::new(alloc),
         }
     }
@@ -132,17 +140,18 @@ impl Session {
     ) -> Result<(), NoMemory>
         requires { self.old.version < 2 ^ 64 - 1 }
         ensures passed { IfTold (F.files folder.old) (λ files. OnOk result ((entry : ImportCourse) × (found : Found)
-            × IsImported files path.now entry found × (self.new ≡ after_import self.old line found)
+            × IsImported files path.now (counts_of self.old.trees) entry found × (self.new ≡ after_import self.old line found)
             × RoseBy (losses_of (entry ∷ [])) (F.faults folder.old) (F.faults folder.new))) }
         ensures version { OnOk result (self.new.version ≤ self.old.version + 1) }
         ensures same { F.files folder.new ≡ F.files folder.old }
         ensures later { F.faults folder.old ≤ F.faults folder.new }
     {
-        let imported = import(alloc, folder, path)?;
+        let (imported, counts) = import(alloc, folder, path, self.counts)?;
         let version = self.version + imported.versions();
         let mut report = String::new(alloc);
         print_report(&mut report, line, &imported, version)?;
         add_trees(&mut self.trees, imported)?;
+        self.counts = counts;
         self.version = version;
         self.unjoined = report;
         Ok(())
@@ -151,7 +160,8 @@ impl Session {
 
 // Adds the games that an import found.
 fn add_trees(trees: &mut Vec<GameTree>, imported: Imported) -> Result<(), NoMemory>
-    ensures { OnOk result (trees.new.items ≡ trees.old.items ++ trees_of (found_of imported)) }
+    ensures added { OnOk result (trees.new.items ≡ trees.old.items ++ trees_of (found_of imported)) }
+    ensures kept { OnErr result (trees.new.items ≡ trees.old.items) }
 {
     match imported {
         Imported::Unlisted => {}

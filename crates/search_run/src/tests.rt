@@ -6,6 +6,8 @@ use std::alloc::Global;
 use std::process::Abort;
 use std::test::Fail;
 
+mod imports;
+
 /// A file: its path, its name and its text.
 type File = (&'static str, &'static str, &'static str);
 
@@ -168,47 +170,6 @@ fn imports_waits_and_searches(rt: HostRuntime) -> Result<(), Fail> {
 }
 
 #[test]
-fn files_that_are_not_plain(rt: HostRuntime) -> Result<(), Fail> {
-    let refused = "1 import d\n\
-         1 imported files 1 accepted 0 refused 1 full 0 unread 0 games 0 version 1\n\
-         refused NotYet 0 a.sgf\n\
-         2 wait version 1\n";
-    let texts = [
-        "(;SZ[5];B[aa])",
-        "",
-        "hello",
-        "(;GM[1]FF[4]SZ[20])",
-        "(;GM[1]FF[4]SZ[05])",
-        "(;GM[1]FF[4]SZ[5];B[ff])",
-        "(;GM[1]FF[4]SZ[5];B[aa];W[aa])",
-        "(;GM[1]FF[4]SZ[5];B[])",
-        "(;GM[1]FF[4]SZ[5];B[cc])\n\n",
-        "(;GM[1]FF[4]SZ[5];B[cc]",
-    ];
-    for text in texts {
-        let ended = run(
-            rt.alloc(),
-            &[("d", "a.sgf", text)],
-            "import d\nwait\n",
-            NO_FAULTS,
-        )?;
-        expect_end(&rt, &ended, Status::Done, refused, text);
-    }
-    Ok(())
-}
-
-#[test]
-fn a_folder_without_games(rt: HostRuntime) -> Result<(), Fail> {
-    let cases = [(
-        "import d\nwait\n",
-        "1 import d\n\
-         1 imported files 0 accepted 0 refused 0 full 0 unread 0 games 0 version 0\n\
-         2 wait version 0\n",
-    )];
-    expect_outputs(&rt, rt.alloc(), &[("d", "notes.txt", "hello")], &cases)
-}
-
-#[test]
 fn games_in_order_of_their_names(rt: HostRuntime) -> Result<(), Fail> {
     let files = [
         ("d", "b.sgf", "(;GM[1]FF[4]SZ[9];B[ee];W[ef];B[ff])\n"),
@@ -221,14 +182,13 @@ fn games_in_order_of_their_names(rt: HostRuntime) -> Result<(), Fail> {
     let cases = [(
         "import d\nwait\nsearch same fixed X\n",
         "1 import d\n\
-         1 imported files 4 accepted 3 refused 1 full 0 unread 0 games 3 version 1\n\
-         refused NotYet 0 aa.sgf\n\
+         1 imported files 4 accepted 4 refused 0 full 0 unread 0 games 4 version 1\n\
          2 wait version 1\n\
-         3 search version 1 games 3 hits 4\n\
+         3 search version 1 games 4 hits 4\n\
          hit 0 1 1 0 0 -\n\
          hit 1 2 3 15 0 -\n\
-         hit 2 1 4 4 0 -\n\
-         hit 2 3 5 5 0 -\n\
+         hit 3 1 4 4 0 -\n\
+         hit 3 3 5 5 0 -\n\
          total 4 0 0 0 0 4\n",
     )];
     expect_outputs(&rt, rt.alloc(), &files, &cases)
@@ -258,7 +218,7 @@ fn at_most_64_names(rt: HostRuntime) -> Result<(), Fail> {
             64,
             "1 import d\n\
              1 imported files 64 accepted 63 refused 1 full 0 unread 0 games 63 version 1\n\
-             refused NotYet 0 163.sgf\n\
+             refused NoGame 5 163.sgf\n\
              2 wait version 1\n",
         ),
         (

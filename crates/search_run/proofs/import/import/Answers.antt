@@ -20,8 +20,8 @@ pub returns-then-len-gt-MAX_NAMES-clause-found : goal.returns-then-len-gt-MAX_NA
 returns-then-len-gt-MAX_NAMES-clause-found g c = λ files told.
     let later = c.list.ensures.later in
     let are = AreNames-from_listing files _ _ _ (c.in-Ok.ensures.listing files told) c.sort_names.ensures.kept c.sort_names.ensures.none_added c.sort_names.ensures.ascending in
-    let counted : c.len-then-len-gt-MAX_NAMES.result ≡ length c.sort_names.new.names.items = omega arith in
-    let many : MAX_NAMES < c.len-then-len-gt-MAX_NAMES.result = omega arith in
+    let counted : c.len-listed.result ≡ length c.sort_names.new.names.items = omega arith in
+    let many : MAX_NAMES < c.len-listed.result = omega arith in
     (nothing_lost, (map string_bytes c.sort_names.new.names.items, c.in-Ok.ensures.there files told, are, counted ∙ sym (length-map c.sort_names.new.names.items string_bytes), many, refl), omega (arith, later))
 
 pub returns-clause-found : goal.returns-clause-found
@@ -31,4 +31,4 @@ returns-clause-found g c = λ files told.
     let there = AreNames-there files _ _ are in
     let read = c.in_ok-files.ensures.found files (c.list.ensures.same ∙ told) (rw c.deref.ensures.value there) in
     let few : length names ≤ MAX_NAMES = omega arith in
-    IsImported-read files c.args.path.now names _ _ _ _ _ c.list.ensures.later (c.in-Ok.ensures.there files told) are few (rw c.deref.ensures.value at read)
+    IsImported-read files c.args.path.now c.args.before names _ _ _ _ _ c.list.ensures.later (c.in-Ok.ensures.there files told) are few (rw c.deref.ensures.value at read)

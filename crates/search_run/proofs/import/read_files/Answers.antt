@@ -1,26 +1,29 @@
 use Rattle.std.proofs.Common.{◌≡◌, ◌∙◌, refl, Some, arith}
 use Rattle.std.proofs.lemmas.List.{take_all}
 use Rattle.search_run.proofs.ImportLemmas.{HasReadAll-more, HasReadAll-start, name_there, names_more}
+use Rattle.search_run.proofs.RoomLemmas.{AreAdded-more, AreAdded-none}
 use Rattle.search_run.proofs.import.read_files.Goals as goal
 
 pub loop-name-init : goal.loop-name-init
 loop-name-init g c = record {
   same = refl;
   later = omega arith;
-  read = λ files told there. rw (c.new-files.ensures.items, c.new-trees.ensures.items) (HasReadAll-start files _ _);
+  added = rw c.new-trees.ensures.items (AreAdded-none c.args.before);
+  read = λ files told there. rw (c.new-files.ensures.items, c.new-trees.ensures.items) (HasReadAll-start files _ _ _);
 }
 
 pub loop-name-preserved : goal.loop-name-preserved
 loop-name-preserved g c = record {
   same = c.read_next.ensures.same ∙ c.loop-name.invariant.same;
   later = omega (arith, c.loop-name.invariant.later, c.read_next.ensures.later);
+  added = AreAdded-more c.args.before _ _ _ _ c.loop-name.invariant.added c.in_ok-read_next.ensures.added;
   read = λ files told there.
       let name = c.name-item.result in
       let here = name_there files c.args.path.now c.args.names.now c.loop-name.name-index name there c.loop-name-test.true c.name-item.is in
       let told_now : g.F.Folder.files c.loop-name.folder ≡ Some files = c.loop-name.invariant.same ∙ told in
       let more = c.in_ok-read_next.ensures.found files told_now (rw c.as_str.ensures.value here) in
       rw (names_more c.args.names.now c.loop-name.name-index name c.loop-name-test.true c.name-item.is)
-      (HasReadAll-more files c.args.path.now _ _ _ _ _ _ _ _ _ (c.loop-name.invariant.read files told there) (rw c.as_str.ensures.value at more));
+      (HasReadAll-more files c.args.path.now c.args.before _ _ _ _ _ _ _ _ _ _ c.loop-name.invariant.added.0 (c.loop-name.invariant.read files told there) (rw c.as_str.ensures.value at more));
 }
 
 pub returns-clause-found : goal.returns-clause-found

@@ -1,22 +1,38 @@
-use Rattle.std.proofs.Common.{refl, sym, subst, List}
+use Rattle.std.proofs.Common.{◌≡◌, ◌++◌, ◌∙◌, ap, append-nil, arith, inl, inr, refl, sym, subst, List}
+use Rattle.kb_edges.specs.Faults.{Rose}
 use Rattle.search_run.specs.Course.{FileReport}
 use Rattle.search_run.specs.Reads.{IsOneMoreRead, file_reports}
-use Rattle.search_run.proofs.ImportLemmas.{one_more-accepted, one_more-not_read, one_more-refused, reports_push}
+use Rattle.search_run.proofs.ImportLemmas.{one_more-not_read, one_more-read, reports_push}
+use Rattle.search_run.proofs.RoomLemmas.{All-added, cases_unread, unread_adds_none}
 use Rattle.search_run.proofs.import.read_next.Goals as goal
-use Rattle.search_run.proofs.import.read_next.Goals.{in-Plain+in_ok-push-in-Plain, in-NotPlain, in-Failed}
 
 pub returns-clause-found : goal.returns-clause-found
 returns-clause-found g c = λ files told there.
+    let path = c.args.path.now in
     let name = c.args.name.now in
     let before = g.F.Folder.faults c.args.folder.now in
-    let now = g.F.Folder.faults c.read_file.new.folder in
+    let now = g.F.Folder.faults c.import_one.new.folder in
+    let counts = c.args.counts.now in
     let reports = file_reports c.args.files.now.items in
     let trees = c.args.trees.now.items in
-    let found = c.in_ok-tree.ensures.found files told there in
-    let pushed = reports_push c.args.files.now.items c.push-2.new.self.items _ name c.in_ok-push.ensures.items c.in_ok-own_name.ensures.ok in
-    subst (λ (more : List FileReport). IsOneMoreRead files c.args.path.now name before now reports trees more c.match-branch-3.trees.items) (sym pushed)
-    (elim c.match-branch-3.branch [
-      | in-Plain+in_ok-push-in-Plain w ↦ one_more-accepted files c.args.path.now name before now reports trees _ _ w.in-Plain.tree (rw w.in-Plain.is at found) c.read_file.ensures.later w.outcome-is (rw w.trees-is w.in_ok-push-in-Plain.ensures.items)
-      | in-NotPlain w ↦ one_more-refused files c.args.path.now name before now reports trees _ _ (rw w.in-NotPlain.is at found) c.read_file.ensures.later w.outcome-is (rw w.trees-is refl)
-      | in-Failed w ↦ one_more-not_read files c.args.path.now name before now reports trees _ _ (rw w.in-Failed.is at found) w.outcome-is (rw w.trees-is refl)
+    let outcome = c.in_ok-outcome.outcome in
+    let games = c.in_ok-outcome.games.items in
+    let more_trees = c.append.new.self.items in
+    let appended : more_trees ≡ trees ++ games = c.in_ok-append.ensures.items in
+    let pushed = reports_push c.args.files.now.items c.push.new.self.items _ name c.in_ok-push.ensures.items c.in_ok-own_name.ensures.ok in
+    subst (λ (more : List FileReport). IsOneMoreRead files path name before now counts reports trees more more_trees) (sym pushed)
+    (elim (cases_unread outcome) [
+      | inl is ↦
+          let none = unread_adds_none counts outcome games is c.in_ok-outcome.ensures.added in
+          let rose : Rose before now = elim (c.in_ok-outcome.ensures.unread files told is) [ inl up ↦ up | inr gone ↦ absurd (gone there) ] in
+          one_more-not_read files path name before now counts reports trees outcome more_trees rose is (appended ∙ ap (λ gs. trees ++ gs) none ∙ append-nil trees)
+      | inr other ↦ one_more-read files path name before now counts reports trees outcome more_trees games (c.in_ok-outcome.ensures.outcome files told other) c.import_one.ensures.later appended
     ])
+
+pub returns-clause-added : goal.returns-clause-added
+returns-clause-added g c = record {
+  added = c.in_ok-outcome.games.items;
+  pushed = c.in_ok-append.ensures.items;
+  counted = rw c.deref.ensures.value at c.with_added.ensures;
+  simple = All-added c.args.counts.now c.in_ok-outcome.outcome c.in_ok-outcome.games.items c.in_ok-outcome.ensures.added;
+}

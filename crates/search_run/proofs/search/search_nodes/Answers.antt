@@ -21,11 +21,11 @@ loop-node-preserved c =
     record {
       room = c.add_hits.auto.stood ∙ c.loop-node.invariant.room;
       shape = c.advance.ensures.shape ∙ c.loop-node.invariant.shape;
-      played = PlayedTo-more tree c.node_count-node-end.ensures.tree c.node_count-node-end.ensures.line c.args.game c.loop-node.board.position c.advance.new.board.position c.loop-node.stood c.add_hits.new.stood c.args.hits.now.items c.loop-node.hits.items c.add_hits.new.hits.items n below c.loop-node.invariant.played moved added noted;
+      played = PlayedTo-more tree c.node_count-node-end.ensures.tree c.requires.simple c.args.game c.loop-node.board.position c.advance.new.board.position c.loop-node.stood c.add_hits.new.stood c.args.hits.now.items c.loop-node.hits.items c.add_hits.new.hits.items n below c.loop-node.invariant.played moved added noted;
     }
 
 pub returns : goal.returns
 returns c =
     let tree = c.args.tree.now in
     let all : c.loop-node.node ≡ node_count tree = omega (arith, c.node_count-node-end.ensures.value) in
-    PlayedTo-end tree c.node_count-node-end.ensures.tree c.node_count-node-end.ensures.line c.args.game c.loop-node.board.position c.loop-node.stood c.args.hits.now.items c.loop-node.hits.items (subst (PlayedTo c.args.game tree c.loop-node.board.position c.loop-node.stood c.args.hits.now.items c.loop-node.hits.items) all c.loop-node.invariant.played)
+    PlayedTo-end tree c.node_count-node-end.ensures.tree c.requires.simple c.args.game c.loop-node.board.position c.loop-node.stood c.args.hits.now.items c.loop-node.hits.items (subst (PlayedTo c.args.game tree c.loop-node.board.position c.loop-node.stood c.args.hits.now.items c.loop-node.hits.items) all c.loop-node.invariant.played)

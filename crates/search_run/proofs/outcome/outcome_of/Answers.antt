@@ -1,0 +1,31 @@
+use Rattle.std.proofs.Common.{◌≡◌, ◌≤◌, ◌∙◌, Err, ap, arith, inl, inr, length, sym}
+use Rattle.std.proofs.lemmas.Bool.{false≢true}
+use Rattle.search_run.specs.Outcome.{HaveGames, not_yet, refused}
+use Rattle.search_run.proofs.RoomLemmas.{IsOutcome-in_room, few_trees}
+use Rattle.search_run.proofs.outcome.outcome_of.Goals as goal
+
+pub returns-in-Err-Fault : goal.returns-in-Err-Fault
+returns-in-Err-Fault c =
+    let first = c.in-Err-Fault.ensures.fault c.in-Err-Fault.fault (ap Err c.in-Err-Fault.field-0-is) in
+    rw (c.in-Err-Fault.field-0-is, c.new.ensures.items) (refused (inl first))
+
+pub returns-in-Err-Fault-build : goal.returns-in-Err-Fault-build
+returns-in-Err-Fault-build c =
+    let first = c.in-Err-Fault-build.ensures.fault c.in-Err-Fault-build.fault (ap Err c.in-Err-Fault-build.field-0-is) in
+    rw (c.in-Err-Fault-build.field-0-is, c.new-in-Err-Fault-build.ensures.items) (refused (inr (c.in-Ok.collection, c.in-Ok.ensures.ok, first)))
+
+pub returns-then-not-are_simple : goal.returns-then-not-are_simple
+returns-then-not-are_simple c =
+    let have : HaveGames c.args.bytes.now c.in-Ok-build.trees.items = (c.in-Ok.collection, c.in-Ok.ensures.ok, c.in-Ok-build.ensures.no_fault, c.in-Ok-build.ensures.ok) in
+    rw c.new-then-not-are_simple.ensures.items (not_yet c.in-Ok-build.trees.items have (λ simple. false≢true (sym c.if-not-are_simple.true ∙ c.are_simple.ensures.1 (rw c.deref.ensures.value simple))))
+
+pub in_room-requires : goal.in_room-requires
+in_room-requires c =
+    let few = few_trees c.args.bytes.now c.in-Ok.collection c.in-Ok-build.trees.items c.in-Ok.ensures.ok c.in-Ok-build.ensures.ok in
+    omega (arith, few)
+
+pub returns : goal.returns
+returns c =
+    let have : HaveGames c.args.bytes.now c.in-Ok-build.trees.items = (c.in-Ok.collection, c.in-Ok.ensures.ok, c.in-Ok-build.ensures.no_fault, c.in-Ok-build.ensures.ok) in
+    let simple = rw c.deref.ensures.value at (c.are_simple.ensures.0 c.if-not-are_simple.false) in
+    IsOutcome-in_room c.args.bytes.now c.args.before c.in-Ok-build.trees.items c.in_room.result.0 c.in_room.result.1.items have simple c.in_room.ensures

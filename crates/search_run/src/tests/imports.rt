@@ -1,0 +1,211 @@
+// Imports of whole texts: what becomes of a file by its bytes. The offsets were counted by hand.
+use super::{Ended, File, NO_FAULTS, expect_end, expect_outputs, run, run_words};
+use crate::{Counts, FileOutcome, MAX_BASE_GAMES, MAX_BASE_NODES, Status, import_one};
+use kb_edges::{FileEntry, MemoryFolder};
+use std::alloc::Global;
+use std::test::Fail;
+
+/// The import of one file `a.sgf` of this text, and what its report says.
+fn import_text(alloc: Global, text: Vec<u8>) -> Result<Ended, Fail> {
+    let mut files = Vec::new(alloc);
+    files.push(FileEntry {
+        path: String::from_str(alloc, "d")?,
+        name: String::from_str(alloc, "a.sgf")?,
+        bytes: text,
+    })?;
+    run_words(
+        alloc,
+        &[],
+        files,
+        b"import d\nwait\n".to_vec(alloc)?,
+        NO_FAULTS,
+    )
+}
+
+/// The report of one file that is refused, with the fault's word and its offset.
+fn refused_report(alloc: Global, fault: &str) -> Result<String, Fail> {
+    Ok(format!(in alloc;
+        "1 import d\n\
+         1 imported files 1 accepted 0 refused 1 full 0 unread 0 games 0 version 1\n\
+         refused {fault} a.sgf\n\
+         2 wait version 1\n"
+    )?)
+}
+
+#[test]
+fn refused_texts(rt: HostRuntime) -> Result<(), Fail> {
+    let alloc = rt.alloc();
+    let cases = [
+        ("", "NoGame 0"),
+        ("hello", "NoGame 5"),
+        ("(;B[aa]", "Ended 7"),
+        ("(;SZ[5];b[aa])", "Unexpected 9"),
+        ("(;GM[2])", "NotGo 4"),
+        ("(;SZ[20])", "BadSize 4"),
+        ("(;SZ[9];B[jj])", "BadPoint 9"),
+        ("(;B[aa]W[bb])", "TwoMoves 8"),
+        // the second game is bad, and the first isn't added
+        ("(;SZ[5])(;SZ[0])", "BadSize 12"),
+        // games that aren't simple: a setup, a variation, a point that is played twice, a result
+        ("(;SZ[5]AB[aa])", "NotYet 0"),
+        ("(;SZ[5];B[aa](;W[bb])(;W[cc]))", "NotYet 0"),
+        ("(;SZ[5];B[aa];W[aa])", "NotYet 0"),
+        ("(;SZ[5]RE[B+R];B[aa])", "NotYet 0"),
+        // the second game isn't simple
+        ("(;SZ[5])(;SZ[5]AW[bb])", "NotYet 0"),
+    ];
+    for (text, fault) in cases {
+        let report = refused_report(alloc, fault)?;
+        let ended = import_text(alloc, text.as_bytes().to_vec(alloc)?)?;
+        expect_end(&rt, &ended, Status::Done, report.as_str(), text);
+    }
+    Ok(())
+}
+
+/// A text with a piece that is repeated.
+fn repeated(
+    alloc: Global,
+    before: &str,
+    piece: &str,
+    count: u32,
+    after: &str,
+) -> Result<Vec<u8>, Fail> {
+    let mut text = before.as_bytes().to_vec(alloc)?;
+    for _ in 0..count {
+        text.extend_from_slice(piece.as_bytes())?;
+    }
+    text.extend_from_slice(after.as_bytes())?;
+    Ok(text)
+}
+
+#[test]
+fn texts_past_the_limits(rt: HostRuntime) -> Result<(), Fail> {
+    let alloc = rt.alloc();
+    let cases = [
+        ("", " ", 16_777_217, "", "TooLong 16777216"),
+        ("", "(;", 1_025, "", "TooDeep 2048"),
+        ("(", ";", 65_537, ")", "TooManyNodes 65537"),
+        ("", "(;)", 65_537, "", "TooManyGames 196608"),
+    ];
+    for (before, piece, count, after, fault) in cases {
+        let report = refused_report(alloc, fault)?;
+        let ended = import_text(alloc, repeated(alloc, before, piece, count, after)?)?;
+        expect_end(&rt, &ended, Status::Done, report.as_str(), fault);
+    }
+    Ok(())
+}
+
+#[test]
+fn accepted_texts(rt: HostRuntime) -> Result<(), Fail> {
+    let alloc = rt.alloc();
+    let cases = [
+        ("(;SZ[5];B[aa])", 1),
+        ("(;)", 1),
+        // a board that isn't square, a pass, and a node without a move
+        ("(;SZ[5:3];B[];;W[ec])", 1),
+        // texts around trees, the first of them a byte order mark
+        (
+            "\u{feff}Hello (see below)\n(;SZ[5];B[aa])\n-- \n(;SZ[5])( ;SZ[5])",
+            3,
+        ),
+    ];
+    for (text, games) in cases {
+        let report = format!(in alloc;
+            "1 import d\n\
+             1 imported files 1 accepted 1 refused 0 full 0 unread 0 games {games} version 1\n\
+             2 wait version 1\n"
+        )?;
+        let ended = import_text(alloc, text.as_bytes().to_vec(alloc)?)?;
+        expect_end(&rt, &ended, Status::Done, report.as_str(), text);
+    }
+    Ok(())
+}
+
+#[test]
+fn searches_of_several_games(rt: HostRuntime) -> Result<(), Fail> {
+    // A pass, a node without a move and a board that isn't square: the points have their columns and rows.
+    let files: [File; 2] = [
+        ("d", "a.sgf", "(;SZ[5];B[aa])(;SZ[5:3];W[];;B[ec])"),
+        ("d", "b.sgf", "(;SZ[3];W[aa];B[bb])"),
+    ];
+    let cases = [(
+        "import d\nwait\nsearch same fixed X\n",
+        "1 import d\n\
+         1 imported files 2 accepted 2 refused 0 full 0 unread 0 games 3 version 1\n\
+         2 wait version 1\n\
+         3 search version 1 games 3 hits 3\n\
+         hit 0 1 0 0 0 -\n\
+         hit 1 3 4 2 0 -\n\
+         hit 2 2 1 1 0 -\n\
+         total 3 0 0 0 0 3\n",
+    )];
+    expect_outputs(&rt, rt.alloc(), &files, &cases)
+}
+
+#[test]
+fn folders_without_games(rt: HostRuntime) -> Result<(), Fail> {
+    let cases = [
+        (
+            "notes.txt",
+            "1 import d\n\
+             1 imported files 0 accepted 0 refused 0 full 0 unread 0 games 0 version 0\n\
+             2 wait version 0\n",
+        ),
+        (
+            "a.sgf",
+            "1 import d\n\
+             1 imported files 1 accepted 0 refused 1 full 0 unread 0 games 0 version 1\n\
+             refused NoGame 5 a.sgf\n\
+             2 wait version 1\n",
+        ),
+    ];
+    for (name, written) in cases {
+        let files: [File; 1] = [("d", name, "hello")];
+        let ended = run(rt.alloc(), &files, "import d\nwait\n", NO_FAULTS)?;
+        expect_end(&rt, &ended, Status::Done, written, name);
+    }
+    Ok(())
+}
+
+#[test]
+fn room_in_the_base(rt: HostRuntime) -> Result<(), Fail> {
+    let alloc = rt.alloc();
+    let accepted = FileOutcome::Accepted { games: 1 };
+    let cases = [
+        (0, 0, accepted, 1),
+        (MAX_BASE_GAMES - 1, 0, accepted, 1),
+        (
+            MAX_BASE_GAMES,
+            0,
+            FileOutcome::Full {
+                games: 400_001,
+                nodes: 1,
+            },
+            0,
+        ),
+        (0, MAX_BASE_NODES - 1, accepted, 1),
+        (
+            0,
+            MAX_BASE_NODES,
+            FileOutcome::Full {
+                games: 1,
+                nodes: 67_108_865,
+            },
+            0,
+        ),
+    ];
+    for (games, nodes, outcome, count) in cases {
+        let mut files = Vec::new(alloc);
+        files.push(FileEntry {
+            path: String::from_str(alloc, "d")?,
+            name: String::from_str(alloc, "a.sgf")?,
+            bytes: b"(;SZ[5])".to_vec(alloc)?,
+        })?;
+        let mut folder = MemoryFolder::new(files, Vec::new(alloc));
+        let before = Counts { games, nodes };
+        let (found, trees) = import_one(alloc, &mut folder, "d", "a.sgf", before)?;
+        assert_eq!(rt; found, outcome, "{games} games and {nodes} nodes");
+        assert_eq!(rt; trees.len(), count, "{games} games and {nodes} nodes");
+    }
+    Ok(())
+}
