@@ -107,7 +107,10 @@ pub(crate) fn with_added(before: Counts, outcome: FileOutcome, games: &[GameTree
 {
     match outcome {
         FileOutcome::Accepted { games: _count } => with_games(before, games),
-        FileOutcome::Refused { kind: _kind, at: _at } => before,
+        FileOutcome::Refused {
+            kind: _kind,
+            at: _at,
+        } => before,
         FileOutcome::NotYet => before,
         FileOutcome::Full {
             games: _games,

@@ -31,10 +31,10 @@ loop-node-preserved c =
           let number : w.from-number.result ≡ number_of tree.shape p = rw c.shape-shape.ensures.value at (w.from-number.ensures ∙ w.number.ensures.value) in
           let free = rw number at w.if-marks-number.false in
           let within : number_of tree.shape p < length c.loop-node.marks =
-              let in_range = rw (w.number.ensures.value, c.shape-shape.ensures.value) at w.number.ensures.in_range in
-              let most = point_count-le-room tree.shape in
-              let room = c.loop-node.invariant.room in
-              omega (arith, in_range, most, room) in
+          let in_range = rw (w.number.ensures.value, c.shape-shape.ensures.value) at w.number.ensures.in_range in
+          let most = point_count-le-room tree.shape in
+          let room = c.loop-node.invariant.room in
+          omega (arith, in_range, most, room) in
           rw (w.marks-is, number) (MarkedTo-more tree c.loop-node.marks n p here within free c.loop-node.invariant)
       | in_default w ↦ rw w.marks-is (MarkedTo-none tree c.loop-node.marks n (sym c.point_of.ensures.value ∙ w.in_default.is) c.loop-node.invariant)
     ]
