@@ -1,9 +1,9 @@
 -- A game that is built node by node.
-use Rattle.std.proofs.Common.{◌≡◌, ◌≢◌, ◌⊎◌, ◌≤◌, ◌<◌, ◌+◌, ◌++◌, ◌∙◌, ℕ, zero, suc, List, [], ◌∷◌, All, AllPairs, Contains, Option, Some, None, IfSome, refl, sym, ap, subst, arith, length, length-append, get_or, map, take, drop, length-take-le, add-one, flat_map, inl, inr, codes}
+use Rattle.std.proofs.Common.{◌≡◌, ◌⊎◌, ◌≤◌, ◌<◌, ◌+◌, ◌++◌, ◌∙◌, ℕ, zero, suc, List, [], ◌∷◌, All, Contains, Option, Some, None, IfSome, refl, sym, ap, subst, arith, length, length-append, get_or, take, drop, length-take-le, add-one, inl, inr}
 use Rattle.std.specs.List.{AllZip}
 use Rattle.std.proofs.Math.Seq.{split_at}
 use Rattle.std.proofs.lemmas.Grind.{flat_map-append}
-use Rattle.std.proofs.lemmas.List.{append-nil, get_or_default, get_or-map, length-map, map-append, take_more}
+use Rattle.std.proofs.lemmas.List.{append-nil, get_or-map, length-map, map-append, take_more}
 use Rattle.std.proofs.lemmas.List.Elements.{All-contains, Contains-push_cases}
 use Rattle.kb_geometry.specs.declared.shape.Shape.{Shape}
 use Rattle.sgf_reader.specs.declared.limits.TheConstants.{MAX_FILE}
@@ -12,7 +12,7 @@ use Rattle.game_tree.specs.declared.node.Move.{Move}
 use Rattle.game_tree.specs.declared.node.Setup.{Setup}
 use Rattle.game_tree.specs.Tree.{Node}
 use Rattle.game_tree.specs.Trees.{AreSetups, IsNodeOf}
-use Rattle.game_tree.proofs.HungTrees.{few_branchings, next_parent}
+use Rattle.game_tree.proofs.HungTrees.{next_parent}
 use Rattle.game_tree.proofs.Parts.{AllPairs-part, All-part, Contains-at}
 use Rattle.game_tree.proofs.ReadCollections.{GameIsRead, games-read}
 use Rattle.sgf_reader.specs.declared.collection.Pair.{Pair}
@@ -20,11 +20,10 @@ use Rattle.sgf_reader.specs.declared.collection.RawGame.{RawGame}
 use Rattle.sgf_reader.specs.declared.collection.RawNode.{RawNode}
 use Rattle.sgf_reader.specs.declared.fault.FaultKind.{FaultKind}
 use Rattle.sgf_reader.specs.declared.fault.SgfFault.{SgfFault}
-use Rattle.game_tree.specs.declared.building.BuildError.{BuildError}
 use Rattle.game_tree.specs.declared.building.BuildError.TheVariants.{Fault}
 use Rattle.game_tree.specs.Built.{Built, IsNextParent, nothing_built, with_node}
 use Rattle.game_tree.specs.NodeValues.{AreRead, Ascend, HasNodeFault, LiesIn, IsFirstNodeFault, with_setups}
-use Rattle.game_tree.specs.RawGames.{HasBuilt, IsNodeBad, IsNodeRead, IsOfText, IsRootBad, by_game, by_value, node_pairs, node_parents, raw_parents}
+use Rattle.game_tree.specs.RawGames.{HasBuilt, IsNodeBad, IsNodeRead, IsOfText, IsRootBad, by_game, by_value, node_pairs, raw_parents}
 
 -- the fault of a root by its values
 pub root_bad-value : (text : List ℕ) (shape : Shape) (root : RawNode) (game : Option SgfFault) (own answer f : SgfFault) → IsFirstNodeFault text shape root.pairs own.kind own.at → Fault answer ≡ Fault f → (answer ≡ own) ⊎ (game ≡ Some answer) → answer.at ≤ own.at → IfSome game (λ (g : SgfFault). answer.at ≤ g.at) → IsRootBad text shape root game f

@@ -1,14 +1,12 @@
 -- Texts with a colon.
-use Rattle.std.proofs.Common.{◌≡◌, ◌≢◌, ◌≤◌, ◌<◌, ◌⊎◌, ◌++◌, ◌∙◌, ◌+◌, ◌-◌, ℕ, zero, suc, List, [], ◌∷◌, All, refl, sym, ap, subst, length, inl, inr, arith, Some, None, Option, IfSome, IsSome}
-use Rattle.std.specs.Char.{digit_value}
-use Rattle.std.specs.Str.Parse.{AllDigits, IsNumeral, digits_value}
+use Rattle.std.proofs.Common.{◌≡◌, ◌≢◌, ◌++◌, ◌∙◌, ℕ, zero, suc, List, [], ◌∷◌, All, refl, sym, subst, inl, inr, arith, Some, None, Option, IfSome, IsSome}
+use Rattle.std.specs.Str.Parse.{AllDigits}
 use Rattle.std.proofs.lemmas.Str.Parse.{digit_from_value}
 use Rattle.kb_geometry.specs.declared.shape.Point.{Point}
 use Rattle.kb_geometry.specs.declared.shape.Rect.{Rect}
 use Rattle.kb_geometry.specs.declared.shape.Shape.{Shape}
 use Rattle.kb_geometry.specs.Board.{cols_of, rows_of}
 use Rattle.game_tree.specs.Value.{IsCoordinate, IsPoint, IsSetupText, IsSideText, IsSize, columns_and_rows, letters, one_point, rectangle, rect_of, square}
-use Rattle.game_tree.proofs.Values.{IsPoint-only, point_letters}
 
 -- the text has no colon
 abbrev pub HasNoColon : List ℕ → Type 0

@@ -1,6 +1,6 @@
 -- The first fault of a game's values.
-use Rattle.std.proofs.Common.{◌≡◌, ◌≢◌, ◌⊎◌, ◌≤◌, ◌<◌, ◌+◌, ◌-◌, ◌++◌, ◌∙◌, ℕ, zero, suc, List, [], ◌∷◌, All, AllPairs, Contains, Option, Some, None, refl, sym, ap, subst, arith, length, length-append, get_or, flat_map, inl, inr, append_assoc, codes, true, false, Bool, IsTrue, IfSome, cond}
-use Rattle.std.specs.Prelude.{count_by, find, is_some, slice_get}
+use Rattle.std.proofs.Common.{◌≡◌, ◌≢◌, ◌⊎◌, ◌≤◌, ◌<◌, ◌++◌, ◌∙◌, ℕ, zero, suc, List, [], ◌∷◌, All, Contains, Option, Some, None, refl, sym, ap, subst, arith, length, get_or, inl, inr, codes, true, false, Bool, IfSome, cond}
+use Rattle.std.specs.Prelude.{is_some, slice_get}
 use Rattle.std.specs.Option.{option_map_or}
 use Rattle.std.specs.Str.{bytes_eq}
 use Rattle.std.proofs.lemmas.Bool.{cases_order}
@@ -17,12 +17,12 @@ use Rattle.sgf_reader.specs.declared.fault.FaultKind.TheVariants as kind
 use Rattle.sgf_reader.specs.declared.fault.SgfFault.{SgfFault}
 use Rattle.game_tree.specs.GameFaults.{HasGameFault, IsFirstGameFault, in_node, no_size, other_game, second_move}
 use Rattle.game_tree.specs.NodeValues.{Ascend, ComesFirst, HasNodeFault, HasPairFault, IsFirstNodeFault, LiesIn, bad_move, bad_setup, second_of_two}
-use Rattle.game_tree.specs.Property.{bytes_of, first_pair, identifier_of, is_of, mover_named, mover_of, offset_of, root_pairs, setter_named, setter_of}
+use Rattle.game_tree.specs.Property.{first_pair, identifier_of, is_of, mover_named, mover_of, offset_of, root_pairs, setter_named, setter_of}
 use Rattle.game_tree.specs.Roots.{IsGameFault, IsOtherGame, IsSecond, IsSecondMove, IsSizeFault, first_in, one_at_most, same_game, second_stands}
 use Rattle.game_tree.specs.Roots as roots
 use Rattle.game_tree.proofs.SecondMoves.{second_once}
-use Rattle.game_tree.specs.ValueFaults.{IsBoard, IsMove}
-use Rattle.game_tree.proofs.Parts.{AllPairs-across, AllPairs-back, AllPairs-front, Contains-head, Contains-later}
+use Rattle.game_tree.specs.ValueFaults.{IsBoard}
+use Rattle.game_tree.proofs.Parts.{AllPairs-across, AllPairs-back, Contains-head, Contains-later}
 use Rattle.game_tree.specs.RawGames.{node_pairs}
 
 -- ---- names

@@ -1,5 +1,5 @@
 -- One value of a node: what it does, and what is wrong with it.
-use Rattle.std.proofs.Common.{◌≡◌, ◌∙◌, ◌+◌, ◌++◌, arith, Ok, ℕ, List, [], Option, Some, None, Err, refl, sym, ap, subst, true, false, IfOk, IfSome, IsTrue}
+use Rattle.std.proofs.Common.{◌≡◌, ◌∙◌, ◌+◌, ◌++◌, arith, Ok, ℕ, List, [], Option, Some, None, Err, refl, sym, ap, subst, true, false, IfOk, IsTrue}
 use Rattle.std.specs.Prelude.{Result, is_some}
 use Rattle.kb_geometry.specs.declared.shape.Point.{Point}
 use Rattle.kb_geometry.specs.declared.shape.Rect.{Rect}
@@ -11,15 +11,15 @@ use Rattle.sgf_reader.specs.declared.fault.FaultKind.{FaultKind}
 use Rattle.sgf_reader.specs.declared.fault.FaultKind.TheVariants as kind
 use Rattle.sgf_reader.specs.declared.fault.SgfFault.{SgfFault}
 use Rattle.game_tree.specs.declared.building.BuildError.{BuildError}
-use Rattle.game_tree.specs.declared.building.BuildError.TheVariants.{Fault, NoMemory}
+use Rattle.game_tree.specs.declared.building.BuildError.TheVariants.{Fault}
 use Rattle.game_tree.specs.declared.node.Move.{Move}
 use Rattle.game_tree.specs.declared.property.Property.{Property}
 use Rattle.game_tree.specs.declared.property.Property.TheVariants as property
-use Rattle.game_tree.specs.NodeValues.{IsValueBad, IsValueRead, no_move, no_setup, nothing, plays, second_move, sets, setups_of, with_setups}
+use Rattle.game_tree.specs.NodeValues.{IsValueBad, IsValueRead, no_move, no_setup, plays, second_move, sets, setups_of, with_setups}
 use Rattle.std.proofs.lemmas.List.{append-nil}
 use Rattle.game_tree.specs.Built.{Built}
 use Rattle.game_tree.specs.declared.node.Setup.{Setup}
-use Rattle.game_tree.specs.Property.{bytes_of, mover_named, mover_of, identifier_of, offset_of, property_by, property_named, setter_named, setter_of}
+use Rattle.game_tree.specs.Property.{bytes_of, mover_of, identifier_of, property_by, property_named, setter_of}
 use Rattle.game_tree.specs.Value.{IsMoveValue, IsSetupValue}
 use Rattle.game_tree.specs.ValueFaults.{IsMove}
 

@@ -1,8 +1,8 @@
 -- Claims on each element of a list, and of its parts.
-use Rattle.std.proofs.Common.{◌≡◌, ◌<◌, ◌++◌, ◌+◌, ◌≤◌, ◌-◌, ℕ, zero, suc, refl, List, [], ◌∷◌, All, AllPairs, Contains, flat_map, get_or, length, length-append, arith, sym, subst, ap, ◌∙◌, inl, inr, ◌⊎◌}
+use Rattle.std.proofs.Common.{◌≡◌, ◌<◌, ◌++◌, ◌+◌, ◌-◌, ℕ, zero, suc, refl, List, [], ◌∷◌, All, AllPairs, Contains, flat_map, get_or, length, length-append, arith, subst, ap, ◌∙◌}
 use Rattle.std.proofs.Math.Seq.{get_or-append_right}
 use Rattle.std.proofs.lemmas.List.{get_or_append_left, get_or_default}
-use Rattle.std.proofs.lemmas.List.Elements.{All-append, All-cons, All-contains, All-head, All-nil, All-tail, Contains-append_left, Contains-append_right}
+use Rattle.std.proofs.lemmas.List.Elements.{All-cons, All-head, All-nil, All-tail}
 
 module _ {X : Type 0} (P : X → Type 0) where
   pub All-front : (xs ys : List X) → All P (xs ++ ys) → All P xs

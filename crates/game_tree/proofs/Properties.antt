@@ -1,5 +1,5 @@
 -- Properties by their identifiers.
-use Rattle.std.proofs.Common.{◌≡◌, ◌≢◌, ℕ, List, [], ◌∷◌, false, ◌&&◌, nat_eq, refl, sym}
+use Rattle.std.proofs.Common.{◌≡◌, ◌≢◌, ℕ, List, [], ◌∷◌, false, nat_eq, refl}
 use Rattle.std.proofs.Math.Bool.{and-false}
 use Rattle.game_tree.specs.declared.property.Property.TheVariants as property
 use Rattle.std.specs.Str.{bytes_eq}

@@ -1,17 +1,16 @@
 -- What is known of the raw games of a text without a fault.
-use Rattle.std.proofs.Common.{◌≡◌, ℕ, ◌+◌, ◌-◌, ◌<◌, ◌≤◌, ap, sym, subst, refl, ◌∙◌, arith, List, [], ◌∷◌, ◌++◌, length, map, get_or, Option, Some, None, All, AllPairs, Contains, flat_map}
+use Rattle.std.proofs.Common.{◌≡◌, ℕ, ◌≤◌, ap, sym, subst, refl, ◌∙◌, arith, List, [], ◌∷◌, ◌++◌, length, map, All, Contains, flat_map}
 use Rattle.std.proofs.lemmas.List.{length-map}
 use Rattle.std.proofs.lemmas.List.Elements.{All-append, All-cons, All-head, All-nil, All-tail}
 use Rattle.sgf_reader.specs.declared.collection.Collection.{Collection}
 use Rattle.sgf_reader.specs.declared.collection.Pair.{Pair}
 use Rattle.sgf_reader.specs.declared.collection.RawGame.{RawGame}
-use Rattle.sgf_reader.specs.declared.collection.RawNode.{RawNode}
 use Rattle.sgf_reader.specs.declared.limits.TheConstants.{MAX_NODES, MAX_OPEN}
-use Rattle.sgf_reader.specs.Grammar.{HasGames, SpelledGame, SpelledNode, collection_of, raw_game, raw_node}
-use Rattle.sgf_reader.specs.Faults.{HasRead, IsRead}
+use Rattle.sgf_reader.specs.Grammar.{SpelledGame, SpelledNode, raw_game, raw_node}
+use Rattle.sgf_reader.specs.Faults.{IsRead}
 use Rattle.sgf_reader.proofs.NodeParents.{AreHung}
-use Rattle.sgf_reader.proofs.ReadBounds.{GameFits, GamesFit, NodeFits, PairFits, read-bounds}
-use Rattle.sgf_reader.proofs.ReadAscending.{IsBefore, all_pairs, pairs_of_nodes, read-ascending}
+use Rattle.sgf_reader.proofs.ReadBounds.{GameFits, NodeFits, PairFits, read-bounds}
+use Rattle.sgf_reader.proofs.ReadAscending.{all_pairs, pairs_of_nodes, read-ascending}
 use Rattle.sgf_reader.proofs.ReadParents.{depths_of, parents_of, read-parents}
 use Rattle.sgf_reader.proofs.ValuePlaces.{IsBehindBracket, read-behind_bracket}
 use Rattle.game_tree.specs.NodeValues.{Ascend, LiesIn}

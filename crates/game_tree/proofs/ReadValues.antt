@@ -1,24 +1,22 @@
 -- The values of a node, one after another.
-use Rattle.std.proofs.Common.{◌≡◌, ◌⊎◌, ◌≤◌, ◌<◌, ◌+◌, ◌-◌, ◌++◌, ◌∙◌, ℕ, zero, suc, List, [], ◌∷◌, All, AllPairs, Option, Some, None, refl, sym, ap, subst, arith, length, length-append, inl, inr, append_assoc, true, IsTrue, get_or, take, drop, nat_eq, false, cond}
+use Rattle.std.proofs.Common.{◌≡◌, ◌⊎◌, ◌≤◌, ◌<◌, ◌+◌, ◌++◌, ◌∙◌, ℕ, suc, List, [], ◌∷◌, Option, Some, None, refl, sym, ap, subst, arith, length, length-append, inl, inr, append_assoc, true, get_or, take, drop, nat_eq, false, cond}
 use Rattle.std.specs.Prelude.{count_by, is_some}
 use Rattle.std.proofs.Math.Bool.{and-false}
 use Rattle.std.proofs.Math.Seq.{get_or-append_seam, split_at}
 use Rattle.std.proofs.lemmas.List.{take_more}
 use Rattle.std.proofs.lemmas.List.Sums.{sum_by_push}
-use Rattle.kb_geometry.specs.declared.shape.Point.{Point}
-use Rattle.kb_geometry.specs.declared.shape.Rect.{Rect}
 use Rattle.kb_geometry.specs.declared.shape.Shape.{Shape}
 use Rattle.sgf_reader.specs.declared.collection.Pair.{Pair}
 use Rattle.sgf_reader.specs.declared.fault.FaultKind.{FaultKind}
 use Rattle.sgf_reader.specs.declared.fault.FaultKind.TheVariants as kind
 use Rattle.game_tree.specs.declared.node.Move.{Move}
 use Rattle.game_tree.specs.declared.node.Setup.{Setup}
-use Rattle.game_tree.specs.NodeValues.{AreRead, Ascend, ComesFirst, HasNodeFault, HasPairFault, IsFirstNodeFault, IsValueBad, IsValueRead, LiesIn, bad_move, bad_setup, no_move, no_setup, nothing, plays, second_of_two, second_move, sets, setups_of, with_setups}
+use Rattle.game_tree.specs.NodeValues.{AreRead, Ascend, HasNodeFault, HasPairFault, IsFirstNodeFault, IsValueBad, IsValueRead, bad_move, bad_setup, no_move, no_setup, nothing, plays, second_of_two, second_move, sets, with_setups}
 use Rattle.game_tree.specs.Built.{Built}
-use Rattle.game_tree.specs.Property.{bytes_of, identifier_of, mover_named, mover_of, offset_of, setter_named, setter_of}
+use Rattle.game_tree.specs.Property.{identifier_of, mover_named, mover_of, offset_of, setter_named, setter_of}
 use Rattle.game_tree.specs.Trees.{AreSetups, IsPlayedBy, ignored, move, none, other, set}
 use Rattle.game_tree.specs.ValueFaults.{IsMove}
-use Rattle.game_tree.proofs.Splits.{StandsBefore, compare_splits}
+use Rattle.game_tree.proofs.Splits.{compare_splits}
 
 -- no property both moves and sets
 setter-none : (name : List ℕ) → is_some (mover_named name) ≡ true → setter_named name ≡ None

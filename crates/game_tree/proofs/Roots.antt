@@ -1,5 +1,5 @@
 -- What the root of a game says.
-use Rattle.std.proofs.Common.{◌≡◌, ◌≢◌, ◌∙◌, ℕ, Option, List, [], ◌∷◌, refl, sym, ap, subst, codes, length, arith, Some, None, false, IsTrue, Ok, Err, IfOk}
+use Rattle.std.proofs.Common.{◌≡◌, ◌∙◌, ℕ, Option, List, [], refl, sym, subst, codes, Some, None, false, IsTrue, Ok, Err, IfOk}
 use Rattle.sgf_reader.specs.declared.fault.FaultKind.TheVariants as kind
 use Rattle.sgf_reader.specs.declared.fault.SgfFault.{SgfFault}
 use Rattle.sgf_reader.specs.declared.collection.Pair.{Pair}

@@ -1,5 +1,5 @@
 -- The second move among the values of a node.
-use Rattle.std.proofs.Common.{◌≡◌, ◌≤◌, ◌<◌, ◌+◌, ◌++◌, ◌∙◌, ℕ, suc, List, [], ◌∷◌, Option, Some, None, refl, sym, ap, subst, arith, length, get_or, take, drop, true, false, Bool, cond, inl, inr}
+use Rattle.std.proofs.Common.{◌≡◌, ◌≤◌, ◌<◌, ◌+◌, ◌++◌, ◌∙◌, ℕ, suc, List, ◌∷◌, Some, None, sym, ap, subst, arith, length, get_or, take, drop, true, false, Bool, cond, inl, inr}
 use Rattle.std.specs.Prelude.{count_by, is_some}
 use Rattle.std.proofs.Math.Seq.{split_at}
 use Rattle.std.proofs.lemmas.List.{take_all, take_more}

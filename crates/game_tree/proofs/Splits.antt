@@ -1,5 +1,5 @@
 -- Two splits of one list at an element.
-use Rattle.std.proofs.Common.{◌≡◌, ◌⊎◌, ◌++◌, ◌∙◌, List, [], ◌∷◌, refl, sym, ap, inl, inr, append_assoc}
+use Rattle.std.proofs.Common.{◌≡◌, ◌⊎◌, ◌++◌, List, [], ◌∷◌, refl, inl, inr}
 
 -- the second element stands before the first
 abbrev pub StandsBefore : {A : Type 0} → List A → A → List A → List A → A → List A → Type 0

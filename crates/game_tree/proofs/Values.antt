@@ -1,13 +1,11 @@
 -- The forms of values, read letter by letter.
-use Rattle.std.proofs.Common.{◌≡◌, ◌≢◌, ◌≤◌, ◌<◌, ◌⊎◌, ◌++◌, ◌∙◌, ◌+◌, ◌-◌, ◌*◌, ℕ, zero, suc, get_or, take, drop, List, [], ◌∷◌, All, Option, Some, None, refl, sym, ap, subst, length, min, inl, inr, arith, codes, append_assoc}
+use Rattle.std.proofs.Common.{◌≡◌, ◌≢◌, ◌≤◌, ◌<◌, ◌⊎◌, ◌++◌, ◌∙◌, ◌-◌, ℕ, zero, suc, get_or, take, drop, List, [], ◌∷◌, All, refl, sym, ap, subst, length, inl, inr, arith, append_assoc}
 use Rattle.std.proofs.lemmas.List.{take_all}
 use Rattle.std.proofs.lemmas.List.Elements.{All-append}
 use Rattle.kb_geometry.specs.declared.shape.Point.{Point}
-use Rattle.kb_geometry.specs.declared.shape.Rect.{Rect}
 use Rattle.kb_geometry.specs.declared.shape.Shape.{Shape}
 use Rattle.kb_geometry.specs.Board.{IsOnBoard, cols_of, rows_of}
-use Rattle.game_tree.specs.Property.{IsTrimmed}
-use Rattle.game_tree.specs.Value.{IsCoordinate, IsMoveText, IsMoveValue, IsPoint, IsSetupText, IsSetupValue, ignored, letters, one_point, pass, pass_tt, point, rect_of, rectangle}
+use Rattle.game_tree.specs.Value.{IsCoordinate, IsPoint, letters}
 
 -- ---- points
 

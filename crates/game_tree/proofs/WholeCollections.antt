@@ -1,5 +1,5 @@
 -- A whole collection that is built: its trees, or its first fault.
-use Rattle.std.proofs.Common.{◌≡◌, ◌≢◌, ◌⊎◌, ◌≤◌, ◌<◌, ◌+◌, ◌++◌, ◌∙◌, ℕ, zero, suc, List, [], ◌∷◌, All, Contains, Option, Some, None, refl, sym, ap, subst, arith, length, get_or, map, take, drop, inl, inr, codes, flat_map}
+use Rattle.std.proofs.Common.{◌≡◌, ◌⊎◌, ◌≤◌, ◌<◌, ◌+◌, ◌++◌, ◌∙◌, ℕ, zero, suc, List, [], ◌∷◌, Contains, refl, sym, ap, subst, arith, length, get_or, take, drop, inl, inr, codes}
 use Rattle.std.specs.List.{AllZip}
 use Rattle.std.proofs.Math.Seq.{split_at}
 use Rattle.std.proofs.lemmas.Grind.{flat_map-append}
@@ -10,13 +10,12 @@ use Rattle.sgf_reader.specs.declared.collection.Pair.{Pair}
 use Rattle.sgf_reader.specs.declared.collection.RawGame.{RawGame}
 use Rattle.sgf_reader.specs.declared.collection.RawNode.{RawNode}
 use Rattle.sgf_reader.specs.declared.fault.FaultKind.{FaultKind}
-use Rattle.sgf_reader.specs.declared.fault.FaultKind.TheVariants as kind
 use Rattle.sgf_reader.specs.Faults.{IsRead}
 use Rattle.game_tree.specs.GameFaults.{HasGameFault, IsFirstGameFault}
 use Rattle.game_tree.specs.GameFaults as game
 use Rattle.game_tree.specs.NodeValues.{ComesFirst, HasNodeFault, HasPairFault, LiesIn}
 use Rattle.game_tree.specs.NodeValues as values
-use Rattle.game_tree.specs.Property.{first_pair, offset_of, root_pairs}
+use Rattle.game_tree.specs.Property.{offset_of, root_pairs}
 use Rattle.game_tree.specs.RawGames.{IsOfText, node_pairs}
 use Rattle.game_tree.specs.Tree.{Tree}
 use Rattle.game_tree.specs.Trees.{IsTreeOf}
@@ -25,7 +24,7 @@ use Rattle.game_tree.specs.ValueFaults.{HasValueFault, IsBoard, IsFirstValueFaul
 use Rattle.game_tree.specs.ValueFaults as value
 use Rattle.game_tree.proofs.BuiltGames.{AllZip-push, of_text}
 use Rattle.game_tree.proofs.GameFaults.{find_there, in_game}
-use Rattle.game_tree.proofs.Parts.{AllPairs-across, AllPairs-back, Contains-at, Contains-head}
+use Rattle.game_tree.proofs.Parts.{AllPairs-across, AllPairs-back, Contains-head}
 use Rattle.game_tree.proofs.ReadCollections.{game_pairs, games-read}
 
 -- an element of a list, and what stands around it

@@ -1,5 +1,5 @@
 -- A whole game that is built: its tree, or its first fault.
-use Rattle.std.proofs.Common.{◌≡◌, ◌≢◌, ◌⊎◌, ◌≤◌, ◌<◌, ◌+◌, ◌++◌, ◌∙◌, ℕ, List, [], ◌∷◌, All, Contains, Option, Some, None, IfSome, refl, sym, ap, subst, arith, length, get_or, map, take, inl, inr, codes}
+use Rattle.std.proofs.Common.{◌≡◌, ◌⊎◌, ◌≤◌, ◌<◌, ◌∙◌, ℕ, List, [], ◌∷◌, All, Contains, Option, Some, None, IfSome, sym, ap, subst, arith, length, get_or, inl, inr, codes}
 use Rattle.std.specs.Prelude.{slice_get}
 use Rattle.std.specs.Option.{option_map_or}
 use Rattle.std.specs.List.{AllZip}
@@ -14,7 +14,7 @@ use Rattle.game_tree.specs.declared.building.BuildError.TheVariants.{Fault}
 use Rattle.game_tree.specs.Built.{Built, IsGrown, nothing_built, tree_of, tree_so_far}
 use Rattle.game_tree.specs.GameFaults.{HasGameFault, IsFirstGameFault}
 use Rattle.game_tree.specs.Information.{HasNoControls, HasSimpleTexts, Information}
-use Rattle.game_tree.specs.NodeValues.{Ascend, HasNodeFault, IsFirstNodeFault, LiesIn}
+use Rattle.game_tree.specs.NodeValues.{Ascend, HasNodeFault, LiesIn}
 use Rattle.game_tree.specs.Property.{root_pairs}
 use Rattle.game_tree.specs.RawGames.{HasBuilt, IsNodeBad, IsNodeRead, IsOfText, IsRootBad, by_game, by_value, node_pairs, node_parents, raw_parents}
 use Rattle.game_tree.specs.Roots.{IsGameFault, IsInformationIn, IsSecondMove, IsSizeFault}

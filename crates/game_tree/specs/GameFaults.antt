@@ -1,7 +1,5 @@
 -- For the private functions that build trees: the faults of the values of one game.
-use Rattle.std.specs.Prelude.{◌≡◌, ◌≢◌, ◌⊎◌, ℕ, ◌<◌, List, [], ◌∷◌, ◌++◌, Option, Some, None, Contains, codes, count_by, is_some, IsTrue}
-use Rattle.kb_geometry.specs.declared.shape.Rect.{Rect}
-use Rattle.kb_geometry.specs.declared.shape.Point.{Point}
+use Rattle.std.specs.Prelude.{◌≡◌, ℕ, List, Some, Contains, codes}
 use Rattle.kb_geometry.specs.declared.shape.Shape.{Shape}
 use Rattle.sgf_reader.specs.declared.collection.Pair.{Pair}
 use Rattle.sgf_reader.specs.declared.collection.RawGame.{RawGame}

@@ -1,5 +1,5 @@
 -- SimpleText: how the value of a name, an event, a place, a date or a result is read.
-use Rattle.std.specs.Prelude.{◌≡◌, ◌≢◌, ◌⊎◌, ℕ, ◌<◌, ◌≤◌, List, [], ◌∷◌, ◌++◌}
+use Rattle.std.specs.Prelude.{◌≢◌, ℕ, ◌<◌, ◌≤◌, List, [], ◌∷◌}
 
 -- A line break at the beginning of a text, and what follows it: CR LF (13, 10), LF CR, LF or CR, the longer form first.
 pub data BreaksLine : List ℕ → List ℕ → Type 0 where

@@ -1,5 +1,5 @@
 -- Each value stands behind its bracket `[`.
-use Rattle.std.proofs.Common.{◌≡◌, ℕ, ◌+◌, ◌≤◌, ap, sym, subst, refl, arith, List, [], ◌∷◌, ◌++◌, length, Option, All, flat_map}
+use Rattle.std.proofs.Common.{ℕ, ◌≤◌, sym, subst, arith, List, ◌++◌, Option, All}
 use Rattle.std.proofs.lemmas.Grind.{flat_map-append}
 use Rattle.std.proofs.lemmas.List.Elements.{All-append, All-cons, All-nil}
 use Rattle.sgf_reader.specs.declared.collection.Pair.{Pair}

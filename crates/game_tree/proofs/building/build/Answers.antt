@@ -1,6 +1,6 @@
-use Rattle.std.proofs.Common.{ap, Err, subst, sym, ◌∙◌, ◌+◌}
+use Rattle.std.proofs.Common.{ap, Err, subst, sym, ◌+◌}
 use Rattle.game_tree.proofs.NodeValues.{same_error}
-use Rattle.game_tree.proofs.WholeCollections.{HasBuiltGames, HasBuiltGames-more, HasBuiltGames-start, built-all, game-bad, of_game}
+use Rattle.game_tree.proofs.WholeCollections.{HasBuiltGames, HasBuiltGames-more, HasBuiltGames-start, built-all, game-bad}
 use Rattle.game_tree.proofs.building.build.Goals as goal
 
 pub loop-raw-init : goal.loop-raw-init

@@ -1,4 +1,4 @@
-use Rattle.std.proofs.Common.{ap, Err, refl, sym, ◌∙◌, subst, arith}
+use Rattle.std.proofs.Common.{sym, ◌∙◌}
 use Rattle.game_tree.proofs.NodeValues.{same_error}
 use Rattle.game_tree.proofs.WholeGames.{handed-on, no-board, root-inside, root-there}
 use Rattle.game_tree.proofs.game.build_game.Goals as goal

@@ -1,6 +1,6 @@
-use Rattle.std.proofs.Common.{ap, Err, refl, sym, ◌∙◌, subst, arith}
+use Rattle.std.proofs.Common.{ap, Err, sym, ◌∙◌, arith}
 use Rattle.game_tree.proofs.NodeValues.{same_error}
-use Rattle.game_tree.proofs.WholeGames.{all-clean, built-some, others-bad, root-bad, root-built, root-next, root-parent, root-there, shallow, simple-texts, tree-built}
+use Rattle.game_tree.proofs.WholeGames.{all-clean, others-bad, root-bad, root-built, root-next, root-parent, root-there, shallow, simple-texts}
 use Rattle.game_tree.proofs.game.build_on.Goals as goal
 
 pub root_and_others-requires : goal.root_and_others-requires

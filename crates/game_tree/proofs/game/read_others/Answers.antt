@@ -1,6 +1,5 @@
-use Rattle.std.proofs.Common.{ap, Err, subst, sym}
+use Rattle.std.proofs.Common.{ap, Err}
 use Rattle.game_tree.proofs.BuiltGames.{item-bad, item-next, item-read}
-use Rattle.game_tree.proofs.WholeGames.{simple-texts}
 use Rattle.game_tree.proofs.NodeValues.{same_error}
 use Rattle.game_tree.proofs.game.read_others.Goals as goal
 

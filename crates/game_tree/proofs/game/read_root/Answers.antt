@@ -1,4 +1,4 @@
-use Rattle.std.proofs.Common.{ap, Err, refl, ◌∙◌}
+use Rattle.std.proofs.Common.{ap, Err}
 use Rattle.game_tree.proofs.BuiltGames.{root_bad-game, root_bad-value}
 use Rattle.game_tree.proofs.NodeValues.{same_error}
 use Rattle.game_tree.proofs.game.read_root.Goals as goal

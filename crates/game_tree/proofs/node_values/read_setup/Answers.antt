@@ -1,7 +1,4 @@
 use Rattle.std.proofs.Common.{refl}
-use Rattle.game_tree.proofs.ReadCollections.{games-read}
-use Rattle.game_tree.proofs.GameFaults.{find_there}
-use Rattle.game_tree.proofs.Parts.{AllPairs-across, AllPairs-back, AllPairs-front}
 use Rattle.game_tree.proofs.NodeValues.{same_fault}
 use Rattle.game_tree.proofs.node_values.read_setup.Goals as goal
 

@@ -1,6 +1,6 @@
-use Rattle.std.proofs.Common.{refl, []}
+use Rattle.std.proofs.Common.{[]}
 use Rattle.game_tree.specs.NodeValues.{nothing}
-use Rattle.game_tree.proofs.NodeValues.{nothing_added, property_moves, property_other, property_sets, setup_bad, setup_done}
+use Rattle.game_tree.proofs.NodeValues.{nothing_added, property_other, property_sets, setup_bad, setup_done}
 use Rattle.game_tree.proofs.node_values.read_value.Goals as goal
 
 pub returns-in-Sets-clause-ok : goal.returns-in-Sets-clause-ok

@@ -1,4 +1,4 @@
-use Rattle.std.proofs.Common.{◌≡◌, [], arith, length, refl, ap, Err}
+use Rattle.std.proofs.Common.{[], arith, ap, Err}
 use Rattle.game_tree.proofs.NodeValues.{nothing_added, same_error}
 use Rattle.game_tree.proofs.ReadValues.{HasReadValues-start, built-more, values-bad}
 use Rattle.game_tree.proofs.node_values.read_values.Goals as goal

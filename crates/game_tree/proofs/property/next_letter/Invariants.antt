@@ -1,4 +1,4 @@
-use Rattle.std.proofs.Common.{◌≡◌, ℕ, length, filter}
+use Rattle.std.proofs.Common.{◌≡◌, length, filter}
 use Rattle.game_tree.specs.Property.{is_upper}
 use Rattle.game_tree.proofs.property.next_letter.Given as goal
 

@@ -1,4 +1,4 @@
-use Rattle.std.proofs.Common.{◌≡◌, refl, sym, ◌∙◌}
+use Rattle.std.proofs.Common.{refl, sym}
 use Rattle.game_tree.proofs.Roots.{no_game_value, not_true, other_game_value, same_game_value}
 use Rattle.game_tree.proofs.root.game_fault.Goals as goal
 

@@ -1,4 +1,3 @@
-use Rattle.std.proofs.Common.{◌≡◌, arith}
 use Rattle.game_tree.proofs.Passes.{empty_is}
 use Rattle.game_tree.proofs.Roots.{go_if_empty, go_if_one}
 use Rattle.game_tree.proofs.root.is_go.Goals as goal

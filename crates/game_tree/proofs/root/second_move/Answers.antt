@@ -1,4 +1,4 @@
-use Rattle.std.proofs.Common.{◌≡◌, arith, refl, sym, ◌∙◌, ap, cond, ℕ}
+use Rattle.std.proofs.Common.{◌∙◌, ap, cond}
 use Rattle.game_tree.proofs.SecondMoves.{few_at_end, no_second, second_at}
 use Rattle.game_tree.proofs.root.second_move.Goals as goal
 

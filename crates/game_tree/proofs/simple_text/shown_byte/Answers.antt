@@ -1,4 +1,3 @@
-use Rattle.std.proofs.Common.{refl}
 use Rattle.game_tree.specs.SimpleText.{line_break}
 use Rattle.game_tree.proofs.SimpleTexts.{byte_at, first_and_rest, first_shown}
 use Rattle.game_tree.proofs.simple_text.shown_byte.Goals as goal

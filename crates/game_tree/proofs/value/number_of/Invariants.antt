@@ -1,4 +1,4 @@
-use Rattle.std.proofs.Common.{◌≡◌, ◌≤◌, ◌++◌, ℕ, List, length, min, ◌↔◌}
+use Rattle.std.proofs.Common.{◌≡◌, ℕ, length, min, ◌↔◌}
 use Rattle.std.specs.Str.Parse.{AllDigits, digits_value, digits_value_after}
 use Rattle.game_tree.proofs.value.number_of.Given as goal
 

@@ -1,4 +1,3 @@
-use Rattle.std.proofs.Common.{refl}
 use Rattle.game_tree.proofs.Properties.{no_property}
 use Rattle.game_tree.proofs.property.Property.of.Goals as goal
 
