@@ -205,7 +205,11 @@ const INFORMATION: [(&str, &str, Outcome); 15] = [
 fn expect_told(rt: &impl Abort, tree: &GameTree, told: (&str, Outcome), text: &str) {
     let (black, outcome) = told;
     let info = tree.info();
-    assert_eq!(rt; (info.black(), info.outcome()), (black.as_bytes(), outcome), "{text}");
+    assert_eq!(rt;
+        (info.black(), info.outcome()),
+        (black.as_bytes(), outcome),
+        "{text}"
+    );
 }
 
 #[test]
