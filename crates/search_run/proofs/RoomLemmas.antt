@@ -1,10 +1,10 @@
 -- The counts of a base.
-use Rattle.std.proofs.Common.{◌≡◌, ◌≢◌, ◌⊎◌, inl, inr, suc, ℕ, ◌+◌, ◌*◌, ◌<◌, ◌≤◌, List, [], ◌∷◌, ◌++◌, length, length-append, append-nil, get_or, take, refl, sym, ◌∙◌, ap, subst, arith, append_assoc}
+use Rattle.std.proofs.Common.{◌≡◌, ◌≢◌, ◌⊎◌, inl, inr, suc, ℕ, ◌+◌, ◌<◌, ◌≤◌, List, [], ◌∷◌, ◌++◌, length, length-append, get_or, take, refl, sym, ◌∙◌, ap, arith}
 use Rattle.std.specs.Prelude.{All}
 use Rattle.std.specs.List.{AllZip}
 use Rattle.std.proofs.lemmas.List.{length-map, take_more}
 use Rattle.std.proofs.lemmas.List.Elements.{All-append}
-use Rattle.std.proofs.lemmas.List.Sums.{sum_by-append, sum_by-cons}
+use Rattle.std.proofs.lemmas.List.Sums.{sum_by-append}
 use Rattle.game_tree.specs.Tree.{Tree, node_count}
 use Rattle.search_run.specs.declared.outcome.Counts.{Counts}
 use Rattle.search_run.specs.declared.outcome.FileOutcome.{FileOutcome}
@@ -15,7 +15,7 @@ use Rattle.sgf_reader.specs.Faults.{IsRead}
 use Rattle.sgf_reader.specs.Grammar.{raw_game}
 use Rattle.sgf_reader.proofs.WithinLimits.{read-within_limits}
 use Rattle.game_tree.specs.Trees.{AreTreesOf, IsTreeOf}
-use Rattle.search_run.specs.Outcome.{HasRoom, HaveGames, IsOutcome, accepted, counts_of, full, games_after, nodes_after, nodes_of, not_yet, refused, with_games}
+use Rattle.search_run.specs.Outcome.{HaveGames, IsOutcome, accepted, counts_of, full, games_after, nodes_after, nodes_of, not_yet, refused, with_games}
 use Rattle.search_run.specs.Rooms.{AddsSimple, AreAdded, IsAdded, IsAddedBy}
 use Rattle.search_run.specs.Simple.{IsSimple}
 

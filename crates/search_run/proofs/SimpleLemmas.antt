@@ -1,6 +1,6 @@
 -- Simple trees: each is a line, and how the code finds out which trees are simple.
 use Prim.Native.Nat.{zero}
-use Rattle.std.proofs.Common.{take, ◌++◌, ◌≡◌, ◌≢◌, ℕ, ◌+◌, ◌-◌, ◌*◌, ◌%◌, ◌/◌, ◌<◌, ◌≤◌, ◌⊎◌, suc, Bool, true, false, [], ◌∷◌, List, Option, Some, None, length, get_or, set, get_or-set_other, get_or-set_same, length-set, refl, sym, ◌∙◌, ap, subst, arith, inl, inr}
+use Rattle.std.proofs.Common.{take, ◌++◌, ◌≡◌, ℕ, ◌+◌, ◌%◌, ◌/◌, ◌<◌, ◌≤◌, suc, Bool, true, false, [], ◌∷◌, List, Option, Some, None, length, get_or, set, get_or-set_other, get_or-set_same, length-set, refl, sym, ◌∙◌, ap, subst, arith, inl, inr}
 use Rattle.std.specs.Prelude.{All, IfSome, option_and_then, replicate}
 use Rattle.std.proofs.lemmas.Bool.{cases_eq, cases_lt}
 use Rattle.std.proofs.lemmas.List.{get_or-replicate, get_or_past, length-replicate, take_more}
@@ -9,14 +9,13 @@ use Rattle.std.proofs.lemmas.Nat.{div-mul-add, mod-mul-add}
 use Rattle.std.proofs.lemmas.Option.{same_Some}
 use Rattle.kb_geometry.specs.declared.shape.Shape.{Shape}
 use Rattle.kb_geometry.specs.declared.shape.Point.{Point}
-use Rattle.kb_geometry.specs.Board.{IsOnBoard, cols_of, number_of, point_count}
+use Rattle.kb_geometry.specs.Board.{IsOnBoard, cols_of, number_of}
 use Rattle.game_tree.specs.declared.node.Move.{Move}
-use Rattle.game_tree.specs.Built.{IsGrown}
 use Rattle.game_tree.specs.Tree.{IsTree, Tree, children_of, first_child_of, next_sibling_of, node_at, node_count, parent_of}
 use Rattle.game_tree.specs.Result.{outcome_of}
 use Rattle.kb_geometry.specs.declared.stone.Outcome.TheVariants.{Other}
 use Rattle.game_tree.specs.Stored.{siblings_from}
-use Rattle.game_tree.proofs.Trees.{IsGrown-tree, cases_Option, child_behind, first_child-behind, first_child-found, next_sibling-facts, next_sibling-found, next_sibling-missing, next_sibling-root, parent-in_range, parent-lt, siblings_from-first, siblings_from-next}
+use Rattle.game_tree.proofs.Trees.{IsGrown-tree, cases_Option, child_behind, first_child-behind, first_child-found, next_sibling-found, next_sibling-missing, next_sibling-root, parent-in_range, parent-lt, siblings_from-first, siblings_from-next}
 use Rattle.search_run.specs.Simple.{IsSimple, PlaysAt}
 use Rattle.search_run.specs.SimpleParts.{HasNoPointTwice, HasNoSetups, HasNoSiblings, point_of}
 

@@ -1,5 +1,5 @@
 -- What becomes of a file by its bytes, and by the games and nodes that the base has before it.
-use Rattle.std.specs.Prelude.{◌≡◌, ◌⊎◌, ℕ, ◌+◌, ◌≤◌, List, [], ◌++◌, length, sum_by, All}
+use Rattle.std.specs.Prelude.{◌⊎◌, ℕ, ◌+◌, ◌≤◌, List, [], length, sum_by, All}
 use Rattle.sgf_reader.specs.declared.collection.Collection.{Collection}
 use Rattle.sgf_reader.specs.declared.fault.FaultKind.{FaultKind}
 use Rattle.sgf_reader.specs.Faults.{IsFirstFault, IsRead}

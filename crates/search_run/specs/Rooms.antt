@@ -1,5 +1,5 @@
 -- What is added to a base, and that there is room for it.
-use Rattle.std.specs.Prelude.{◌≡◌, ℕ, ◌<◌, List, [], ◌++◌, length, All}
+use Rattle.std.specs.Prelude.{◌≡◌, List, [], ◌++◌, length, All}
 use Rattle.game_tree.specs.Tree.{Tree}
 use Rattle.search_run.specs.declared.outcome.Counts.{Counts}
 use Rattle.search_run.specs.declared.outcome.FileOutcome.{FileOutcome}

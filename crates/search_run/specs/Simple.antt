@@ -1,5 +1,5 @@
 -- Simple trees: those whose hits have no continuation, which is all that this stage searches.
-use Rattle.std.specs.Prelude.{◌≡◌, ◌≢◌, ℕ, ◌<◌, ◌≤◌, List, [], length, Option, Some, None}
+use Rattle.std.specs.Prelude.{◌≡◌, ℕ, ◌<◌, ◌≤◌, [], length, Some}
 use Rattle.kb_geometry.specs.declared.shape.Point.{Point}
 use Rattle.kb_geometry.specs.declared.stone.Outcome.TheVariants as outcome
 use Rattle.game_tree.specs.declared.node.Move.{Move}

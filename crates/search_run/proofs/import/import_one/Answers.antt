@@ -1,4 +1,4 @@
-use Rattle.std.proofs.Common.{◌≡◌, ap, Err, inr}
+use Rattle.std.proofs.Common.{ap, Err, inr}
 use Rattle.search_run.proofs.ImportLemmas.{content_of-there, IsContent-read}
 use Rattle.search_run.proofs.RoomLemmas.{IsAdded-outcome, read-not_unread}
 use Rattle.search_run.proofs.import.import_one.Goals as goal

@@ -1,4 +1,4 @@
-use Rattle.std.proofs.Common.{◌≡◌, ◌++◌, ◌∙◌, ap, append-nil, arith, inl, inr, refl, sym, subst, List}
+use Rattle.std.proofs.Common.{◌≡◌, ◌++◌, ◌∙◌, ap, append-nil, inl, inr, sym, subst, List}
 use Rattle.kb_edges.specs.Faults.{Rose}
 use Rattle.search_run.specs.Course.{FileReport}
 use Rattle.search_run.specs.Reads.{IsOneMoreRead, file_reports}

@@ -1,6 +1,5 @@
-use Rattle.std.proofs.Common.{◌≡◌, ◌<◌, ◌≤◌, ◌⊎◌, ◌+◌, arith, inl, inr, length}
+use Rattle.std.proofs.Common.{◌≡◌, ◌+◌, arith, inl, inr, length}
 use Rattle.search_run.specs.Outcome.{games_after, nodes_after}
-use Rattle.search_run.specs.declared.outcome.TheConstants.{MAX_BASE_GAMES, MAX_BASE_NODES}
 use Rattle.search_run.proofs.RoomLemmas.{accepted_is, full_is}
 use Rattle.search_run.proofs.outcome.in_room.Goals as goal
 use Rattle.search_run.proofs.outcome.in_room.Goals.{then-games-from-via-then-games-from, then-games-from-via-else-games-from+then-nodes-from}

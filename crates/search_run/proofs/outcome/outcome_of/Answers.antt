@@ -1,4 +1,4 @@
-use Rattle.std.proofs.Common.{◌≡◌, ◌≤◌, ◌∙◌, Err, ap, arith, inl, inr, length, sym}
+use Rattle.std.proofs.Common.{◌∙◌, Err, ap, arith, inl, inr, sym}
 use Rattle.std.proofs.lemmas.Bool.{false≢true}
 use Rattle.search_run.specs.Outcome.{HaveGames, not_yet, refused}
 use Rattle.search_run.proofs.RoomLemmas.{IsOutcome-in_room, few_trees}

@@ -1,9 +1,9 @@
-use Rattle.std.proofs.Common.{◌≡◌, ◌<◌, ◌∙◌, Some, arith, length, rules, refl, sym, ap}
+use Rattle.std.proofs.Common.{◌≡◌, ◌<◌, ◌∙◌, Some, arith, length, refl, sym}
 use Rattle.kb_geometry.specs.Board.{number_of}
 use Rattle.search_run.specs.SimpleParts.{point_of}
 use Rattle.search_run.specs.declared.simple.TheConstants.{ROOM}
 use Rattle.search_run.proofs.Boards.{point_count-le-room}
-use Rattle.search_run.proofs.SimpleLemmas.{MarkedTo-end, MarkedTo-more, MarkedTo-none, MarkedTo-start, MarkedTo-twice}
+use Rattle.search_run.proofs.SimpleLemmas.{MarkedTo-more, MarkedTo-none, MarkedTo-start, MarkedTo-twice}
 use Rattle.search_run.proofs.simple.has_no_point_twice.Goals as goal
 use Rattle.search_run.proofs.simple.has_no_point_twice.Goals.{in-Some+else-marks-number, in_default}
 

@@ -1,5 +1,5 @@
-use Rattle.std.proofs.Common.{◌≡◌, ◌<◌, ℕ, [], None}
-use Rattle.game_tree.specs.Tree.{next_sibling_of, node_at}
+use Rattle.std.proofs.Common.{◌≡◌, ◌<◌, ℕ, []}
+use Rattle.game_tree.specs.Tree.{node_at}
 use Rattle.search_run.proofs.simple.has_no_setups.Given as goal
 
 abbrev pub invariant-loop-node : goal.invariant-loop-node

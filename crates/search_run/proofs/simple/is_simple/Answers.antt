@@ -1,4 +1,4 @@
-use Rattle.std.proofs.Common.{◌≡◌, false, true, sym, ◌∙◌}
+use Rattle.std.proofs.Common.{sym, ◌∙◌}
 use Rattle.std.proofs.lemmas.Bool.{false≢true}
 use Rattle.search_run.proofs.SimpleLemmas.{is_simple-from, no_point_twice-to, no_siblings-from}
 use Rattle.search_run.proofs.simple.is_simple.Goals as goal
