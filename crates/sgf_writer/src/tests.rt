@@ -52,10 +52,7 @@ const TEXTS: [(&str, &str); 17] = [
         "(;GM[1]FF[4]SZ[9];B[aa];W[bb](;B[cc](;W[dd])(;W[ee]))(;B[ff]))",
     ),
     // No brackets stand round an only child.
-    (
-        "(;SZ[9](;B[aa](;W[bb])))",
-        "(;GM[1]FF[4]SZ[9];B[aa];W[bb])",
-    ),
+    ("(;SZ[9](;B[aa](;W[bb])))", "(;GM[1]FF[4]SZ[9];B[aa];W[bb])"),
     // Nodes without properties, and properties that are not kept.
     (
         "(;SZ[9];C[opening](;)(;KM[6.5]))",
