@@ -42,10 +42,11 @@ root_bad-game text shape root game g f clean there e =
 pub of_text : (text : List ℕ) (raw : RawGame) → IsOfText text raw → GameIsRead (length text) raw × Ascend (node_pairs raw.nodes) × (length text ≤ MAX_FILE)
 of_text text raw known =
     let all = games-read text known.collection known.read in
-    let (games, read, is) = known.read in
-    (All-contains (GameIsRead (length text)) known.collection.games raw all.each known.there,
+    let (games, read, is) = known.read in (
+      All-contains (GameIsRead (length text)) known.collection.games raw all.each known.there,
       AllPairs-part (λ (a b : Pair). a.value.from < b.value.from) (λ (r : RawGame). node_pairs r.nodes) known.collection.games raw all.ascending known.there,
-      (read-within_limits games text read).0)
+      (read-within_limits games text read).0,
+    )
 
 -- values that ascend are no more than the bytes
 ascend-above : (pairs : List Pair) (end : ℕ) (d : Pair) → Ascend pairs → All (LiesIn end) pairs → (i : ℕ) → i < length pairs → i < (get_or pairs i d).value.from

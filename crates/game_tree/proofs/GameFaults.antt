@@ -210,6 +210,7 @@ module _ (text : List ℕ) (raw : RawGame) (inside : All (LiesIn (length text)) 
         where
           no_node : (m : RawNode) → ¬ Contains [] m
           no_node m (k, below, same) = omega arith
+
           strict : offset_of pair ≤ at → offset_of pair < at
           strict le = elim (cases_order (offset_of pair) at) [
             | inl same ↦ absurd (apart_from_game of at first.there (sym same))
@@ -285,11 +286,13 @@ module _ (text : List ℕ) (raw : RawGame) (inside : All (LiesIn (length text)) 
           | inl same ↦ inr (same, inl (one_kind of other at offset answer f same))
           | inr side ↦ elim side [ inl l ↦ inl l | inr l ↦ absurd (omega (arith, least other offset f)) ]
         ]
+
         behind : (node : RawNode) (pair : Pair) → Contains others node → IsSecond text node.pairs pair → at < offset_of pair
         behind node pair there second =
             let (value, here, place) = root_value of at answer in
             let order = earlier [] root others value pair is here (in_game others node pair there (subst (λ ps. Contains ps pair) (sym second.split) (Contains-append_right second.before (pair ∷ second.after) pair (Contains-head pair second.after)))) in
             omega (arith, order, place)
+
         first : (other : FaultKind) (offset : ℕ) → HasGameFault text raw other offset → ComesFirst of at other offset
         first _ _ (other_game pair found bad) = beside kind.NotGo (offset_of pair) (of_game pair found bad)
         first _ _ (no_size pair found board) = subst (λ p. ComesFirst of at kind.BadSize (offset_of p)) (one_found found_size found) (beside kind.BadSize (offset_of sized) of_size)
@@ -306,21 +309,27 @@ module _ (text : List ℕ) (raw : RawGame) (inside : All (LiesIn (length text)) 
         game_part : (g : Option SgfFault) → IsGameFault text (root_pairs raw) g → g ≡ Some between → IsRootFault between.kind between.at
         game_part _ (same_game none_found) e = absurd (cc)
         game_part _ (roots.other_game pair found bad) e = let same : record { kind = kind.NotGo; at = offset_of pair } ≡ between = cc in subst (λ (f : SgfFault). IsRootFault f.kind f.at) same (of_game pair found bad)
+
         between_part : (between ≡ size) ⊎ (game ≡ Some between) → IsRootFault between.kind between.at
         between_part (inl e) = subst (λ (f : SgfFault). IsRootFault f.kind f.at) (sym (e ∙ size_is)) of_size
         between_part (inr e) = game_part game game_is e
+
         second_part : (t : Option SgfFault) → IsSecondMove text root.pairs t → t ≡ Some result → IsRootFault result.kind result.at
         second_part _ (one_at_most few) e = absurd (cc)
         second_part _ (second_stands pair stands) e = let same : record { kind = kind.TwoMoves; at = offset_of pair } ≡ result = cc in subst (λ (f : SgfFault). IsRootFault f.kind f.at) same (of_moves pair stands)
+
         answer : (result ≡ between) ⊎ (second ≡ Some result) → IsRootFault result.kind result.at
         answer (inl e) = subst (λ (f : SgfFault). IsRootFault f.kind f.at) (sym e) (between_part one_of)
         answer (inr e) = second_part second second_is e
+
         game_least : (g : Option SgfFault) → IsGameFault text (root_pairs raw) g → IfSome g (λ (f : SgfFault). between.at ≤ f.at) → (pair : Pair) → first_pair text raw (codes "GM") ≡ Some pair → IsOtherGame text pair → between.at ≤ offset_of pair
         game_least _ (same_game none_found) le pair found bad = absurd (none_found pair found bad)
         game_least _ (roots.other_game other found' bad') le pair found bad = subst (λ p. between.at ≤ offset_of p) (one_found found' found) le
+
         second_least : (t : Option SgfFault) → IsSecondMove text root.pairs t → IfSome t (λ (f : SgfFault). result.at ≤ f.at) → (pair : Pair) → IsSecond text root.pairs pair → result.at ≤ offset_of pair
         second_least _ (one_at_most few) le pair stands = absurd (few pair stands)
         second_least _ (second_stands other stands') le pair stands = subst (λ p. result.at ≤ offset_of p) (second_once text root.pairs other pair stands' stands) le
+
         least : (other : FaultKind) (offset : ℕ) → IsRootFault other offset → result.at ≤ offset
         least _ _ of_size = omega (arith, le_between, le_size, ap (λ (f : SgfFault). f.at) size_is)
         least _ _ (of_game pair found bad) = omega (arith, le_between, game_least game game_is le_game pair found bad)

@@ -153,16 +153,22 @@ module _ (text : List ℕ) (shape : Shape) where
           let tail : length rest ≡ length (between ++ later ∷ after) = ap length is in
           let parts = length-append between (later ∷ after) in
           omega (arith, whole, tail, parts)
+
       first : get_or (done ++ pair ∷ rest) (length done) pair ≡ pair
       first = get_or-append_seam done pair rest pair
+
       front : List Pair
       front = done ++ pair ∷ between
+
       index : length done + (length between + 1) ≡ length front
       index = let e = length-append done (pair ∷ between) in omega (arith, e)
+
       split : done ++ pair ∷ rest ≡ front ++ later ∷ after
       split = ap (λ r. done ++ pair ∷ r) is ∙ sym (append_assoc done (pair ∷ between) (later ∷ after))
+
       there : get_or (done ++ pair ∷ rest) (length done + (length between + 1)) pair ≡ later
       there = ap (λ l. get_or l (length done + (length between + 1)) pair) split ∙ ap (λ n. get_or (front ++ later ∷ after) n pair) index ∙ get_or-append_seam front later after pair
+
       second : (get_or (done ++ pair ∷ rest) (length done + (length between + 1)) pair).value.from ≡ later.value.from
       second = ap (λ (p : Pair). p.value.from) there
 

@@ -112,9 +112,10 @@ module _ (text : List ℕ) (collection : Collection) where
 
     pub built-all : (i : ℕ) (trees : List Tree) → length collection.games ≤ i → HasBuiltGames i trees → AllZip (IsTreeOf text) collection.games trees × ((of : FaultKind) (at : ℕ) → ¬ HasValueFault text collection of at)
     built-all i trees ended h =
-        let whole : take i collection.games ≡ collection.games = take_all i collection.games ended in
-        (subst (λ raws. AllZip (IsTreeOf text) raws trees) whole h.trees_of,
-          λ of at f. let (raw, there, g) = to_game of at f in h.clean raw (subst (λ raws. Contains raws raw) (sym whole) there) of at g)
+        let whole : take i collection.games ≡ collection.games = take_all i collection.games ended in (
+          subst (λ raws. AllZip (IsTreeOf text) raws trees) whole h.trees_of,
+          λ of at f. let (raw, there, g) = to_game of at f in h.clean raw (subst (λ raws. Contains raws raw) (sym whole) there) of at g,
+        )
 
     -- the first fault of a game behind games without one
     pub game-bad : (i : ℕ) (raw : RawGame) (trees : List Tree) (of : FaultKind) (at : ℕ) → i < length collection.games → raw ≡ get_or collection.games i raw → HasBuiltGames i trees → IsFirstGameFault text raw of at → IsFirstValueFault text collection of at
@@ -125,10 +126,13 @@ module _ (text : List ℕ) (collection : Collection) where
       where
         rest : List RawGame
         rest = drop (suc i) collection.games
+
         split : collection.games ≡ take i collection.games ++ raw ∷ rest
         split = split_at collection.games i raw below ∙ ap (λ r. take i collection.games ++ r ∷ rest) (sym is)
+
         in_games : Contains collection.games raw
         in_games = subst (λ raws. Contains raws raw) (sym split) (Contains-append_right (take i collection.games) (raw ∷ rest) raw (Contains-head raw rest))
+
         behind : (other : RawGame) (p q : Pair) → Contains rest other → Contains (node_pairs raw.nodes) p → Contains (node_pairs other.nodes) q → p.value.from < q.value.from
         behind other p q there in_raw in_other =
             let parts : game_pairs collection.games ≡ game_pairs (take i collection.games) ++ (node_pairs raw.nodes ++ game_pairs rest) = ap game_pairs split ∙ flat_map-append (λ (r : RawGame). node_pairs r.nodes) (take i collection.games) (raw ∷ rest) in
@@ -136,6 +140,7 @@ module _ (text : List ℕ) (collection : Collection) where
             AllPairs-across (λ (a b : Pair). a.value.from < b.value.from) (node_pairs raw.nodes) (game_pairs rest) p q
             (AllPairs-back (λ (a b : Pair). a.value.from < b.value.from) (game_pairs (take i collection.games)) (node_pairs raw.nodes ++ game_pairs rest) order)
             in_raw (in_part rest other q there in_other)
+
         later : {other : FaultKind} {offset : ℕ} → (r : RawGame) × Contains collection.games r × HasGameFault text r other offset → ComesFirst of at other offset
         later {other = other} {offset = offset} (r, there, g) = elim (Contains-append_cases (take i collection.games) (raw ∷ rest) r (subst (λ raws. Contains raws r) split there)) [
           | inl before ↦ absurd (h.clean r before other offset g)

@@ -120,8 +120,12 @@ module _ (text : List ℕ) (raw : RawGame) (known : IsOfText text raw) (root : R
     tree-built b info tree built told_info e = subst (IsTreeOf text raw) (sym e) (record {
       board = subst (IsBoard text raw) (sym built.shape_is) board;
       info = record {
-        black = from (codes "PB") told_info.black; white = from (codes "PW") told_info.white; event = from (codes "EV") told_info.event;
-        place = from (codes "PC") told_info.place; date = from (codes "DT") told_info.date; outcome_text = from (codes "RE") told_info.outcome_text;
+        black = from (codes "PB") told_info.black;
+        white = from (codes "PW") told_info.white;
+        event = from (codes "EV") told_info.event;
+        place = from (codes "PC") told_info.place;
+        date = from (codes "DT") told_info.date;
+        outcome_text = from (codes "RE") told_info.outcome_text;
       };
       nodes = subst (λ s. AllZip (IsNodeOf text s) raw.nodes b.nodes) (sym built.shape_is) (subst (λ ns. AllZip (IsNodeOf text shape) ns b.nodes) (take_all (length raw.nodes) raw.nodes (omega arith)) built.nodes);
     })
@@ -136,8 +140,12 @@ simple text _ out (told.value {pair = pair} read) = simple_text-no_controls _ ou
 
 pub simple-texts : (text : List ℕ) (pairs : List Pair) (info : Information) → IsInformationIn text pairs info → HasSimpleTexts info
 simple-texts text pairs info h = record {
-  black = simple text _ info.black h.black; white = simple text _ info.white h.white; event = simple text _ info.event h.event;
-  place = simple text _ info.place h.place; date = simple text _ info.date h.date; outcome_text = simple text _ info.outcome_text h.outcome_text;
+  black = simple text _ info.black h.black;
+  white = simple text _ info.white h.white;
+  event = simple text _ info.event h.event;
+  place = simple text _ info.place h.place;
+  date = simple text _ info.date h.date;
+  outcome_text = simple text _ info.outcome_text h.outcome_text;
 }
 
 -- a fault that is handed on

@@ -24,11 +24,7 @@ use sgf_reader::{Pair, RawGame, RawNode, SgfFault};
 use std::alloc::Global;
 
 // The tree of a raw game of a text without a fault of its syntax, or the first fault of the game's values.
-pub(crate) fn build_game(
-    alloc: Global,
-    text: &[u8],
-    raw: &RawGame,
-) -> Result<GameTree, BuildError>
+pub(crate) fn build_game(alloc: Global, text: &[u8], raw: &RawGame) -> Result<GameTree, BuildError>
     requires read { IsOfText text.now raw.now }
     ensures ok { IfOk result (λ tree. IsTreeOf text.now raw.now tree) }
     ensures no_fault { IfOk result (λ _. (of : FaultKind) (at : ℕ) → ¬ HasGameFault text.now raw.now of at) }
@@ -156,7 +152,11 @@ fn read_node(
 }
 
 // Ends the node whose values were read.
-fn add_node(node: &RawNode, played: Option<Move>, builder: &mut TreeBuilder) -> Result<(), BuildError>
+fn add_node(
+    node: &RawNode,
+    played: Option<Move>,
+    builder: &mut TreeBuilder,
+) -> Result<(), BuildError>
     requires nodes { length builder.old.nodes < 65536 }
     requires parent { IsNextParent builder.old node.now.parent }
     requires on_board { IfSome played (IsMoveOnBoard builder.old.shape) }

@@ -57,8 +57,14 @@ impl Info {
         date: Bytes,
         outcome_text: Bytes,
     ) -> Self
-        ensures { result ≡ record { black = black; white = white; event = event; place = place;
-            date = date; outcome_text = outcome_text } }
+        ensures { result ≡ record {
+          black = black;
+          white = white;
+          event = event;
+          place = place;
+          date = date;
+          outcome_text = outcome_text;
+        } }
     {
         Info {
             black,

@@ -4,8 +4,8 @@
 //! its positions. The layers above use that a tree's readers show the tree.
 #![tactic(auto)]
 
-mod building;
 mod builder;
+mod building;
 mod bytes;
 mod children;
 mod game;
@@ -20,8 +20,8 @@ mod stored;
 mod tree;
 mod value;
 
-pub use building::{BuildError, build};
 pub(crate) use builder::TreeBuilder;
+pub use building::{BuildError, build};
 pub use bytes::Bytes;
 pub use children::Children;
 pub use info::Info;

@@ -19,14 +19,45 @@ use sgf_reader::{FaultKind, Pair, SgfFault};
 use std::alloc::Global;
 
 // The identifiers of the values of a root that are read.
-const GAME: Identifier = Identifier { first: b'G', second: b'M' };
-pub(crate) const SIZE: Identifier = Identifier { first: b'S', second: b'Z' };
-const BLACK_NAME: Identifier = Identifier { first: b'P', second: b'B' };
-const WHITE_NAME: Identifier = Identifier { first: b'P', second: b'W' };
-const EVENT: Identifier = Identifier { first: b'E', second: b'V' };
-const PLACE: Identifier = Identifier { first: b'P', second: b'C' };
-const DATE: Identifier = Identifier { first: b'D', second: b'T' };
-const RESULT: Identifier = Identifier { first: b'R', second: b'E' };
+const GAME: Identifier = Identifier {
+    first: b'G',
+    second: b'M',
+};
+
+pub(crate) const SIZE: Identifier = Identifier {
+    first: b'S',
+    second: b'Z',
+};
+
+const BLACK_NAME: Identifier = Identifier {
+    first: b'P',
+    second: b'B',
+};
+
+const WHITE_NAME: Identifier = Identifier {
+    first: b'P',
+    second: b'W',
+};
+
+const EVENT: Identifier = Identifier {
+    first: b'E',
+    second: b'V',
+};
+
+const PLACE: Identifier = Identifier {
+    first: b'P',
+    second: b'C',
+};
+
+const DATE: Identifier = Identifier {
+    first: b'D',
+    second: b'T',
+};
+
+const RESULT: Identifier = Identifier {
+    first: b'R',
+    second: b'E',
+};
 
 // A fault at the `[` of a value.
 pub(crate) fn fault_of(kind: FaultKind, pair: Pair) -> SgfFault

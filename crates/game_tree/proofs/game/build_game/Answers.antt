@@ -19,6 +19,6 @@ pub returns-in-Err-clause-fault : goal.returns-in-Err-clause-fault
 returns-in-Err-clause-fault c = λ f e.
     handed-on c.args.text.now c.args.raw.now c.first_fault-fault.result f
     (no-board c.args.text.now c.args.raw.now c.requires.read _ _ (sym c.as_slice.ensures ∙ c.root_and_others.ensures) _ _ c.in-Err.size c.first_fault.result c.first_fault-fault.result
-      (rw c.as_slice-pairs.ensures at c.game_fault-game.ensures) (rw c.as_slice-pairs.ensures at c.second_move.ensures) (rw (c.first_of.ensures.value, c.as_slice-pairs.ensures) at c.in-Err.ensures.fault)
-      c.first_fault.ensures.one c.first_fault.ensures.least c.first_fault.ensures.least_other c.first_fault-fault.ensures.one c.first_fault-fault.ensures.least c.first_fault-fault.ensures.least_other)
+    (rw c.as_slice-pairs.ensures at c.game_fault-game.ensures) (rw c.as_slice-pairs.ensures at c.second_move.ensures) (rw (c.first_of.ensures.value, c.as_slice-pairs.ensures) at c.in-Err.ensures.fault)
+    c.first_fault.ensures.one c.first_fault.ensures.least c.first_fault.ensures.least_other c.first_fault-fault.ensures.one c.first_fault-fault.ensures.least c.first_fault-fault.ensures.least_other)
     (same_error _ _ e)
