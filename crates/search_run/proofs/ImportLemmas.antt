@@ -1,5 +1,5 @@
 -- Reading the files of an import.
-use Rattle.std.proofs.Common.{◌≡◌, ℕ, Bool, true, false, cond, ◌||◌, List, [], ◌∷◌, ◌++◌, Option, Some, None, refl, sym, ◌∙◌, ap, subst, arith, take, map, length, length-append, get_or, ◌<◌, ◌+◌, ◌≤◌}
+use Rattle.std.proofs.Common.{◌≡◌, ℕ, Bool, true, false, cond, ◌||◌, List, [], ◌∷◌, ◌++◌, Option, Some, None, refl, sym, ◌∙◌, ap, subst, arith, take, map, length, length-append, get_or, ◌<◌, ◌+◌, ◌≤◌, ◌⊎◌, inl, inr}
 use Rattle.std.specs.Prelude.{All, AllPairs, Contains, IsSome, String, find, string_bytes}
 use Rattle.std.specs.declared.alloc.Global.{Global}
 use Rattle.std.specs.List.{list_any}
@@ -123,3 +123,16 @@ pub IsImported-read : (files : List File) (path : List ℕ) (base : Counts) (nam
 IsImported-read files path base names before between now reports trees later there are few h =
     let counted : length reports ≡ length names = sym (length-map reports (λ (f : FileReport). f.name)) ∙ ap length h.named ∙ length-map names string_bytes in
     (record { unlisted = false; unread = h.unread }, (there, rw h.named are, rw counted few, h.read, refl), one_loss (length h.unread) before now (RoseBy-earlier (length h.unread) before between now later h.lost))
+
+-- what is told, where something is
+pub told_there : {A : Type 0} (told : Option A) → IsSome told → (value : A) × (told ≡ Some value)
+told_there None there = absurd (cc there)
+told_there (Some value) there = (value, refl)
+
+-- a file that is there was not read for a fault of the folder
+pub rose_there : (before now : ℕ) (path name : List ℕ) (files : List File) (told : Option (List File)) → told ≡ Some files → Rose before now ⊎ ((all : List File) × (told ≡ Some all) × (¬ HasFile all path name)) → HasFile files path name → Rose before now
+rose_there before now path name files told is (inl rose) there = rose
+rose_there before now path name files told is (inr (all, also, gone)) there =
+    let both : Some files ≡ Some all = sym is ∙ also in
+    let same : files ≡ all = cc in
+    absurd (gone (subst (λ fs. HasFile fs path name) same there))

@@ -1,7 +1,7 @@
 // The import of a folder: which files it has, and what becomes of each.
-ghost use Rattle.std.specs.Prelude.{◌≡◌, ◌≢◌, ◌⊎◌, ◌≤◌, ◌∷◌, [], map, All, IfOk, OnOk, string_bytes, List, ℕ};
+ghost use Rattle.std.specs.Prelude.{◌≡◌, ◌≢◌, ◌⊎◌, ◌≤◌, ◌∷◌, [], map, All, IfOk, OnOk, Some, string_bytes, List, ℕ};
 ghost use Rattle.kb_edges.specs.Faults.{Rose, RoseBy};
-ghost use Rattle.kb_edges.specs.Files.{HasFile};
+ghost use Rattle.kb_edges.specs.Files.{File, HasFile};
 ghost use Rattle.kb_edges.specs.Told.{IfTold};
 ghost use Rattle.search_run.specs.declared.outcome.FileOutcome.TheVariants.{Unread};
 ghost use Rattle.search_run.specs.Course.{ImportCourse, IsContent, IsImported, losses_of};
@@ -137,8 +137,8 @@ pub fn import_one<F: Folder>(
 ) -> Result<(FileOutcome, Vec<GameTree>), NoMemory>
     ensures outcome { IfTold (F.files folder.old) (λ files. IfOk result (λ r. r.0 ≢ Unread →
         (bytes : List ℕ) × IsContent files path.now name.now bytes × IsOutcome bytes before r.0 r.1.items)) }
-    ensures unread { IfTold (F.files folder.old) (λ files. IfOk result (λ r. r.0 ≡ Unread →
-        Rose (F.faults folder.old) (F.faults folder.new) ⊎ (¬ HasFile files path.now name.now))) }
+    ensures unread { IfOk result (λ r. r.0 ≡ Unread → Rose (F.faults folder.old) (F.faults folder.new)
+        ⊎ ((files : List File) × (F.files folder.old ≡ Some files) × (¬ HasFile files path.now name.now))) }
     ensures added { IfOk result (λ r. IsAdded before r.0 r.1.items) }
     ensures same { F.files folder.new ≡ F.files folder.old }
     ensures later { F.faults folder.old ≤ F.faults folder.new }

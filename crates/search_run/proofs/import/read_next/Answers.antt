@@ -2,7 +2,7 @@ use Rattle.std.proofs.Common.{◌≡◌, ◌++◌, ◌∙◌, ap, append-nil, in
 use Rattle.kb_edges.specs.Faults.{Rose}
 use Rattle.search_run.specs.Course.{FileReport}
 use Rattle.search_run.specs.Reads.{IsOneMoreRead, file_reports}
-use Rattle.search_run.proofs.ImportLemmas.{one_more-not_read, one_more-read, reports_push}
+use Rattle.search_run.proofs.ImportLemmas.{one_more-not_read, one_more-read, reports_push, rose_there}
 use Rattle.search_run.proofs.RoomLemmas.{All-added, cases_unread, unread_adds_none}
 use Rattle.search_run.proofs.import.read_next.Goals as goal
 
@@ -24,7 +24,7 @@ returns-clause-found g c = λ files told there.
     (elim (cases_unread outcome) [
       | inl is ↦
           let none = unread_adds_none counts outcome games is c.in_ok-outcome.ensures.added in
-          let rose : Rose before now = elim (c.in_ok-outcome.ensures.unread files told is) [ inl up ↦ up | inr gone ↦ absurd (gone there) ] in
+          let rose : Rose before now = rose_there before now _ _ files _ told (c.in_ok-outcome.ensures.unread is) there in
           one_more-not_read files path name before now counts reports trees outcome more_trees rose is (appended ∙ ap (λ gs. trees ++ gs) none ∙ append-nil trees)
       | inr other ↦ one_more-read files path name before now counts reports trees outcome more_trees games (c.in_ok-outcome.ensures.outcome files told other) c.import_one.ensures.later appended
     ])
