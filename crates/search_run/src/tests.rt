@@ -6,6 +6,7 @@ use std::alloc::Global;
 use std::process::Abort;
 use std::test::Fail;
 
+mod damaged;
 mod imports;
 
 /// A file: its path, its name and its text.
