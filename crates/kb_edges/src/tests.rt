@@ -1,4 +1,4 @@
-// Calls of the outside on their happy path, faults that are asked for, and the system's own files.
+// Calls of the outside that go well, faults that are asked for, and the system's own files.
 ghost use Rattle.std.specs.Prelude.{◌≤◌};
 
 use crate::{

@@ -1,4 +1,4 @@
-// The one free refusal: memory was not to be had.
+// The answer where an allocation is refused.
 use std::alloc::{AllocError, AllocFailed};
 use std::error::Error;
 use std::fmt;

@@ -1,4 +1,4 @@
--- What a run of a script leaves: its status, what it wrote, and what it lost to faults of the folder.
+-- What a run of a script leaves: what it wrote, and what it lost to faults of the folder.
 use Rattle.std.specs.Prelude.{◌≡◌, ℕ, List, ◌++◌, Option, Some}
 use Rattle.kb_edges.specs.Faults.{RoseBy}
 use Rattle.kb_edges.specs.Files.{File}

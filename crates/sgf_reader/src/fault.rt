@@ -6,7 +6,7 @@ use std::alloc::{AllocError, AllocFailed};
 use std::error::Error;
 use std::fmt;
 
-/// The kinds of fault, of the syntax and of values. They are numbered from 1 in this order.
+/// The kinds of fault, of the syntax and of values.
 #[derive(Clone, Copy, Debug, PartialEq, Eq)]
 pub enum FaultKind {
     /// No tree starts in the text.
@@ -23,9 +23,9 @@ pub enum FaultKind {
     TooManyNodes,
     /// The text has more than `MAX_GAMES` games.
     TooManyGames,
-    /// The first GM value of a root isn't `1`.
+    /// The first GM value of a root is neither empty nor `1`.
     NotGo,
-    /// The first SZ value of a root isn't a size.
+    /// The first SZ value of a root is neither empty nor a size.
     BadSize,
     /// A value of B, W, AB, AW or AE that isn't one of its forms on the board.
     BadPoint,

@@ -9,7 +9,7 @@ pub fn a_text_spells_one_collection()
     ensures { (text : List ℕ) (a b : List SpelledGame) → Spells a text → Spells b text → a ≡ b }
 {}
 
-/// A text has no fault just where it spells games, and it and they are within the limits.
+/// A text spells games and has no fault just where it spells them, and it and they are within the limits.
 pub fn a_text_is_read_within_the_limits()
     ensures { (text : List ℕ) (games : List SpelledGame) → HasRead text games ↔ (Spells games text × (length text ≤ MAX_FILE) × AreWithinLimits games) }
 {}

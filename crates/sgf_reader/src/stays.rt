@@ -5,13 +5,13 @@ ghost use Rattle.sgf_reader.specs.Stays.{EachFrom, IsPlain, StaysAt, IsNodeNext}
 use crate::place::{Phase, Place};
 
 // The first byte that is no white space, from the first offset on and before the second one.
-pub(crate) fn black_from(text: &[u8], from: usize, end: usize) -> usize
+pub(crate) fn not_white_from(text: &[u8], from: usize, end: usize) -> usize
     requires start { from ≤ end }
     requires within { end ≤ length text.now }
     ensures least { from ≤ result }
     ensures most { result ≤ end }
     ensures white { EachFrom text.now from result (λ b. b ≤ 32) }
-    ensures black { result < end → 32 < slice_index text.now result }
+    ensures not_white { result < end → 32 < slice_index text.now result }
 {
     for i in from..end {
         if text[i] > 32 {
@@ -63,7 +63,7 @@ pub(crate) fn next_from(text: &[u8], from: usize, end: usize, place: Place) -> u
 {
     match place {
         Place::Outside => bracket_from(text, from, end),
-        Place::Before(_) => black_from(text, from, end),
+        Place::Before(_) => not_white_from(text, from, end),
         Place::Within(phase) => match phase {
             Phase::InValue { name: _, from: _ } => special_from(text, from, end),
             Phase::InName {
@@ -71,7 +71,7 @@ pub(crate) fn next_from(text: &[u8], from: usize, end: usize, place: Place) -> u
                 has_upper: _,
             } => from,
             Phase::Escaped { name: _, from: _ } => from,
-            _ => black_from(text, from, end),
+            _ => not_white_from(text, from, end),
         },
     }
 }
@@ -81,6 +81,6 @@ pub(crate) fn is_node_next(text: &[u8], from: usize) -> bool
     requires { from ≤ length text.now }
     ensures { IsTrue result ↔ IsNodeNext text.now from }
 {
-    let next = black_from(text, from, text.len());
+    let next = not_white_from(text, from, text.len());
     next < text.len() && text[next] == b';'
 }
