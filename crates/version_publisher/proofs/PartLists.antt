@@ -1,5 +1,5 @@
 -- The items of parts that are copied, appended or merged.
-use Rattle.std.proofs.Common.{get_or, ◌≡◌, ◌||◌, Bool, true, false, ℕ, zero, suc, List, [], ◌∷◌, ◌++◌, map, set, take, length, ◌-◌, ◌<◌, ◌≤◌, ap, refl, sym, ◌∙◌, arith, append_assoc}
+use Rattle.std.proofs.Common.{get_or, ◌≡◌, ◌||◌, Bool, true, false, ℕ, zero, suc, List, [], ◌∷◌, ◌++◌, map, set, take, length, length-append, ◌+◌, ◌-◌, ◌<◌, ◌≤◌, zero-le, ap, refl, sym, ◌∙◌, arith, append_assoc}
 use Rattle.std.specs.List.{AllZip, AppendsClones}
 use Rattle.std.proofs.lemmas.List.{map-append}
 use Rattle.version_publisher.specs.Contents.{joined, merged_last, last_two_joined, is_nonempty}
@@ -96,3 +96,13 @@ last_two_there f xs a b (suc zero) e h p q = absurd (omega arith)
 last_two_there f xs a b (suc (suc k)) e h p q =
     let i : suc (suc k) - 2 ≡ k = omega arith in
     let j : suc (suc k) - 1 ≡ suc k = omega arith in last_two_at f xs a b k e (p ∙ ap (λ n. get_or xs n a) i) (q ∙ ap (λ n. get_or xs n b) j)
+
+-- the last two parts have no more items than all of them
+pub last_two_joined-length : {A : Type 0} (xs : List (List A)) → length (last_two_joined xs) ≤ length (joined xs)
+last_two_joined-length [] = zero-le 0
+last_two_joined-length (a ∷ []) = omega (arith, length-append a [])
+last_two_joined-length (a ∷ b ∷ []) = omega (arith, length-append a b, length-append a (b ++ []), length-append b [])
+last_two_joined-length (a ∷ b ∷ c ∷ xs) = omega (arith, last_two_joined-length (b ∷ c ∷ xs), length-append a (joined (b ∷ c ∷ xs)))
+
+pub last_two_fit : {A : Type 0} (xs : List (List A)) (a b : List A) (most : ℕ) → last_two_joined xs ≡ a ++ b → length (joined xs) ≤ most → length a + length b ≤ most
+last_two_fit xs a b most e h = omega (arith, last_two_joined-length xs, ap length e, length-append a b, h)

@@ -83,8 +83,8 @@ impl<P: Part> Publisher<P> {
     }
 
     /// Appends all pending parts to the log at one step, and makes a pending merge. So one log more was
-    /// published, and no look finds a log with a part of them alone. Where memory is refused all is as it
-    /// was.
+    /// published, and no reader of this publisher's copies finds a log with some of them alone. Where memory
+    /// is refused all is as it was.
     pub fn publish<R: Wait>(&mut self, rt: &R) -> Result<Receipt<P>, NoMemory>
         ensures { MatchResult result
             (λ receipt. (self.new ≡ record self.old { log = self.old.log ++ self.old.pending; published = self.old.published ++ (self.old.log ++ self.old.pending) ∷ []; pending = []; parts = self.old.next_parts; has_pending = false }) × (receipt.opening ≡ self.old.opening) × (receipt.log ≡ self.old.log ++ self.old.pending))
@@ -114,9 +114,10 @@ impl<P: Part> Publisher<P> {
         }
     }
 
-    /// Lends the last two published parts. None comes exactly where fewer than two parts are
-    /// published or something is pending.
+    /// Lends the last two published parts, which fit into one part. None comes exactly where fewer than
+    /// two parts are published or something is pending.
     pub fn last_two(&self) -> Option<(&P, &P)>
+        ensures fits { IfSome result (λ t. length (P.items t.0.now) + length (P.items t.1.now) ≤ P.MOST) }
         ensures joined { IfSome result (λ t. (2 ≤ length self.now.parts) × (last_two_joined self.now.parts ≡ P.items t.0.now ++ P.items t.1.now)) }
         ensures last { MatchOption result
             ((length self.now.parts < 2) ⊎ (self.now.has_pending ≡ true))

@@ -103,6 +103,26 @@ fn publish_one_part<R: Wait + Abort>(rt: &R, alloc: Global) -> Result<(), Fail> 
 }
 
 #[test]
+fn publishes_all_that_is_pending(rt: HostRuntime) -> Result<(), Fail> {
+    publish_two_parts(&rt, rt.alloc())
+}
+
+fn publish_two_parts<R: Wait + Abort>(rt: &R, alloc: Global) -> Result<(), Fail> {
+    let one = part_of(alloc, &[1, 2])?;
+    let other = part_of(alloc, &[3])?;
+    let (mut publisher, mut searchers) = open::<Numbers, R>(alloc, rt, 1)?;
+    let searcher = &mut searchers[0];
+    let appended = publisher.append(one).is_ok() && publisher.append(other).is_ok();
+    let pending = searcher.look(alloc).map(|version| summary(&version));
+    let number = publisher.publish(rt).map(|receipt| receipt.number()).ok();
+    let after = searcher.look(alloc).map(|version| summary(&version));
+    publisher.close(rt);
+    assert_eq!(rt; (appended, number), (true, Some(2)));
+    assert_eq!(rt; (pending, after), (Ok((0, 0, 0)), Ok((2, 2, 123))));
+    Ok(())
+}
+
+#[test]
 fn merges_the_last_two(rt: HostRuntime) -> Result<(), Fail> {
     merge_two_parts(&rt, rt.alloc())
 }
@@ -141,9 +161,6 @@ fn merge_and_publish<R: Wait>(
     ensures { publisher.new.log ≡ publisher.old.log }
 {
     let (one, other) = publisher.last_two()?;
-    if one.all.len() + other.all.len() > 1000 {
-        return None;
-    }
     let merged = merge(alloc, one, other).ok()?;
     publisher.merge_last(merged).ok()?;
     publisher.publish(rt).map(|receipt| receipt.number()).ok()
@@ -165,10 +182,20 @@ fn versions_grow_and_copy(rt: HostRuntime) -> Result<(), Fail> {
     Ok(())
 }
 
-// How many of a thousand looks gave a number below the one before, and how many gave none.
-fn look_often(alloc: Global, searcher: Searcher<Numbers>) -> (u64, u64) {
+// What a thousand looks came to.
+#[derive(Clone, Copy, Debug, PartialEq, Eq)]
+struct Looks {
+    // whose number was below the one before
+    fallen: u64,
+    // that found a part of a publish alone: each publish is of two parts
+    halves: u64,
+    // that gave no version
+    refused: u64,
+}
+
+fn look_often(alloc: Global, searcher: Searcher<Numbers>) -> Looks {
     let mut searcher = searcher;
-    let (mut fallen, mut refused) = (0u64, 0u64);
+    let (mut fallen, mut halves, mut refused) = (0u64, 0u64, 0u64);
     let mut last = 0u64;
     for _ in 0..1000u32 {
         match searcher.look(alloc) {
@@ -177,15 +204,20 @@ fn look_often(alloc: Global, searcher: Searcher<Numbers>) -> (u64, u64) {
                     fallen = fallen.saturating_add(1);
                 }
                 last = version.number();
+                halves = halves.saturating_add(last % 2);
             }
             Err(_) => refused = refused.saturating_add(1),
         }
     }
-    (fallen, refused)
+    Looks {
+        fallen,
+        halves,
+        refused,
+    }
 }
 
-// Appends a part and publishes it.
-fn publish_part<R: Wait>(rt: &R, publisher: &mut Publisher<Numbers>, part: &Arc<Numbers>) -> bool
+// Appends a copy of a part.
+fn append_copy(publisher: &mut Publisher<Numbers>, part: &Arc<Numbers>) -> bool
     requires room { length (joined (publisher.old.log ++ publisher.old.pending)) + length (arc_value part.now).all.items ≤ 1000 }
     requires number { length (publisher.old.log ++ publisher.old.pending) + 1 < 2 ^ 64 }
     ensures same { publisher.new.opening ≡ publisher.old.opening }
@@ -194,23 +226,53 @@ fn publish_part<R: Wait>(rt: &R, publisher: &mut Publisher<Numbers>, part: &Arc<
     let Ok(part) = Arc::try_clone(part) else {
         return false;
     };
-    publisher.append(part).is_ok() && publisher.publish(rt).is_ok()
+    publisher.append(part).is_ok()
 }
 
-// Publishes a part of one number so many times. Answers how often it went well.
+// Publishes what is pending where that makes an even number of parts, and a searcher that learns of it looks. Answers
+// whether all went well and the look found exactly that number.
+fn publish_even<R: Wait>(
+    rt: &R,
+    alloc: Global,
+    publisher: &mut Publisher<Numbers>,
+    searcher: &mut Searcher<Numbers>,
+    number: u32,
+) -> bool
+    requires opening { searcher.old.opening ≡ publisher.old.opening }
+    ensures same { (publisher.new.opening ≡ publisher.old.opening) × (searcher.new.opening ≡ searcher.old.opening) }
+    ensures log { publisher.new.log ++ publisher.new.pending ≡ publisher.old.log ++ publisher.old.pending }
+{
+    if number % 2 == 1 {
+        return true;
+    }
+    let Ok(receipt) = publisher.publish(rt) else {
+        return false;
+    };
+    searcher.learn(receipt);
+    let found = searcher.look(alloc).map(|version| version.number());
+    found == Ok(u64::from(number))
+}
+
+// Appends a part of one number so many times, and publishes two at a time. Answers how often it went well.
 fn publish_often<R: Wait>(
     rt: &R,
+    alloc: Global,
     publisher: &mut Publisher<Numbers>,
+    searcher: &mut Searcher<Numbers>,
     part: &Arc<Numbers>,
     times: u32,
 ) -> u32
     requires times { times ≤ 1000 }
     requires one { length (arc_value part.now).all.items ≡ 1 }
     requires empty { (publisher.old.log ≡ []) × (publisher.old.pending ≡ []) }
-    ensures same { publisher.new.opening ≡ publisher.old.opening }
+    requires opening { searcher.old.opening ≡ publisher.old.opening }
+    ensures same { (publisher.new.opening ≡ publisher.old.opening) × (searcher.new.opening ≡ searcher.old.opening) }
 {
     for i in 0..times {
-        if !publish_part(rt, publisher, part) {
+        if !append_copy(publisher, part) {
+            return i;
+        }
+        if !publish_even(rt, alloc, publisher, searcher, i + 1) {
             return i;
         }
     }
@@ -230,16 +292,21 @@ fn look_while_publishing<R: Threads + Wait + Abort>(rt: &R, alloc: Global) -> Re
     let second = searchers.pop().unwrap();
     let one = thread::spawn(rt, move || look_often(alloc, first));
     let other = thread::spawn(rt, move || look_often(alloc, second));
-    let published = publish_often(rt, &mut publisher, &part, 900);
+    let searcher = &mut searchers[0];
+    let published = publish_often(rt, alloc, &mut publisher, searcher, &part, 900);
     let one = one.map(|thread| thread.join(rt)).ok();
     let other = other.map(|thread| thread.join(rt)).ok();
-    let searcher = &mut searchers[0];
     searcher.meet(rt, &publisher);
     let whole = searcher
         .look_with(alloc, &publisher)
         .map(|version| version.number());
     publisher.close(rt);
+    let wanted = Looks {
+        fallen: 0,
+        halves: 0,
+        refused: 0,
+    };
     assert_eq!(rt; (published, whole), (900, Ok(900)));
-    assert_eq!(rt; (one, other), (Some((0, 0)), Some((0, 0))));
+    assert_eq!(rt; (one, other), (Some(wanted), Some(wanted)));
     Ok(())
 }

@@ -108,6 +108,16 @@ fn accepted_texts(rt: HostRuntime) -> Result<(), Fail> {
             "\u{feff}Hello (see below)\n(;SZ[5];B[aa])\n-- \n(;SZ[5])( ;SZ[5])",
             3,
         ),
+        // a mail, with lines that end in CR LF
+        (
+            "From: Ito (Kyoto)\r\nSubject: [go] 5d;\r\n\r\n(;GM[1]FF[4]SZ[19:19]\r\n;B[pd]\r\n;W[dp])\r\n",
+            1,
+        ),
+        // brackets behind a game that open and close nothing
+        ("(;SZ[5];B[aa])\r\n-- :-) ] [ ( \\", 1),
+        // two passes of one side are no two moves at one point, and an empty value is no setup
+        ("(;W[];B[];B[tt])", 1),
+        ("(;AB[][ ];B[aa])", 1),
     ];
     for (text, games) in cases {
         let report = format!(in alloc;
@@ -118,6 +128,39 @@ fn accepted_texts(rt: HostRuntime) -> Result<(), Fail> {
         let ended = import_text(alloc, text.as_bytes().to_vec(alloc)?)?;
         expect_end(&rt, &ended, Status::Done, report.as_str(), text);
     }
+    Ok(())
+}
+
+/// Files of the path `d` with the names `0.sgf`, `1.sgf` and so on, each of so many games of one node.
+fn files_of_games(alloc: Global, counts: &[u32]) -> Result<Vec<FileEntry>, Fail> {
+    let mut files = Vec::new(alloc);
+    for count in counts {
+        let number = files.len();
+        files.push(FileEntry {
+            path: String::from_str(alloc, "d")?,
+            name: format!(in alloc; "{number}.sgf")?,
+            bytes: repeated(alloc, "", "(;)", *count, "")?,
+        })?;
+    }
+    Ok(files)
+}
+
+#[test]
+fn files_that_fill_the_base(rt: HostRuntime) -> Result<(), Fail> {
+    let alloc = rt.alloc();
+    // Six files of 65,536 games are 393,216 games, and 6,784 more are 400,000.
+    let counts = [
+        65_536, 65_536, 65_536, 65_536, 65_536, 65_536, 65_536, 6_784, 1,
+    ];
+    let written = "1 import d\n\
+        1 imported files 9 accepted 7 refused 0 full 2 unread 0 games 400000 version 1\n\
+        full 458752 458752 6.sgf\n\
+        full 400001 400001 8.sgf\n\
+        2 wait version 1\n";
+    let files = files_of_games(alloc, &counts)?;
+    let script = b"import d\nwait\n".to_vec(alloc)?;
+    let ended = run_words(alloc, &[], files, script, NO_FAULTS)?;
+    expect_end(&rt, &ended, Status::Done, written, "a full base");
     Ok(())
 }
 

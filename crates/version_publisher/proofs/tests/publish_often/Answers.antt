@@ -9,10 +9,10 @@ loop-i-preserved g c =
     let next = c.loop-i.i + 1 in
     let whole = c.loop-i.publisher.log ++ c.loop-i.publisher.pending in
     let part = (arc_value c.args.part.now).all.items in
-    let grown : c.publish_part.new.publisher.log ++ c.publish_part.new.publisher.pending ≡ whole ++ part ∷ [] = c.if-not-publish_part.ensures.log in
+    let grown : c.publish_even.new.publisher.log ++ c.publish_even.new.publisher.pending ≡ whole ++ part ∷ [] = c.publish_even.ensures.log ∙ c.if-not-append_copy.ensures.log in
     let number : length (whole ++ part ∷ []) ≤ next = omega (arith, length-append whole (part ∷ []), c.loop-i.invariant.number) in
     let fits : length (joined whole) + length part ≤ next = omega (arith, c.loop-i.invariant.room, c.requires.one) in record {
-      same = c.publish_part.ensures.same ∙ c.loop-i.invariant.same;
+      same = (c.publish_even.ensures.same.0 ∙ (c.append_copy.ensures.same ∙ c.loop-i.invariant.same.0), c.publish_even.ensures.same.1 ∙ c.loop-i.invariant.same.1);
       number = subst (λ l. length l ≤ next) (sym grown) number;
       room = subst (λ l. length (joined l) ≤ next) (sym grown) (joined_append_fits next whole part fits);
     }

@@ -5,7 +5,7 @@ use Rattle.version_publisher.proofs.tests.publish_often.Given as goal
 -- each turn appends one part of one number
 abbrev pub invariant-loop-i : goal.invariant-loop-i
 invariant-loop-i g l = record {
-  same : l.publisher.opening ≡ l.initial.publisher.opening;
+  same : (l.publisher.opening ≡ l.initial.publisher.opening) × (l.searcher.opening ≡ l.initial.searcher.opening);
   number : length (l.publisher.log ++ l.publisher.pending) ≤ l.i;
   room : length (joined (l.publisher.log ++ l.publisher.pending)) ≤ l.i;
 }
