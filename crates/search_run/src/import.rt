@@ -12,14 +12,21 @@ ghost use Rattle.search_run.specs.Rooms.{AddsSimple, AreAdded, IsAdded};
 ghost use Rattle.search_run.specs.Session.{trees_of};
 
 use crate::outcome::{Counts, FileOutcome, outcome_of, with_added};
-use game_tree::GameTree;
+use game_tree::{GameTree, Setup};
 use kb_edges::{Folder, FolderError, sort_names};
 use kb_geometry::NoMemory;
-use sgf_reader::MAX_FILE;
+use sgf_reader::{MAX_FILE, Pair, RawNode};
 use std::alloc::Global;
 
 /// The most names that an import may have.
 pub(crate) const MAX_NAMES: usize = 64;
+
+// While a file is imported this is held of each node, each value and each setup, beside its bytes and its trees' nodes.
+const _: () = prove!(size_of::<RawNode>() == 32);
+
+const _: () = prove!(size_of::<Pair>() == 16);
+
+const _: () = prove!(size_of::<Setup>() == 5);
 
 /// A file of an import, by its name, and what became of it.
 #[derive(Debug, Drop)]

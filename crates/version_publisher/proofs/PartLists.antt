@@ -1,5 +1,5 @@
 -- The items of parts that are copied, appended or merged.
-use Rattle.std.proofs.Common.{get_or, ◌≡◌, ◌||◌, Bool, true, false, ℕ, zero, suc, List, [], ◌∷◌, ◌++◌, map, set, take, length, length-append, ◌+◌, ◌-◌, ◌<◌, ◌≤◌, zero-le, ap, refl, sym, ◌∙◌, arith, append_assoc}
+use Rattle.std.proofs.Common.{get_or, ◌≡◌, ◌||◌, Bool, true, false, ℕ, zero, suc, List, [], ◌∷◌, ◌++◌, map, set, take, length, length-append, ◌+◌, ◌-◌, ◌<◌, ◌≤◌, ap, refl, sym, ◌∙◌, arith, append_assoc}
 use Rattle.std.specs.List.{AllZip, AppendsClones}
 use Rattle.std.proofs.lemmas.List.{map-append}
 use Rattle.version_publisher.specs.Contents.{joined, merged_last, last_two_joined, is_nonempty}
@@ -99,7 +99,7 @@ last_two_there f xs a b (suc (suc k)) e h p q =
 
 -- the last two parts have no more items than all of them
 pub last_two_joined-length : {A : Type 0} (xs : List (List A)) → length (last_two_joined xs) ≤ length (joined xs)
-last_two_joined-length [] = zero-le 0
+last_two_joined-length [] = omega arith
 last_two_joined-length (a ∷ []) = omega (arith, length-append a [])
 last_two_joined-length (a ∷ b ∷ []) = omega (arith, length-append a b, length-append a (b ++ []), length-append b [])
 last_two_joined-length (a ∷ b ∷ c ∷ xs) = omega (arith, last_two_joined-length (b ∷ c ∷ xs), length-append a (joined (b ∷ c ∷ xs)))
