@@ -7,7 +7,8 @@ use Rattle.game_tree.specs.declared.node.Setup.{Setup}
 use Rattle.game_tree.specs.declared.stored.TreeNode.{TreeNode}
 use Rattle.game_tree.specs.Built.{Built, IsGrown, tree_so_far}
 use Rattle.game_tree.specs.Information.{no_information}
-use Rattle.game_tree.specs.Tree.{Node, IsRectOnBoard, node_at, parent_of}
+use Rattle.game_tree.specs.Tree.{Node, node_at, parent_of}
+use Rattle.kb_geometry.specs.Board.{IsRectOnBoard}
 use Rattle.game_tree.specs.Stored.{node_in, shown_node, shown_built, IsBeginning, AreLinks}
 use Rattle.game_tree.proofs.StoredTrees.{length-shown, node_at-shown}
 

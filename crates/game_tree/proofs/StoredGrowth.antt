@@ -12,13 +12,13 @@ use Rattle.std.specs.List.{range_with_len, between}
 use Rattle.std.specs.Option.{option_map_or}
 use Rattle.kb_geometry.specs.declared.shape.Shape.{Shape}
 use Rattle.kb_geometry.specs.declared.shape.Point.{Point}
-use Rattle.kb_geometry.specs.Board.{IsOnBoard}
+use Rattle.kb_geometry.specs.Board.{IsOnBoard, IsRectOnBoard}
 use Rattle.game_tree.specs.declared.node.Move.{Move}
 use Rattle.game_tree.specs.declared.node.Setup.{Setup}
 use Rattle.game_tree.specs.declared.stored.TreeNode.{TreeNode}
 use Rattle.game_tree.specs.Built.{Built, IsGrown, IsNextParent, tree_of, tree_so_far, with_setup, with_node}
 use Rattle.game_tree.specs.Information.{Information, HasSimpleTexts}
-use Rattle.game_tree.specs.Tree.{IsTree, IsRectOnBoard, IsNodeOnBoard, node_count, parent_of, next_sibling_of, move_number_of, branchings_to}
+use Rattle.game_tree.specs.Tree.{IsTree, IsNodeOnBoard, node_count, parent_of, next_sibling_of, move_number_of, branchings_to}
 use Rattle.game_tree.specs.Stored.{node_in, setups_start, shown_parent, shown_node, shown_nodes, shown_built, or_zero, one_if, IsBeginning, IsMainEnd, AreEnds, AreLinks}
 use Rattle.game_tree.proofs.Growth.{next_parent-none, next_parent-some, IsGrown-more, sibling-new, sibling-last, siblings-first, siblings-other, moves-before, moves-last, moves-root}
 use Rattle.game_tree.proofs.Paths.{IsAbove-same, move_number-same}

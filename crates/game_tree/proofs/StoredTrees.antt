@@ -8,13 +8,13 @@ use Rattle.std.specs.Prelude.{is_some, All, IfSome}
 use Rattle.std.specs.List.{between}
 use Rattle.kb_geometry.specs.declared.shape.Shape.{Shape}
 use Rattle.kb_geometry.specs.declared.shape.Point.{Point}
-use Rattle.kb_geometry.specs.Board.{IsOnBoard}
+use Rattle.kb_geometry.specs.Board.{IsOnBoard, IsRectOnBoard}
 use Rattle.game_tree.specs.declared.node.Move.{Move}
 use Rattle.game_tree.specs.declared.node.Setup.{Setup}
 use Rattle.game_tree.specs.declared.stored.TreeNode.{TreeNode}
 use Rattle.game_tree.specs.Information.{Information}
 use Rattle.game_tree.specs.MainLine.{IsOnMainLine}
-use Rattle.game_tree.specs.Tree.{Tree, Node, IsTree, IsRectOnBoard, node_count, node_at, parent_of, first_child_of, next_sibling_of, move_number_of}
+use Rattle.game_tree.specs.Tree.{Tree, Node, IsTree, node_count, node_at, parent_of, first_child_of, next_sibling_of, move_number_of}
 use Rattle.game_tree.specs.Stored.{node_in, setups_start, shown_node, shown_nodes, shown_tree, or_zero, one_if, IsStored, AreLinks}
 use Rattle.game_tree.proofs.MainLines.{IsOnMainLine-below}
 use Rattle.game_tree.proofs.Trees.{cases_Option, IsGrown-tree, parent-in_range, first_child-behind, first_child-none, next_sibling-facts}

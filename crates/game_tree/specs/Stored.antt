@@ -8,7 +8,8 @@ use Rattle.game_tree.specs.declared.node.Setup.{Setup}
 use Rattle.game_tree.specs.declared.stored.TreeNode.{TreeNode}
 use Rattle.game_tree.specs.Built.{Built, IsGrown, tree_so_far}
 use Rattle.game_tree.specs.Information.{Information}
-use Rattle.game_tree.specs.Tree.{Tree, Node, IsTree, IsRectOnBoard, node_count, parent_of, children_of, next_sibling_of, move_number_of}
+use Rattle.game_tree.specs.Tree.{Tree, Node, IsTree, node_count, parent_of, children_of, next_sibling_of, move_number_of}
+use Rattle.kb_geometry.specs.Board.{IsRectOnBoard}
 
 -- the stored node with this number
 abbrev pub node_in : List TreeNode → ℕ → TreeNode

@@ -4,9 +4,8 @@ use Rattle.std.specs.Prelude.{◌≡◌, ℕ, ◌+◌, ◌-◌, ◌<◌, ◌≤�
 use Rattle.std.specs.Option.{option_map_or}
 use Rattle.std.specs.List.{range_with_len}
 use Rattle.kb_geometry.specs.declared.shape.Shape.{Shape}
-use Rattle.kb_geometry.specs.declared.shape.Rect.{Rect}
 use Rattle.kb_geometry.specs.declared.shape.Point.{Point}
-use Rattle.kb_geometry.specs.Board.{IsOnBoard, cols_of, rows_of}
+use Rattle.kb_geometry.specs.Board.{IsOnBoard, IsRectOnBoard}
 use Rattle.game_tree.specs.declared.node.Setup.{Setup}
 use Rattle.game_tree.specs.declared.node.Move.{Move}
 use Rattle.game_tree.specs.Information.{Information, HasSimpleTexts}
@@ -37,10 +36,6 @@ parent_of tree n = (node_at tree n).parent
 pub data IsAbove (tree : Tree) : ℕ → ℕ → Type 0 where
   itself : {n : ℕ} → IsAbove tree n n
   higher : {a m n : ℕ} → parent_of tree n ≡ Some m → IsAbove tree a m → IsAbove tree a n
-
--- the rectangle lies on the board, and its first corner is the upper left one
-abbrev pub IsRectOnBoard : Shape → Rect → Type 0
-IsRectOnBoard shape r = (r.x0 ≤ r.x1) × (r.y0 ≤ r.y1) × (r.x1 < cols_of shape) × (r.y1 < rows_of shape)
 
 -- what a node sets up and plays lies on the board
 pub record IsNodeOnBoard (shape : Shape) (node : Node) : Type 0 where

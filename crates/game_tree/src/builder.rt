@@ -34,12 +34,12 @@ impl Model for TreeBuilder {
 
 impl TreeBuilder {
     ghost use Rattle.kb_geometry.specs.declared.shape.Point.{Point};
-    ghost use Rattle.kb_geometry.specs.Board.{IsOnBoard};
+    ghost use Rattle.kb_geometry.specs.Board.{IsOnBoard, IsRectOnBoard};
     ghost use Rattle.game_tree.specs.declared.node.Setup.{Setup};
     ghost use Rattle.game_tree.specs.declared.node.Move.{Move};
     ghost use Rattle.game_tree.specs.Built.{Built, nothing_built, with_setup, with_node, tree_of, tree_so_far, IsNextParent, IsGrown};
     ghost use Rattle.game_tree.specs.Information.{HasSimpleTexts};
-    ghost use Rattle.game_tree.specs.Tree.{IsTree, IsAbove, IsRectOnBoard, branchings_to, next_sibling_of, parent_of};
+    ghost use Rattle.game_tree.specs.Tree.{IsTree, IsAbove, branchings_to, next_sibling_of, parent_of};
 
     // Nothing is read yet of a game on this board.
     pub(crate) fn new(alloc: Global, shape: Shape) -> Self

@@ -36,12 +36,12 @@ impl Model for GameTree {
 impl GameTree {
     ghost use Rattle.kb_geometry.specs.declared.shape.Shape.{Shape};
     ghost use Rattle.kb_geometry.specs.declared.shape.Point.{Point};
-    ghost use Rattle.kb_geometry.specs.Board.{IsOnBoard};
+    ghost use Rattle.kb_geometry.specs.Board.{IsOnBoard, IsRectOnBoard};
     ghost use Rattle.game_tree.specs.declared.node.Setup.{Setup};
     ghost use Rattle.game_tree.specs.declared.node.Move.{Move};
     ghost use Rattle.game_tree.specs.MainLine.{IsOnMainLine};
     ghost use Rattle.game_tree.specs.Stored.{shown_tree, IsStored};
-    ghost use Rattle.game_tree.specs.Tree.{Tree, IsTree, IsRectOnBoard, node_count, node_at, parent_of, children_of, first_child_of, next_sibling_of, move_number_of};
+    ghost use Rattle.game_tree.specs.Tree.{Tree, IsTree, node_count, node_at, parent_of, children_of, first_child_of, next_sibling_of, move_number_of};
 
     // The tree that is stored so.
     pub(crate) fn stored(

@@ -4,10 +4,9 @@ ghost use Rattle.std.specs.Str.Parse.{AllDigits, digits_value};
 ghost use Rattle.kb_geometry.specs.declared.shape.Point.{Point};
 ghost use Rattle.kb_geometry.specs.declared.shape.Rect.{Rect};
 ghost use Rattle.kb_geometry.specs.declared.shape.Shape.{Shape};
-ghost use Rattle.kb_geometry.specs.Board.{IsOnBoard, cols_of, rows_of};
+ghost use Rattle.kb_geometry.specs.Board.{IsOnBoard, cols_of, rows_of, IsRectOnBoard};
 ghost use Rattle.kb_geometry.specs.Side.{IsSide};
 ghost use Rattle.game_tree.specs.Property.{IsTrimmed};
-ghost use Rattle.game_tree.specs.Tree.{IsRectOnBoard};
 ghost use Rattle.game_tree.specs.Value.{IsCoordinate, IsMoveText, IsMoveValue, IsPoint, IsSetupText, IsSetupValue, IsSideText, IsSize, rect_of};
 
 use kb_geometry::{MAX_SIDE, Point, Rect, Shape};

@@ -1,7 +1,8 @@
--- Shapes and points: which points lie on a board, their numbers, and which are neighbours.
-use Rattle.std.specs.Prelude.{◌≡◌, ℕ, ◌+◌, ◌*◌, ◌<◌, ◌⊎◌}
+-- Shapes, points and rectangles: which lie on a board, the numbers of points, and which points are neighbours.
+use Rattle.std.specs.Prelude.{◌≡◌, ℕ, ◌+◌, ◌*◌, ◌<◌, ◌≤◌, ◌⊎◌}
 use Rattle.kb_geometry.specs.declared.shape.Shape.{Shape}
 use Rattle.kb_geometry.specs.declared.shape.Point.{Point}
+use Rattle.kb_geometry.specs.declared.shape.Rect.{Rect}
 
 -- how many columns a board has
 abbrev pub cols_of : Shape → ℕ
@@ -18,6 +19,14 @@ point_count shape = cols_of shape * rows_of shape
 -- the point lies on the board
 abbrev pub IsOnBoard : Shape → Point → Type 0
 IsOnBoard shape p = (p.x < cols_of shape) × (p.y < rows_of shape)
+
+-- the rectangle lies on the board, and its first corner is the upper left one
+abbrev pub IsRectOnBoard : Shape → Rect → Type 0
+IsRectOnBoard shape r = (r.x0 ≤ r.x1) × (r.y0 ≤ r.y1) × (r.x1 < cols_of shape) × (r.y1 < rows_of shape)
+
+-- the point lies in the rectangle, to which both corners belong
+abbrev pub IsInside : Rect → Point → Type 0
+IsInside r p = (r.x0 ≤ p.x) × (p.x ≤ r.x1) × (r.y0 ≤ p.y) × (p.y ≤ r.y1)
 
 -- the number of a point: row by row from the upper left
 abbrev pub number_of : Shape → Point → ℕ

@@ -1,11 +1,14 @@
 -- Positions and the capture rule of Go, by walks over neighbours and whole lists of cells.
-use Rattle.std.specs.Prelude.{◌≡◌, ℕ, List, length, slice_index_or, slice_set, replicate}
+use Rattle.std.specs.Prelude.{◌≡◌, ℕ, ◌%◌, ◌/◌, ◌&&◌, nat_le, Bool, if◌then◌else◌, List, length, map, slice_index_or, slice_set, replicate, Option, Some, None}
+use Rattle.std.specs.List.{range_with_len}
 use Rattle.kb_geometry.specs.declared.shape.Shape.{Shape}
+use Rattle.kb_geometry.specs.declared.shape.Point.{Point}
+use Rattle.kb_geometry.specs.declared.shape.Rect.{Rect}
 use Rattle.kb_geometry.specs.declared.stone.Cell.{Cell}
 use Rattle.kb_geometry.specs.declared.stone.Cell.TheVariants as cell
 use Rattle.kb_geometry.specs.declared.stone.Colour.{Colour}
 use Rattle.kb_geometry.specs.declared.stone.Colour.TheVariants as colour
-use Rattle.kb_geometry.specs.Board.{AreNeighbours, point_count}
+use Rattle.kb_geometry.specs.Board.{AreNeighbours, cols_of, number_of, point_count}
 
 -- A position is the list of the cells of all points, by their numbers.
 abbrev pub Position : Type 0
@@ -71,3 +74,16 @@ pub record IsPlayed (shape : Shape) (before : Position) (side : Colour) (point :
   pub between : Position
   pub captures : IsWithout (IsCaptured shape (slice_set before point (stone_of side)) (other_side side) point) (slice_set before point (stone_of side)) between
   pub suicide : IsWithout (IsSuicide shape between point) between after
+
+-- the position after a move by the capture rule; a pass changes nothing
+abbrev pub IsMovePlayed : Shape → Position → Colour → Option Point → Position → Type 0
+IsMovePlayed shape before side None after = after ≡ before
+IsMovePlayed shape before side (Some p) after = IsPlayed shape before side (number_of shape p) after
+
+-- the point with this number lies in the rectangle
+abbrev pub is_inside : Shape → Rect → ℕ → Bool
+is_inside shape r p = (nat_le r.x0 (p % cols_of shape)) && (nat_le (p % cols_of shape) r.x1) && (nat_le r.y0 (p / cols_of shape)) && (nat_le (p / cols_of shape) r.y1)
+
+-- The rule of setup. Each point of the rectangle gets the cell, and nothing is captured.
+abbrev pub with_rect : Shape → Position → Cell → Rect → Position
+with_rect shape position stone r = map (λ p. if is_inside shape r p then stone else cell_at position p) (range_with_len 0 (point_count shape))

@@ -12,13 +12,13 @@ use Rattle.kb_geometry.specs.declared.stone.Cell.{Cell}
 use Rattle.kb_geometry.specs.declared.stone.Cell.TheVariants as cell
 use Rattle.kb_geometry.specs.declared.stone.Colour.{Colour}
 use Rattle.kb_geometry.specs.declared.stone.Colour.TheVariants as colour
-use Rattle.kb_geometry.specs.Board.{IsOnBoard}
+use Rattle.kb_geometry.specs.Board.{IsOnBoard, IsRectOnBoard}
 use Rattle.sgf_reader.specs.declared.collection.Pair.{Pair}
 use Rattle.game_tree.specs.declared.node.Move.{Move}
 use Rattle.game_tree.specs.declared.node.Setup.{Setup}
 use Rattle.game_tree.specs.Information.{Information}
 use Rattle.game_tree.specs.Property.{bytes_of, is_of, is_upper, mover_named, mover_of, setter_named, setter_of}
-use Rattle.game_tree.specs.Tree.{IsNodeOnBoard, IsRectOnBoard, Tree, node_at}
+use Rattle.game_tree.specs.Tree.{IsNodeOnBoard, Tree, node_at}
 use Rattle.game_tree.specs.Trees.{AreSetups, IsPlayedBy}
 use Rattle.game_tree.specs.Value.{IsMoveValue, IsSetupValue}
 use Rattle.sgf_writer.specs.Written.{escaped, mover_name, setter_name}

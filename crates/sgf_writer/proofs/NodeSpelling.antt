@@ -10,12 +10,12 @@ use Rattle.std.specs.Str.Parse.{AllDigits}
 use Rattle.kb_geometry.specs.declared.shape.Point.{Point}
 use Rattle.kb_geometry.specs.declared.shape.Rect.{Rect}
 use Rattle.kb_geometry.specs.declared.shape.Shape.{Shape}
-use Rattle.kb_geometry.specs.Board.{IsOnBoard, cols_of, rows_of}
+use Rattle.kb_geometry.specs.Board.{IsOnBoard, cols_of, rows_of, IsRectOnBoard}
 use Rattle.sgf_reader.specs.Grammar.{IsValue}
 use Rattle.game_tree.specs.declared.node.Move.{Move}
 use Rattle.game_tree.specs.declared.node.Setup.{Setup}
 use Rattle.game_tree.specs.Information.{Information}
-use Rattle.game_tree.specs.Tree.{IsRectOnBoard, IsTree, Tree, node_at, node_count}
+use Rattle.game_tree.specs.Tree.{IsTree, Tree, node_at, node_count}
 use Rattle.sgf_writer.specs.Letters.{HasLetter, HasLetters}
 use Rattle.sgf_writer.specs.Written.{move_text, root_text, setups_text, size_text, text_property}
 use Rattle.sgf_writer.proofs.Entries.{Spell-as, information_entries, move_entries, node_entries, plain-cons, root_entries, spell-move, spell-property, spell-setups, spell-text, two_letters, value-plain, plain-nil}

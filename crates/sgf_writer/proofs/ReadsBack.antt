@@ -7,7 +7,7 @@ use Rattle.std.specs.List.{AllZip}
 use Rattle.std.specs.Prelude.{Contains, IfSome}
 use Rattle.kb_geometry.specs.declared.shape.Point.{Point}
 use Rattle.kb_geometry.specs.declared.shape.Shape.{Shape}
-use Rattle.kb_geometry.specs.Board.{IsOnBoard, cols_of, rows_of}
+use Rattle.kb_geometry.specs.Board.{IsOnBoard, cols_of, rows_of, IsRectOnBoard}
 use Rattle.sgf_reader.specs.declared.collection.Pair.{Pair}
 use Rattle.sgf_reader.specs.declared.collection.RawGame.{RawGame}
 use Rattle.sgf_reader.specs.declared.collection.RawNode.{RawNode}
@@ -19,7 +19,7 @@ use Rattle.sgf_reader.proofs.WithinLimits.{within_limits-no_fault}
 use Rattle.game_tree.specs.declared.node.Move.{Move}
 use Rattle.game_tree.specs.declared.node.Setup.{Setup}
 use Rattle.game_tree.specs.Property.{IsTrimmed, bytes_of, first_pair}
-use Rattle.game_tree.specs.Tree.{IsNodeOnBoard, IsRectOnBoard, IsTree, Node, Tree, higher, node_at, node_count}
+use Rattle.game_tree.specs.Tree.{IsNodeOnBoard, IsTree, Node, Tree, higher, node_at, node_count}
 use Rattle.game_tree.specs.Trees.{AreSetups, IsNodeOf, IsPlayedBy, IsTreeOf}
 use Rattle.game_tree.specs.ValueFaults.{HasValueFault, IsBoard, bad_move, bad_setup, bad_size, not_go, two_moves}
 use Rattle.game_tree.proofs.Subtrees.{IsSubtree}

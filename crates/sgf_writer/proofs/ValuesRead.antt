@@ -10,11 +10,10 @@ use Rattle.std.specs.Prelude.{IfSome}
 use Rattle.kb_geometry.specs.declared.shape.Point.{Point}
 use Rattle.kb_geometry.specs.declared.shape.Rect.{Rect}
 use Rattle.kb_geometry.specs.declared.shape.Shape.{Shape}
-use Rattle.kb_geometry.specs.Board.{IsOnBoard, cols_of, rows_of}
+use Rattle.kb_geometry.specs.Board.{IsOnBoard, cols_of, rows_of, IsRectOnBoard}
 use Rattle.game_tree.specs.Information.{HasNoControls}
 use Rattle.game_tree.specs.Property.{IsTrimmed}
 use Rattle.game_tree.specs.SimpleText.{IsReadAs, IsSimpleText, byte, hidden_byte, itself, nothing, white}
-use Rattle.game_tree.specs.Tree.{IsRectOnBoard}
 use Rattle.game_tree.specs.Value.{IsCoordinate, IsMoveValue, IsPoint, IsSetupValue, IsSideText, IsSize, columns_and_rows, letters, pass, point, rect_of, square}
 use Rattle.game_tree.proofs.Colons.{corners_at, digits-no_colon, one_point_at, size-sides, size-square}
 use Rattle.sgf_writer.specs.Written.{escaped, letter_of, point_text, rect_text, size_text}

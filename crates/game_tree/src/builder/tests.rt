@@ -1,11 +1,11 @@
 // Tests whether a builder's next call is allowed, for tests that read tables.
 ghost use Rattle.std.specs.Prelude.{ℕ, ◌<◌, ◌≤◌, length, IsTrue, IfSome, Some};
 ghost use Rattle.kb_geometry.specs.declared.shape.Point.{Point};
-ghost use Rattle.kb_geometry.specs.Board.{IsOnBoard};
+ghost use Rattle.kb_geometry.specs.Board.{IsOnBoard, IsRectOnBoard};
 ghost use Rattle.game_tree.specs.declared.node.Move.{Move};
 ghost use Rattle.game_tree.specs.Built.{tree_of, IsNextParent};
 ghost use Rattle.game_tree.specs.Information.{Information};
-ghost use Rattle.game_tree.specs.Tree.{branchings_to, IsRectOnBoard};
+ghost use Rattle.game_tree.specs.Tree.{branchings_to};
 
 use super::TreeBuilder;
 use crate::{Move, Setup};

@@ -1,7 +1,7 @@
 use Rattle.std.proofs.Common.{sym, subst, ◌∙◌, ap, arith, List}
 use Rattle.game_tree.specs.declared.node.Setup.{Setup}
 use Rattle.game_tree.specs.Built.{Built, with_setup}
-use Rattle.game_tree.specs.Tree.{IsRectOnBoard}
+use Rattle.kb_geometry.specs.Board.{IsRectOnBoard}
 use Rattle.game_tree.specs.Stored.{IsBeginning, shown_built}
 use Rattle.game_tree.proofs.StoredGrowth.{shown_built-setup, IsBeginning-setup}
 use Rattle.game_tree.proofs.builder.TreeBuilder.add_setup.Goals as goal
