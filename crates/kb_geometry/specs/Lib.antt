@@ -1,3 +1,4 @@
 pub mod Board
 pub mod Capture
 pub mod Side
+pub mod Symmetry

@@ -1,18 +1,23 @@
-//! The geometry of a Go board: shapes, points, stones, and the changes of a position.
+//! The geometry of a Go board: shapes, points, stones, the changes of a position, and the symmetries.
 //!
 //! Stands on std alone. In `specs/` are the words of the capture rule: position, neighbour, group,
-//! liberty and the position after a move. The layers above use that `Shape::number` and
-//! `Shape::point` are inverse, and cite those words.
+//! liberty and the position after a move, and the table of the symmetries. The layers above use that
+//! `Shape::number` and `Shape::point` are inverse, that `apply` is that table and `inverse` undoes it,
+//! and cite those words.
 #![tactic(auto)]
 
 mod memory;
 mod shape;
 mod stone;
+mod symmetry;
+mod symmetry_maps;
 mod text;
 
 pub use memory::NoMemory;
 pub use shape::{MAX_POINTS, MAX_SIDE, Point, Rect, Shape};
 pub use stone::{Cell, Change, Colour, Outcome};
+pub use symmetry::{Label, Symmetry};
+pub use symmetry_maps::{apply, apply_rect, inverse};
 pub use text::Text;
 
 #[cfg(test)]

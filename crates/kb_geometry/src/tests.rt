@@ -1,5 +1,10 @@
-// Shapes at their bounds, numbers of points on boards that aren't square, and texts.
-use crate::{MAX_POINTS, MAX_SIDE, Point, Shape, Text};
+// Shapes at their bounds, numbers of points on boards that aren't square, symmetries, labels and texts.
+ghost use Rattle.std.specs.Prelude.{IfSome};
+ghost use Rattle.kb_geometry.specs.Symmetry.{IsAllowed, number_of_symmetry};
+
+use crate::{
+    Label, MAX_POINTS, MAX_SIDE, Point, Rect, Shape, Symmetry, Text, apply, apply_rect, inverse,
+};
 use std::test::Fail;
 
 fn number_of_point(shape: Shape, point: Point) -> Option<u16> {
@@ -67,6 +72,170 @@ fn points_are_numbered_row_by_row(rt: HostRuntime) {
         assert_eq!(rt; found, Some(number));
         let back = shape.and_then(|shape| point_with_number(shape, number));
         assert_eq!(rt; back, Some(point));
+    }
+}
+
+// The symmetry with this number, where the board allows it.
+fn symmetry_on(shape: Shape, number: u8) -> Option<Symmetry>
+    ensures { IfSome result (λ s. IsAllowed (number_of_symmetry s) shape) }
+{
+    let s = Symmetry::new(number)?;
+    if number < 4 || shape.is_square() {
+        Some(s)
+    } else {
+        None
+    }
+}
+
+fn image_of_point(shape: Shape, number: u8, p: Point) -> Option<Point> {
+    let s = symmetry_on(shape, number)?;
+    if p.x < shape.cols() && p.y < shape.rows() {
+        Some(apply(s, shape, p))
+    } else {
+        None
+    }
+}
+
+fn image_of_rect(shape: Shape, number: u8, r: Rect) -> Option<Rect> {
+    let s = symmetry_on(shape, number)?;
+    if r.x0 <= r.x1 && r.y0 <= r.y1 && r.x1 < shape.cols() && r.y1 < shape.rows() {
+        Some(apply_rect(s, shape, r))
+    } else {
+        None
+    }
+}
+
+#[test]
+fn a_symmetry_moves_each_point_by_the_table(rt: HostRuntime) {
+    let cases = [
+        (5u8, 3u8, 0u8, (1u8, 0u8), (4u8, 2u8)),
+        (5, 3, 1, (3, 0), (0, 2)),
+        (5, 3, 2, (1, 2), (4, 0)),
+        (5, 3, 3, (3, 2), (0, 0)),
+        (4, 4, 0, (1, 0), (3, 2)),
+        (4, 4, 1, (2, 0), (0, 2)),
+        (4, 4, 2, (1, 3), (3, 1)),
+        (4, 4, 3, (2, 3), (0, 1)),
+        (4, 4, 4, (0, 1), (2, 3)),
+        (4, 4, 5, (0, 2), (2, 0)),
+        (4, 4, 6, (3, 1), (1, 3)),
+        (4, 4, 7, (3, 2), (1, 0)),
+    ];
+    for (cols, rows, number, near, far) in cases {
+        let shape = Shape::new(cols, rows);
+        // The second point of the top line, and the last one of the third line.
+        let top = Point { x: 1, y: 0 };
+        let third = Point {
+            x: if cols == 5 { 4 } else { 3 },
+            y: 2,
+        };
+        let images = [top, third].map(|p| shape.and_then(|shape| image_of_point(shape, number, p)));
+        let wanted = [near, far].map(|(x, y)| Some(Point { x, y }));
+        assert_eq!(rt; images, wanted, "symmetry {number} on {cols} by {rows}");
+    }
+}
+
+// Where the symmetry moves the point, and the inverse that point.
+fn there_and_back(shape: Shape, number: u8, p: Point) -> Option<Point> {
+    let there = image_of_point(shape, number, p)?;
+    let back = inverse(Symmetry::new(number)?);
+    image_of_point(shape, back.number(), there)
+}
+
+#[test]
+fn the_inverse_moves_each_point_back(rt: HostRuntime) {
+    for (cols, rows, symmetries) in [(5u8, 3u8, 4u8), (1, 19, 4), (4, 4, 8), (19, 19, 8)] {
+        for number in 0..symmetries {
+            for y in 0..rows {
+                for x in 0..cols {
+                    let p = Point { x, y };
+                    let back = Shape::new(cols, rows).and_then(|shape| there_and_back(
+                        shape, number, p,
+                    ));
+                    assert_eq!(rt; back, Some(p), "symmetry {number} on {cols} by {rows}");
+                }
+            }
+        }
+    }
+}
+
+#[test]
+fn quarter_turns_undo_each_other(rt: HostRuntime) {
+    for (number, back) in [
+        (0u8, 0u8),
+        (1, 1),
+        (2, 2),
+        (3, 3),
+        (4, 4),
+        (5, 6),
+        (6, 5),
+        (7, 7),
+    ] {
+        let found = Symmetry::new(number).map(|s| inverse(s).number());
+        assert_eq!(rt; found, Some(back), "symmetry {number}");
+    }
+}
+
+#[test]
+fn a_rectangle_goes_to_the_rectangle_of_the_images(rt: HostRuntime) {
+    let wide = Rect {
+        x0: 1,
+        y0: 0,
+        x1: 2,
+        y1: 1,
+    };
+    let square = Rect {
+        x0: 1,
+        y0: 0,
+        x1: 3,
+        y1: 1,
+    };
+    let cases = [
+        (5u8, 3u8, 0u8, wide, (1u8, 0u8, 2u8, 1u8)),
+        (5, 3, 1, wide, (2, 0, 3, 1)),
+        (5, 3, 2, wide, (1, 1, 2, 2)),
+        (5, 3, 3, wide, (2, 1, 3, 2)),
+        (4, 4, 0, square, (1, 0, 3, 1)),
+        (4, 4, 1, square, (0, 0, 2, 1)),
+        (4, 4, 2, square, (1, 2, 3, 3)),
+        (4, 4, 3, square, (0, 2, 2, 3)),
+        (4, 4, 4, square, (0, 1, 1, 3)),
+        (4, 4, 5, square, (0, 0, 1, 2)),
+        (4, 4, 6, square, (2, 1, 3, 3)),
+        (4, 4, 7, square, (2, 0, 3, 2)),
+    ];
+    for (cols, rows, number, r, (x0, y0, x1, y1)) in cases {
+        let image = Shape::new(cols, rows).and_then(|shape| image_of_rect(shape, number, r));
+        assert_eq!(rt;
+            image,
+            Some(Rect { x0, y0, x1, y1 }),
+            "symmetry {number} on {cols} by {rows}"
+        );
+    }
+}
+
+#[test]
+fn a_label_is_a_symmetry_and_perhaps_an_exchange(rt: HostRuntime) {
+    let cases = [
+        (0u8, Some((0u8, 0u8, false))),
+        (7, Some((7, 7, false))),
+        (8, Some((8, 0, true))),
+        (13, Some((13, 5, true))),
+        (15, Some((15, 7, true))),
+        (16, None),
+        (255, None),
+    ];
+    for (number, wanted) in cases {
+        let found = Label::new(number).map(|label| (
+            label.number(),
+            label.symmetry().number(),
+            label.exchanged(),
+        ));
+        assert_eq!(rt; found, wanted, "label {number}");
+    }
+    for (number, wanted) in [(0u8, Some(0u8)), (7, Some(7)), (8, None), (255, None)] {
+        let found = Symmetry::new(number).map(|s| s.number());
+        assert_eq!(rt; found, wanted, "symmetry {number}");
     }
 }
 
