@@ -6,6 +6,7 @@
 //! and cite those words.
 #![tactic(auto)]
 
+mod laws;
 mod memory;
 mod shape;
 mod stone;
@@ -13,6 +14,7 @@ mod symmetry;
 mod symmetry_maps;
 mod text;
 
+pub use laws::a_setup_sets_its_rectangle_alone;
 pub use memory::NoMemory;
 pub use shape::{MAX_POINTS, MAX_SIDE, Point, Rect, Shape};
 pub use stone::{Cell, Change, Colour, Outcome};
