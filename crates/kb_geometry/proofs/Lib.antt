@@ -1,2 +1,3 @@
 pub mod Setups
+pub mod Shapes
 pub mod Symmetries

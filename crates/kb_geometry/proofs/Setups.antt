@@ -2,15 +2,16 @@
 use Rattle.std.proofs.Common.{◌≡◌, inl, inr, Bool, true, false, cond, ◌&&◌, refl, ap, ◌∙◌, zero-add}
 use Rattle.std.specs.Prelude.{nat_le}
 use Rattle.std.proofs.lemmas.Bool.{cases_Bool, leb-true, le-leb}
-use Rattle.std.proofs.lemmas.Nat.{div-mul-add, mod-mul-add, mul-add-lt}
+use Rattle.std.proofs.lemmas.Nat.{div-mul-add, mod-mul-add}
 use Rattle.std.proofs.lemmas.List.FromFn.{get_or-map-range_with_len}
 use Rattle.kb_geometry.specs.declared.shape.Shape.{Shape}
 use Rattle.kb_geometry.specs.declared.shape.Point.{Point}
 use Rattle.kb_geometry.specs.declared.shape.Rect.{Rect}
 use Rattle.kb_geometry.specs.declared.stone.Cell.{Cell}
 use Rattle.kb_geometry.specs.declared.stone.Cell.TheVariants as cell
-use Rattle.kb_geometry.specs.Board.{IsInside, IsOnBoard, cols_of, number_of, point_count, rows_of}
+use Rattle.kb_geometry.specs.Board.{IsInside, IsOnBoard, cols_of, number_of, point_count}
 use Rattle.kb_geometry.specs.Capture.{Position, cell_at, is_inside, with_rect}
+use Rattle.kb_geometry.proofs.Shapes.{number_of-lt-count}
 
 -- the four tests of a point
 abbrev pub tests : Rect → Point → Bool
@@ -37,7 +38,7 @@ module _ (shape : Shape) (position : Position) (stone : Cell) (r : Rect) (p : Po
 
   cell-tests : cell_at (with_rect shape position stone r) (number_of shape p) ≡ cond (tests r p) stone (cell_at position (number_of shape p))
   cell-tests =
-      get_or-map-range_with_len (λ q. cond (is_inside shape r q) stone (cell_at position q)) 0 (point_count shape) (number_of shape p) (number_of shape p) cell.Empty (mul-add-lt p.y (cols_of shape) p.x (rows_of shape) on.1 on.0) (zero-add (number_of shape p))
+      get_or-map-range_with_len (λ q. cond (is_inside shape r q) stone (cell_at position q)) 0 (point_count shape) (number_of shape p) (number_of shape p) cell.Empty (number_of-lt-count shape p on) (zero-add (number_of shape p))
       ∙ ap (λ b. cond b stone (cell_at position (number_of shape p))) is_inside-tests
 
   pub with_rect-inside : IsInside r p → cell_at (with_rect shape position stone r) (number_of shape p) ≡ stone
