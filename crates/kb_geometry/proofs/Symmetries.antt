@@ -5,8 +5,8 @@ use Prim.Native.Nat.{min, max}
 use Rattle.kb_geometry.specs.declared.shape.Shape.{Shape}
 use Rattle.kb_geometry.specs.declared.shape.Point.{Point}
 use Rattle.kb_geometry.specs.declared.shape.Rect.{Rect}
-use Rattle.kb_geometry.specs.Board.{IsOnBoard, IsRectOnBoard, IsInside}
-use Rattle.kb_geometry.specs.Symmetry.{moved, inverse_number, IsAllowed, point_of}
+use Rattle.kb_geometry.specs.Board.{cols_of, rows_of, IsOnBoard, IsRectOnBoard, IsInside}
+use Rattle.kb_geometry.specs.Symmetry.{moved, inverse_number, turned_cols, turned_rows, IsAllowed, point_of}
 
 -- what holds for each of the eight symmetries
 pub each_symmetry : (P : ℕ → Type 0) → P 0 → P 1 → P 2 → P 3 → P 4 → P 5 → P 6 → P 7 → (n : ℕ) → n < 8 → P n
@@ -111,3 +111,58 @@ moved_rect-image shape r n lt allowed on_board q =
           (moved (inverse_number n) shape q, inside-moved shape r on_board q n lt allowed inside, inverse-moved shape q q_on n lt allowed)),
       (λ h. subst (λ (q : Point). IsInside (moved_rect n shape r) q) h.2 (moved-inside shape r on_board h.0 h.1 n lt allowed)),
     )
+
+-- ---- rectangles in their own frame
+
+-- the size of a rectangle after a symmetry
+abbrev pub IsTurned : ℕ → Shape → Shape → Type 0
+IsTurned n size to = (cols_of to ≡ turned_cols n size) × (rows_of to ≡ turned_rows n size)
+
+module _ (size to : Shape) (p : Point) where
+  -- a symmetry moves a point of a rectangle to one of the turned rectangle
+  pub moved-turned : IsOnBoard size p → (n : ℕ) → n < 8 → IsTurned n size to → IsOnBoard to (moved n size p)
+  moved-turned on = each_symmetry (λ n. IsTurned n size to → IsOnBoard to (moved n size p))
+      (λ t. (omega arith, omega arith))
+      (λ t. (omega arith, omega arith))
+      (λ t. (omega arith, omega arith))
+      (λ t. (omega arith, omega arith))
+      (λ t. (omega arith, omega arith))
+      (λ t. (omega arith, omega arith))
+      (λ t. (omega arith, omega arith))
+      (λ t. (omega arith, omega arith))
+
+  -- and the inverse, in the turned rectangle, moves it back
+  pub turned-back : IsOnBoard size p → (n : ℕ) → n < 8 → IsTurned n size to → moved (inverse_number n) to (moved n size p) ≡ p
+  turned-back on = each_symmetry (λ n. IsTurned n size to → moved (inverse_number n) to (moved n size p) ≡ p)
+      (λ t. same_point _ p (omega arith) (omega arith))
+      (λ t. same_point _ p (omega arith) (omega arith))
+      (λ t. same_point _ p (omega arith) (omega arith))
+      (λ t. same_point _ p (omega arith) (omega arith))
+      (λ t. same_point _ p (omega arith) (omega arith))
+      (λ t. same_point _ p (omega arith) (omega arith))
+      (λ t. same_point _ p (omega arith) (omega arith))
+      (λ t. same_point _ p (omega arith) (omega arith))
+
+  -- the inverse moves a point of the turned rectangle to one of the rectangle
+  pub inverse-turned : IsOnBoard to p → (n : ℕ) → n < 8 → IsTurned n size to → IsOnBoard size (moved (inverse_number n) to p)
+  inverse-turned on = each_symmetry (λ n. IsTurned n size to → IsOnBoard size (moved (inverse_number n) to p))
+      (λ t. (omega arith, omega arith))
+      (λ t. (omega arith, omega arith))
+      (λ t. (omega arith, omega arith))
+      (λ t. (omega arith, omega arith))
+      (λ t. (omega arith, omega arith))
+      (λ t. (omega arith, omega arith))
+      (λ t. (omega arith, omega arith))
+      (λ t. (omega arith, omega arith))
+
+  -- which the symmetry moves back
+  pub back-turned : IsOnBoard to p → (n : ℕ) → n < 8 → IsTurned n size to → moved n size (moved (inverse_number n) to p) ≡ p
+  back-turned on = each_symmetry (λ n. IsTurned n size to → moved n size (moved (inverse_number n) to p) ≡ p)
+      (λ t. same_point _ p (omega arith) (omega arith))
+      (λ t. same_point _ p (omega arith) (omega arith))
+      (λ t. same_point _ p (omega arith) (omega arith))
+      (λ t. same_point _ p (omega arith) (omega arith))
+      (λ t. same_point _ p (omega arith) (omega arith))
+      (λ t. same_point _ p (omega arith) (omega arith))
+      (λ t. same_point _ p (omega arith) (omega arith))
+      (λ t. same_point _ p (omega arith) (omega arith))

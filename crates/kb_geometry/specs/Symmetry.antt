@@ -1,5 +1,5 @@
 -- The eight symmetries of a board, and the sixteen labels: a symmetry, with or without an exchange of the colours.
-use Rattle.std.specs.Prelude.{◌≡◌, ℕ, ◌-◌, ◌%◌, ◌≤◌, ◌==◌, if◌then◌else◌}
+use Rattle.std.specs.Prelude.{◌≡◌, ℕ, ◌-◌, ◌%◌, ◌≤◌, ◌==◌, nat_lt, if◌then◌else◌}
 use Rattle.kb_geometry.specs.declared.shape.Shape.{Shape}
 use Rattle.kb_geometry.specs.declared.shape.Point.{Point}
 use Rattle.kb_geometry.specs.declared.symmetry.Symmetry.{Symmetry}
@@ -18,7 +18,8 @@ number_of_label label = label.number
 abbrev pub point_of : ℕ → ℕ → Point
 point_of x y = record { x = x; y = y }
 
--- Where the symmetry with a number moves a point of the board. Symmetries 4 to 7 exchange columns and rows.
+-- Where the symmetry with a number moves a point of a board, or of a rectangle of this size in its own frame.
+-- Symmetries 4 to 7 exchange columns and rows.
 abbrev pub moved : ℕ → Shape → Point → Point
 moved number shape p =
     if number == 0 then point_of p.x p.y
@@ -33,6 +34,14 @@ moved number shape p =
 -- the number of the symmetry that moves back: the quarter turns 5 and 6 undo each other, and each other symmetry undoes itself
 abbrev pub inverse_number : ℕ → ℕ
 inverse_number number = if number == 5 then 6 else if number == 6 then 5 else number
+
+-- how many columns a rectangle of this size has after the symmetry with a number
+abbrev pub turned_cols : ℕ → Shape → ℕ
+turned_cols number size = if nat_lt number 4 then cols_of size else rows_of size
+
+-- how many rows it then has
+abbrev pub turned_rows : ℕ → Shape → ℕ
+turned_rows number size = if nat_lt number 4 then rows_of size else cols_of size
 
 -- symmetries 4 to 7 are symmetries of square boards alone
 abbrev pub IsAllowed : ℕ → Shape → Type 0

@@ -19,7 +19,7 @@ pub use memory::NoMemory;
 pub use shape::{MAX_POINTS, MAX_SIDE, Point, Rect, Shape};
 pub use stone::{Cell, Change, Colour, Outcome};
 pub use symmetry::{Label, Symmetry};
-pub use symmetry_maps::{apply, apply_rect, inverse};
+pub use symmetry_maps::{apply, apply_rect, apply_within, inverse, turned};
 pub use text::Text;
 
 #[cfg(test)]

@@ -80,6 +80,17 @@ impl Shape {
         self.rows
     }
 
+    /// The shape with columns and rows exchanged.
+    pub(crate) fn exchanged(self) -> Self
+        ensures cols { cols_of result ≡ rows_of self }
+        ensures rows { rows_of result ≡ cols_of self }
+    {
+        Shape {
+            cols: self.rows,
+            rows: self.cols,
+        }
+    }
+
     /// Whether there are as many columns as rows.
     pub fn is_square(&self) -> bool
         ensures { IsTrue result ↔ (cols_of self.now ≡ rows_of self.now) }

@@ -3,7 +3,8 @@ ghost use Rattle.std.specs.Prelude.{IfSome};
 ghost use Rattle.kb_geometry.specs.Symmetry.{IsAllowed, number_of_symmetry};
 
 use crate::{
-    Label, MAX_POINTS, MAX_SIDE, Point, Rect, Shape, Symmetry, Text, apply, apply_rect, inverse,
+    Label, MAX_POINTS, MAX_SIDE, Point, Rect, Shape, Symmetry, Text, apply, apply_rect,
+    apply_within, inverse, turned,
 };
 use std::test::Fail;
 
@@ -211,6 +212,39 @@ fn a_rectangle_goes_to_the_rectangle_of_the_images(rt: HostRuntime) {
             Some(Rect { x0, y0, x1, y1 }),
             "symmetry {number} on {cols} by {rows}"
         );
+    }
+}
+
+// Where the symmetry moves the point of a rectangle, the columns of the rectangle it then lies in, and where the inverse
+// moves that point.
+fn turned_there_and_back(size: Shape, number: u8, p: Point) -> Option<(Point, u8, Point)> {
+    let s = Symmetry::new(number)?;
+    let to = turned(s, size);
+    if p.x < size.cols() && p.y < size.rows() {
+        let there = apply_within(s, size, p);
+        if there.x < to.cols() && there.y < to.rows() {
+            return Some((there, to.cols(), apply_within(inverse(s), to, there)));
+        }
+    }
+    None
+}
+
+#[test]
+fn a_rectangle_is_turned_in_its_own_frame(rt: HostRuntime) {
+    let cases = [
+        (0u8, 3u8, 1u8, 5u8),
+        (1, 1, 1, 5),
+        (2, 3, 0, 5),
+        (3, 1, 0, 5),
+        (4, 1, 3, 2),
+        (5, 1, 1, 2),
+        (6, 0, 3, 2),
+        (7, 0, 1, 2),
+    ];
+    let p = Point { x: 3, y: 1 };
+    for (number, x, y, cols) in cases {
+        let found = Shape::new(5, 2).and_then(|size| turned_there_and_back(size, number, p));
+        assert_eq!(rt; found, Some((Point { x, y }, cols, p)), "symmetry {number}");
     }
 }
 
