@@ -28,6 +28,17 @@ pub struct Rect {
 // How many columns and rows the standard board has.
 const STANDARD_SIDE: u8 = 19;
 
+impl Rect {
+    ghost use Rattle.kb_geometry.specs.Board.{IsInside};
+
+    /// Whether the point lies in the rectangle.
+    pub fn contains(&self, p: Point) -> bool
+        ensures { IsTrue result ↔ IsInside self.now p }
+    {
+        self.x0 <= p.x && p.x <= self.x1 && self.y0 <= p.y && p.y <= self.y1
+    }
+}
+
 /// The size of a board, with 1 to [`MAX_SIDE`] columns and as many rows.
 #[derive(Clone, Copy, Debug, PartialEq, Eq, Hash)]
 pub struct Shape {

@@ -274,6 +274,28 @@ fn a_label_is_a_symmetry_and_perhaps_an_exchange(rt: HostRuntime) {
 }
 
 #[test]
+fn both_corners_belong_to_a_rectangle(rt: HostRuntime) {
+    let r = Rect {
+        x0: 1,
+        y0: 2,
+        x1: 3,
+        y1: 2,
+    };
+    let cases = [
+        (0u8, 2u8, false),
+        (1, 2, true),
+        (2, 2, true),
+        (3, 2, true),
+        (4, 2, false),
+        (2, 1, false),
+        (2, 3, false),
+    ];
+    for (x, y, inside) in cases {
+        assert_eq!(rt; r.contains(Point { x, y }), inside, "{x} {y}");
+    }
+}
+
+#[test]
 fn a_text_is_what_it_was_made_of(rt: HostRuntime) -> Result<(), Fail> {
     let text = Text::new(String::from_str(rt.alloc(), "d/a.sgf")?);
     assert_eq!(rt; text.as_str(), "d/a.sgf");
