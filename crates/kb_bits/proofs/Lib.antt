@@ -1,0 +1,12 @@
+pub mod Ascending
+mod JoinedWords
+mod OneBit
+mod Readings
+mod Unions
+mod Subsets
+mod Fronts
+mod Counts
+mod Nexts
+mod Shifts
+mod Sameness
+pub mod Enumerations

@@ -1,0 +1,220 @@
+// Sets at the borders of their words, shifts, walks, and sets that shrink.
+use crate::{BOUND, BitBoard};
+
+/// A set by its numbers. Those from the bound on are left out.
+fn set_of(numbers: &[u16]) -> BitBoard {
+    let mut set = BitBoard::empty();
+    for n in numbers {
+        if *n < BOUND {
+            set.insert(*n);
+        }
+    }
+    set
+}
+
+/// The set without a number.
+fn without(mut set: BitBoard, n: u16) -> BitBoard {
+    if n < BOUND {
+        set.remove(n);
+    }
+    set
+}
+
+/// Whether the set has these numbers, found one after another, and no other.
+fn lists(set: &BitBoard, numbers: &[u16]) -> bool {
+    let mut from = 0u16;
+    for n in numbers {
+        if set.next_from(from) != Some(*n) {
+            return false;
+        }
+        from = n.saturating_add(1);
+    }
+    set.next_from(from).is_none() && usize::from(set.len()) == numbers.len()
+}
+
+#[test]
+fn numbers_at_the_borders_of_words_go_in_and_out(rt: HostRuntime) {
+    for n in [0u16, 1, 62, 63, 64, 65, 127, 128, 319, 320, 359, 360] {
+        let one = set_of(&[n]);
+        assert!(rt; lists(&one, &[n]), "{n}");
+        assert!(rt; one.contains(n), "{n}");
+        assert!(rt; !one.contains(n ^ 1), "{n}");
+        assert!(rt; !one.contains(n ^ 64), "{n}");
+        assert!(rt; !one.contains(n + 1024), "{n}");
+        assert_eq!(rt; without(one, n), BitBoard::empty(), "{n}");
+        assert_eq!(rt; without(one, n ^ 1), one, "{n}");
+        assert_eq!(rt; without(set_of(&[n, 200]), 200), one, "{n}");
+    }
+}
+
+#[test]
+fn all_numbers_below_one(rt: HostRuntime) {
+    for n in [0u16, 1, 2, 63, 64, 65, 127, 128, 320, 359, 360, 361] {
+        let set = BitBoard::below(n);
+        assert_eq!(rt; set.len(), n, "{n}");
+        assert_eq!(rt; set.next_from(0).is_some(), n > 0, "{n}");
+        assert_eq!(rt; set.next_from(n), None, "{n}");
+        assert!(rt; n == 0 || set.contains(n - 1), "{n}");
+        assert!(rt; !set.contains(n), "{n}");
+        assert_eq!(rt; without(set, n), set, "{n}");
+    }
+}
+
+#[test]
+fn a_shift_drops_what_goes_past_the_bound(rt: HostRuntime) {
+    let cases = [
+        (0u16, [0u16, 63, 64, 127, 360].as_slice()),
+        (1, [1u16, 64, 65, 128].as_slice()),
+        (63, [63u16, 126, 127, 190].as_slice()),
+        (64, [64u16, 127, 128, 191].as_slice()),
+        (65, [65u16, 128, 129, 192].as_slice()),
+        (233, [233u16, 296, 297, 360].as_slice()),
+        (234, [234u16, 297, 298].as_slice()),
+        (297, [297u16, 360].as_slice()),
+        (298, [298u16].as_slice()),
+        (360, [360u16].as_slice()),
+        (361, [0u16; 0].as_slice()),
+        (384, [0u16; 0].as_slice()),
+        (1000, [0u16; 0].as_slice()),
+        (65535, [0u16; 0].as_slice()),
+    ];
+    let set = set_of(&[0, 63, 64, 127, 360]);
+    let whole = BitBoard::below(361);
+    for (by, numbers) in cases {
+        let moved = set.shifted(by);
+        assert!(rt; lists(&moved, numbers), "by {by}");
+        assert_eq!(rt;
+            whole.shifted(by).len(),
+            361u16.saturating_sub(by),
+            "by {by}"
+        );
+        assert!(rt; whole.shifted(by).contains_all(&moved), "by {by}");
+        assert_eq!(rt; BitBoard::empty().shifted(by), BitBoard::empty(), "by {by}");
+    }
+}
+
+#[test]
+fn the_next_member_is_the_number_itself_or_the_least_one_past_it(rt: HostRuntime) {
+    let set = set_of(&[200, 5, 63, 360, 64]);
+    let cases = [
+        (0u16, Some(5u16)),
+        (5, Some(5)),
+        (6, Some(63)),
+        (63, Some(63)),
+        (64, Some(64)),
+        (65, Some(200)),
+        (128, Some(200)),
+        (200, Some(200)),
+        (201, Some(360)),
+        (319, Some(360)),
+        (320, Some(360)),
+        (360, Some(360)),
+        (361, None),
+        (384, None),
+        (65535, None),
+    ];
+    for (n, next) in cases {
+        assert_eq!(rt; set.next_from(n), next, "{n}");
+        assert_eq!(rt; BitBoard::empty().next_from(n), None, "{n}");
+    }
+}
+
+#[test]
+fn a_set_that_shrank_meets_smaller_and_larger_ones(rt: HostRuntime) {
+    // The numbers, the one that is taken out, another set, the union of the two, and which of them
+    // has all numbers of the other.
+    let cases = [
+        (
+            [3u16, 360].as_slice(),
+            360u16,
+            [3u16, 70].as_slice(),
+            [3u16, 70].as_slice(),
+            false,
+            true,
+        ),
+        (
+            [3u16, 360].as_slice(),
+            360,
+            [3u16].as_slice(),
+            [3u16].as_slice(),
+            true,
+            true,
+        ),
+        (
+            [3u16, 360].as_slice(),
+            3,
+            [360u16].as_slice(),
+            [360u16].as_slice(),
+            true,
+            true,
+        ),
+        (
+            [3u16, 360].as_slice(),
+            360,
+            [360u16].as_slice(),
+            [3u16, 360].as_slice(),
+            false,
+            false,
+        ),
+        (
+            [64u16].as_slice(),
+            64,
+            [0u16; 0].as_slice(),
+            [0u16; 0].as_slice(),
+            true,
+            true,
+        ),
+        (
+            [64u16].as_slice(),
+            64,
+            [0u16].as_slice(),
+            [0u16].as_slice(),
+            false,
+            true,
+        ),
+        (
+            [0u16, 64, 128].as_slice(),
+            64,
+            [0u16, 128].as_slice(),
+            [0u16, 128].as_slice(),
+            true,
+            true,
+        ),
+        (
+            [0u16, 64, 128].as_slice(),
+            128,
+            [64u16, 128].as_slice(),
+            [0u16, 64, 128].as_slice(),
+            false,
+            false,
+        ),
+    ];
+    for (numbers, taken, others, both, has_others, is_within) in cases {
+        let set = without(set_of(numbers), taken);
+        let other = set_of(others);
+        assert!(rt;
+            lists(&set.union(&other), both),
+            "{numbers:?} without {taken}, {others:?}"
+        );
+        assert_eq!(rt;
+            other.union(&set),
+            set_of(both),
+            "{numbers:?} without {taken}, {others:?}"
+        );
+        assert_eq!(rt;
+            set.contains_all(&other),
+            has_others,
+            "{numbers:?} without {taken}, {others:?}"
+        );
+        assert_eq!(rt;
+            other.contains_all(&set),
+            is_within,
+            "{numbers:?} without {taken}, {others:?}"
+        );
+        assert_eq!(rt;
+            set == other,
+            has_others && is_within,
+            "{numbers:?} without {taken}, {others:?}"
+        );
+    }
+}
