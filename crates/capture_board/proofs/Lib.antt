@@ -1,0 +1,18 @@
+pub mod Captures
+mod CellSetLemmas
+pub mod Cells
+pub mod ChangedPoints
+pub mod DeltaGrowth
+pub mod DeltaPaths
+pub mod Fills
+pub mod GroupLaws
+mod HandMade
+pub mod MadeChanges
+pub mod Neighbours
+pub mod NetChanges
+pub mod PointSets
+pub mod Rects
+mod StoredDeltas
+pub mod WalkerSteps
+pub mod Walks
+pub mod Writes

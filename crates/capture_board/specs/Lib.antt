@@ -1,0 +1,10 @@
+pub mod Board
+pub mod ChangedPoints
+pub mod Changes
+pub mod Deltas
+pub mod PointSet
+pub mod Runs
+pub mod StoredDeltas
+pub mod StoredWalking
+pub mod Walking
+pub mod WholeGroups
