@@ -1,0 +1,4 @@
+pub mod Following
+pub mod OnePosition
+pub mod Returning
+pub mod Setups
