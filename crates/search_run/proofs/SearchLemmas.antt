@@ -1,18 +1,24 @@
--- Searching a game node by node.
+-- Points and their numbers, and the hits at a node by its changes.
 use Prim.Native.Nat.{zero}
-use Rattle.std.proofs.Common.{◌≡◌, ◌≢◌, set, get_or-set_other, get_or-set_same, below_more, length-set, ℕ, suc, ◌+◌, ◌*◌, ◌/◌, ◌<◌, ◌≤◌, Bool, true, false, cond, ◌&&◌, not, List, [], ◌∷◌, ◌++◌, length, get_or, map, refl, sym, ap, ◌∙◌, append_assoc, add-one, add-zero, zero-add, arith}
-use Rattle.std.specs.Prelude.{filter}
+use Rattle.std.proofs.Common.{◌≡◌, ◌≢◌, ℕ, suc, ◌+◌, ◌*◌, ◌/◌, ◌<◌, ◌≤◌, inl, inr, Bool, true, false, cond, ◌&&◌, not, List, [], ◌∷◌, ◌++◌, length, get_or, map, refl, ap, ◌∙◌, add-one, add-zero, zero-add, arith}
+use Rattle.std.specs.Prelude.{filter, All, AllPairs}
 use Rattle.std.specs.List.{range_with_len}
 use Rattle.std.proofs.Math.Nat.{div-lt_iff_lt-mul, mod-lt, div-add-mod, mul_comm}
-use Rattle.std.proofs.lemmas.List.{append-nil, map-append}
-use Rattle.std.proofs.lemmas.List.Elements.{filter-append}
+use Rattle.std.proofs.lemmas.Bool.{cases_eq}
+use Rattle.std.proofs.lemmas.List.{append-nil, get_or_default, map-append}
+use Rattle.std.proofs.lemmas.List.Elements.{filter-append, All-cons, All-head, All-nil, All-tail, All-weaker}
 use Rattle.kb_geometry.specs.declared.shape.Shape.{Shape}
+use Rattle.kb_geometry.specs.declared.stone.Cell.{Cell}
+use Rattle.kb_geometry.specs.declared.stone.Cell.TheVariants as cell
+use Rattle.kb_geometry.specs.declared.stone.Change.{Change}
 use Rattle.kb_geometry.specs.Board.{IsOnBoard, cols_of, number_of, point_count, rows_of}
 use Rattle.kb_geometry.specs.Capture.{Position, cell_at}
+use Rattle.capture_board.specs.Changes.{AreChangesOf, LeadFrom, with_changes}
+use Rattle.capture_board.proofs.MadeChanges.{AllPairs-head, AllPairs-tail}
+use Rattle.capture_board.proofs.NetChanges.{IsUnchangedOn, LeadFrom-differs, with_changes-unchanged}
 use Rattle.search_run.specs.Hits.{is_black, point_at}
-use Rattle.search_run.specs.NodeHits.{hit_on, is_new}
+use Rattle.search_run.specs.NodeHits.{is_new}
 use Rattle.search_run.specs.declared.hit.Hit.{Hit}
-use Rattle.search_run.specs.declared.search.Place.{Place}
 
 -- the point of a number lies on the board
 pub point_at-on_board : (shape : Shape) (n : ℕ) → n < point_count shape → IsOnBoard shape (point_at shape n)
@@ -56,39 +62,83 @@ kept-same test other n same = kept_from 0 n (λ k low high. same k (omega arith)
     kept_from a zero each = refl
     kept_from a (suc m) each = rw (each a (omega arith) (omega arith), kept_from (a + 1) m (λ k low high. each k (omega arith) (omega arith))) refl
 
--- The points below n are scanned.
-pub record Scanned (place : Place) (shape : Shape) (position : Position) (before stood : List Bool) (earlier hits : List Hit) (n : ℕ) : Type 0 where
-  pub room : length stood ≡ point_count shape
-  pub found : hits ≡ earlier ++ map (hit_on place shape) (filter (is_new before position) (range_with_len 0 n))
-  pub noted : (p : ℕ) → p < n → get_or stood p false ≡ is_black (cell_at position p)
-  pub kept : (p : ℕ) → n ≤ p → get_or stood p false ≡ get_or before p false
+-- ---- what changes keep
+abbrev IsBelow : Change → Change → Type 0
+IsBelow c d = c.point < d.point
 
--- one point more is scanned
-pub Scanned-more : (place : Place) (shape : Shape) (position : Position) (before stood : List Bool) (earlier hits more : List Hit) (n : ℕ) (stands : Bool) → n < point_count shape → Scanned place shape position before stood earlier hits n → stands ≡ is_black (cell_at position n) → more ≡ hits ++ cond (stands && not (get_or stood n false)) (hit_on place shape n ∷ []) [] → Scanned place shape position before (set stood n stands) earlier more (n + 1)
-Scanned-more place shape position before stood earlier hits more n stands within h is pushed =
-    let test : (stands && not (get_or stood n false)) ≡ is_new before position n = rw (is, h.kept n (omega arith)) refl in
-    record {
-      room = rw length-set h.room;
-      found = pushed ∙ ap (λ b. hits ++ cond b (hit_on place shape n ∷ []) []) test ∙ ap (λ xs. xs ++ cond (is_new before position n) (hit_on place shape n ∷ []) []) h.found
-          ∙ append_assoc earlier (map (hit_on place shape) (filter (is_new before position) (range_with_len 0 n))) (cond (is_new before position n) (hit_on place shape n ∷ []) [])
-          ∙ ap (λ xs. earlier ++ xs) (sym (kept-more (is_new before position) (hit_on place shape) n));
-      noted = below_more (λ p. get_or (set stood n stands) p false ≡ is_black (cell_at position p)) n
-          (λ p below. let other : p ≢ n = omega arith in rw get_or-set_other (h.noted p below))
-          (let lt : n < length stood = omega (arith, h.room) in rw get_or-set_same is);
-      kept = λ p above. let other : p ≢ n = omega arith in rw get_or-set_other (h.kept p (omega arith));
-    }
+-- the numbers of the points of changes
+abbrev pub points_of : List Change → List ℕ
+points_of changes = map (λ (c : Change). c.point) changes
 
--- a hit was added
-pub hit_added : (hits more : List Hit) (hit : Hit) (stands stood : Bool) → stands ≡ true → stood ≡ false → more ≡ hits ++ hit ∷ [] → more ≡ hits ++ cond (stands && not stood) (hit ∷ []) []
-hit_added hits more hit stands stood is none pushed = rw (is, none) pushed
+module _ (test other : ℕ → Bool) where
+  -- What a test keeps of the points of ascending changes is what another test keeps of the numbers in their range, where
+  -- the two agree on these points, and the other one keeps no point without a change.
+  pub kept_of_changes : (a n : ℕ) (changes : List Change) → AllPairs IsBelow changes
+      → All (λ (c : Change). a ≤ c.point) changes → All (λ (c : Change). c.point < a + n) changes
+      → All (λ (c : Change). test c.point ≡ other c.point) changes
+      → ((p : ℕ) → a ≤ p → IsUnchangedOn p changes → other p ≡ false)
+      → filter test (points_of changes) ≡ filter other (range_with_len a n)
+  kept_of_changes a zero [] up low high agree none = refl
+  kept_of_changes a zero (c ∷ cs) up low high agree none =
+      let least = All-head (λ (d : Change). a ≤ d.point) c cs low in
+      let most = All-head (λ (d : Change). d.point < a + 0) c cs high in
+      absurd (omega arith)
+  kept_of_changes a (suc n) [] up low high agree none =
+      rw (none a (omega arith) (All-nil (λ (d : Change). d.point ≢ a)))
+      (kept_of_changes (a + 1) n [] up (All-nil (λ (d : Change). a + 1 ≤ d.point)) (All-nil (λ (d : Change). d.point < a + 1 + n)) agree (λ p lt unchanged. none p (omega arith) unchanged))
+  kept_of_changes a (suc n) (c ∷ cs) up low high agree none =
+      let later = AllPairs-head IsBelow c cs up in
+      let least = All-head (λ (d : Change). a ≤ d.point) c cs low in
+      let within = All-weaker (λ (d : Change). d.point < a + suc n) (λ (d : Change). d.point < a + 1 + n) (λ d lt. omega arith) (c ∷ cs) high in
+      let all_later : a ≤ c.point → All (λ (d : Change). a + 1 ≤ d.point) cs = λ le. All-weaker (IsBelow c) (λ (d : Change). a + 1 ≤ d.point) (λ d lt. omega arith) cs later in
+      elim (cases_eq c.point a) [
+        | inl here ↦
+            let rest = kept_of_changes (a + 1) n cs (AllPairs-tail IsBelow c cs up) (all_later least)
+            (All-tail (λ (d : Change). d.point < a + 1 + n) c cs within)
+            (All-tail (λ (d : Change). test d.point ≡ other d.point) c cs agree)
+            (λ p lt unchanged. none p (omega arith) (All-cons (λ (d : Change). d.point ≢ p) c cs (omega arith) unchanged)) in
+            rw (All-head (λ (d : Change). test d.point ≡ other d.point) c cs agree, here, rest) refl
+        | inr away ↦
+            let low_next : All (λ (d : Change). a + 1 ≤ d.point) (c ∷ cs) = All-cons (λ (d : Change). a + 1 ≤ d.point) c cs (omega arith) (all_later least) in
+            let unchanged : IsUnchangedOn a (c ∷ cs) = All-weaker (λ (d : Change). a + 1 ≤ d.point) (λ (d : Change). d.point ≢ a) (λ d lt. omega arith) (c ∷ cs) low_next in
+            rw (none a (omega arith) unchanged) (kept_of_changes (a + 1) n (c ∷ cs) up low_next within agree (λ p lt h. none p (omega arith) h))
+      ]
 
--- no hit was added
-pub no_hit_added : (hits more : List Hit) (hit : Hit) (stands stood : Bool) → (stands && not stood) ≡ false → more ≡ hits → more ≡ hits ++ cond (stands && not stood) (hit ∷ []) []
-no_hit_added hits more hit stands stood none same = rw (none, append-nil) same
+-- a cell that is not the one before is black where black is new
+new_where_changed : (before after : Cell) → before ≢ after → is_black after ≡ (is_black after && not (is_black before))
+new_where_changed cell.Black cell.Black differ = absurd (differ refl)
+new_where_changed cell.Black cell.White differ = refl
+new_where_changed cell.Black cell.Empty differ = refl
+new_where_changed cell.White after differ = after_none (is_black after)
+  where
+    after_none : (b : Bool) → b ≡ (b && true)
+    after_none true = refl
+    after_none false = refl
+new_where_changed cell.Empty after differ = after_none (is_black after)
+  where
+    after_none : (b : Bool) → b ≡ (b && true)
+    after_none true = refl
+    after_none false = refl
 
-pub not_new-stood : (stands stood : Bool) → stood ≡ true → (stands && not stood) ≡ false
-not_new-stood true stood is = rw is refl
-not_new-stood false stood is = refl
+not_new_where_same : (b : Bool) → (b && not b) ≡ false
+not_new_where_same true = refl
+not_new_where_same false = refl
 
-pub not_new-gone : (stands stood : Bool) → stands ≡ false → (stands && not stood) ≡ false
-not_new-gone stands stood is = rw is refl
+module _ (before : Position) (changes : List Change) (are : AreChangesOf before changes) where
+  -- black stones stand on these points of the changes, and are new there
+  pub kept_where_new : filter (λ p. is_black (cell_at (with_changes before changes) p)) (points_of changes) ≡ filter (is_new before (with_changes before changes)) (range_with_len 0 (length before))
+  kept_where_new =
+      let after = with_changes before changes in
+      let lead : LeadFrom before changes after = record { changes_of = are; made = refl } in
+      kept_of_changes (λ p. is_black (cell_at after p)) (is_new before after) 0 (length before) changes are.ascending
+      (λ k d lt. omega arith)
+      (All-weaker (λ (c : Change). c.point < length before) (λ (c : Change). c.point < 0 + length before) (λ c lt. omega arith) changes are.on_board)
+      (λ k d lt. new_where_changed (cell_at before (get_or changes k d).point) (cell_at after (get_or changes k d).point) (LeadFrom-differs before changes after lead (get_or changes k d).point (k, get_or changes k d, lt, get_or_default changes k (get_or changes k d) d lt, refl)))
+      (λ p le unchanged. rw (with_changes-unchanged before changes p unchanged) (not_new_where_same (is_black (cell_at before p))))
+
+-- a test of a changed cell
+pub black_added : (hits more : List Hit) (hit : Hit) (b : Bool) → b ≡ true → more ≡ hits ++ hit ∷ [] → more ≡ hits ++ cond b (hit ∷ []) []
+black_added hits more hit b is pushed = rw is pushed
+
+pub none_added : (hits more : List Hit) (hit : Hit) (b : Bool) → b ≡ false → more ≡ hits → more ≡ hits ++ cond b (hit ∷ []) []
+none_added hits more hit b is same = rw (is, append-nil) same

@@ -1,4 +1,3 @@
-pub mod Board
 pub mod Course
 pub mod Hits
 pub mod Imported
@@ -6,7 +5,6 @@ pub mod Lines
 pub mod NextLine
 pub mod NodeHits
 pub mod Outcome
-pub mod PointSet
 pub mod Reads
 pub mod Rooms
 pub mod Run

@@ -1,8 +1,7 @@
--- The hits at one node, from where black stones stood before and stand now.
-use Rattle.std.specs.Prelude.{ℕ, Bool, false, ◌&&◌, not, List, map, filter, slice_index_or}
-use Rattle.std.specs.List.{range_with_len}
+-- The hits at one node, from the changes of the node: for the search's private functions.
+use Rattle.std.specs.Prelude.{ℕ, Bool, ◌&&◌, not, List, map, filter}
 use Rattle.kb_geometry.specs.declared.shape.Shape.{Shape}
-use Rattle.kb_geometry.specs.Board.{point_count}
+use Rattle.kb_geometry.specs.declared.stone.Change.{Change}
 use Rattle.kb_geometry.specs.Capture.{Position, cell_at}
 use Rattle.search_run.specs.Hits.{is_black, point_at}
 use Rattle.search_run.specs.declared.hit.Hit.{Hit}
@@ -12,10 +11,10 @@ use Rattle.search_run.specs.declared.search.Place.{Place}
 abbrev pub hit_on : Place → Shape → ℕ → Hit
 hit_on place shape number = record { game = place.game; node = place.node; point = point_at shape number; outcome = place.outcome }
 
--- a black stone stands on the point in this position, and none stood there before
-abbrev pub is_new : List Bool → Position → ℕ → Bool
-is_new stood position p = is_black (cell_at position p) && not (slice_index_or stood p false)
+-- a black stone stands on the point after some changes, and none stood there before
+abbrev pub is_new : Position → Position → ℕ → Bool
+is_new before after p = is_black (cell_at after p) && not (is_black (cell_at before p))
 
--- the hits at a node: on the points where a black stone is new, in order
-abbrev pub node_hits : Place → Shape → List Bool → Position → List Hit
-node_hits place shape stood position = map (hit_on place shape) (filter (is_new stood position) (range_with_len 0 (point_count shape)))
+-- the hits on the points of these changes, where a black stone stands now
+abbrev pub change_hits : Place → Shape → Position → List Change → List Hit
+change_hits place shape position changes = map (hit_on place shape) (filter (λ p. is_black (cell_at position p)) (map (λ (c : Change). c.point) changes))

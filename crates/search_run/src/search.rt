@@ -1,21 +1,23 @@
 // The occurrences of a black stone in games.
-ghost use Rattle.std.specs.Prelude.{◌≡◌, All, ◌<◌, ◌≤◌, ◌++◌, ◌&&◌, ℕ, not, List, length, map, false, filter, slice_index_or, IfOk, IfSome, OnOk};
-ghost use Rattle.std.specs.List.{range_with_len};
-ghost use Rattle.kb_geometry.specs.declared.shape.Point.{Point};
-ghost use Rattle.kb_geometry.specs.Board.{IsOnBoard, point_count};
-ghost use Rattle.kb_geometry.specs.Capture.{cell_at};
-ghost use Rattle.game_tree.specs.declared.node.Move.{Move};
-ghost use Rattle.game_tree.specs.Position.{ArePositions, IsMoved};
-ghost use Rattle.search_run.specs.Hits.{Game, hits_from, hits_in, is_black};
-ghost use Rattle.search_run.specs.NodeHits.{hit_on, node_hits};
+ghost use Rattle.std.specs.Prelude.{◌≡◌, All, ◌+◌, ◌<◌, ◌++◌, ℕ, List, IfOk, OnOk};
+ghost use Rattle.kb_geometry.specs.declared.stone.Change.{Change};
+ghost use Rattle.kb_geometry.specs.Board.{point_count};
+ghost use Rattle.kb_geometry.specs.Capture.{Position};
+ghost use Rattle.game_tree.specs.Position.{ArePositions};
+ghost use Rattle.capture_board.specs.Deltas.{node_count};
+ghost use Rattle.node_position.specs.Positions.{AreDeltasOf};
+ghost use Rattle.search_run.specs.Hits.{Game, hits_from, hits_in};
+ghost use Rattle.search_run.specs.NodeHits.{change_hits, hit_on};
 ghost use Rattle.search_run.specs.Session.{AreGames};
-ghost use Rattle.search_run.specs.Simple.{IsSimple};
 
-use crate::board::Board;
 use crate::hit::Hit;
-use game_tree::{GameTree, Move};
-use kb_geometry::{Cell, MAX_POINTS, NoMemory, Outcome, Shape};
+use capture_board::{NodeDeltas, Steps, Walker};
+use game_tree::GameTree;
+use kb_geometry::{Cell, Change, NoMemory, Outcome, Shape};
+use node_position::deltas;
 use std::alloc::Global;
+use std::marker::Brand;
+use std::sync::ledger::{Blank, Ledger};
 
 // A node of a game.
 #[derive(Clone, Copy, Debug, PartialEq, Eq)]
@@ -23,27 +25,6 @@ struct Place {
     game: usize,
     node: u32,
     outcome: Outcome,
-}
-
-// Plays what a node plays.
-fn advance(board: &mut Board, played: Option<Move>)
-    requires { IfSome played (λ (m : Move). IfSome m.point (λ (p : Point). IsOnBoard board.old.shape p)) }
-    ensures shape { board.new.shape ≡ board.old.shape }
-    ensures moved { IsMoved board.old.shape board.old.position played board.new.position }
-{
-    if let Some(played) = played {
-        if let Some(point) = played.point {
-            board.play(played.colour, point);
-        }
-    }
-}
-
-// Whether a black stone stands on a point.
-fn stands(board: &Board, number: u16) -> bool
-    requires { number < point_count board.now.shape }
-    ensures { result ≡ is_black (cell_at board.now.position number) }
-{
-    matches!(board.cell(number), Cell::Black)
 }
 
 // A hit on the point with this number.
@@ -59,81 +40,93 @@ fn hit_on(place: Place, shape: Shape, number: u16) -> Hit
     }
 }
 
-// Adds the hits at a node: the points on which a black stone stands, and none stood before. Then notes where
-// black stones stand.
+// Adds the hits at the node where the walker stands: the points of the node's changes on which a black stone stands.
 fn add_hits(
     place: Place,
     shape: Shape,
-    board: &Board,
-    stood: &mut [bool],
+    walker: &Walker,
+    changes: &[Change],
     hits: &mut Vec<Hit>,
 ) -> Result<(), NoMemory>
-    requires shape { board.now.shape ≡ shape }
-    requires room { length stood.old ≡ point_count shape }
-    ensures hits { OnOk result (hits.new.items ≡ hits.old.items ++ node_hits place shape stood.old board.now.position) }
-    ensures stood { OnOk result ((p : ℕ) → p < point_count shape → slice_index_or stood.new p false ≡ is_black (cell_at board.now.position p)) }
+    requires shape { walker.now.shape ≡ shape }
+    requires on_board { All (λ (c : Change). c.point < point_count shape) changes.now }
+    ensures { OnOk result (hits.new.items ≡ hits.old.items ++ change_hits place shape walker.now.position changes.now) }
 {
-    for number in 0..shape.count() {
-        let index = usize::from(number);
-        let stands = stands(board, number);
-        if stands && !stood[index] {
-            hits.push(hit_on(place, shape, number))?;
+    for change in changes {
+        if matches!(walker.cell(change.point), Cell::Black) {
+            hits.push(hit_on(place, shape, change.point))?;
         }
-        stood[index] = stands;
     }
     Ok(())
 }
 
-// Adds the hits of a game, which is played once, move by move. No black stone stood anywhere before.
-fn search_nodes(
+// Adds the hits of a game. Each node is entered once.
+fn search_nodes<L: Ledger>(
     game: usize,
     tree: &GameTree,
-    stood: &mut [bool],
+    deltas: &NodeDeltas,
     hits: &mut Vec<Hit>,
+    steps: &mut Steps<L>,
 ) -> Result<(), NoMemory>
-    requires simple { IsSimple tree.now }
-    requires room { length stood.old ≡ point_count tree.now.shape }
-    requires clear { (p : ℕ) → slice_index_or stood.old p false ≡ false }
-    ensures { OnOk result ((played : Game) × (played.tree ≡ tree.now) × ArePositions played.tree played.positions
-        × (hits.new.items ≡ hits.old.items ++ hits_in game played)) }
+    ensures hits { OnOk result ((positions : List Position) → AreDeltasOf tree.now positions deltas.now →
+        hits.new.items ≡ hits.old.items ++ hits_in game (record { tree = tree.now; positions = positions })) }
+    ensures once { OnOk result (steps.new ≡ steps.old + node_count deltas.now) }
 {
-    let shape = tree.shape();
+    let shape = deltas.shape();
     let outcome = tree.info().outcome();
-    let mut board = Board::empty(shape);
-    for node in 0..tree.node_count() {
-        advance(&mut board, tree.played(node));
+    let mut walker = Walker::new(deltas);
+    for node in 0..deltas.node_count() {
+        walker.enter_next(deltas, node, steps);
         let place = Place {
             game,
             node,
             outcome,
         };
-        add_hits(place, shape, &board, stood, hits)?;
+        add_hits(place, shape, &walker, deltas.changes(node), hits)?;
     }
     Ok(())
 }
 
-// The room for where black stones stood on the greatest board.
-const ROOM: usize = MAX_POINTS as usize;
-
-// Adds the hits of a game.
-fn search_game(game: usize, tree: &GameTree, hits: &mut Vec<Hit>) -> Result<(), NoMemory>
-    requires { IsSimple tree.now }
-    ensures { OnOk result ((played : Game) × (played.tree ≡ tree.now) × ArePositions played.tree played.positions
-        × (hits.new.items ≡ hits.old.items ++ hits_in game played)) }
+// Adds the hits of a game, with a count of steps of its own.
+fn search_counted<L: Ledger>(
+    game: usize,
+    tree: &GameTree,
+    deltas: &NodeDeltas,
+    hits: &mut Vec<Hit>,
+    blank: Blank,
+) -> Result<(), NoMemory>
+    requires name { blank.name ≡ L.name }
+    requires parts { blank.parts ≡ L.parts }
+    requires some { 0 < blank.parts }
+    ensures { OnOk result ((positions : List Position) → AreDeltasOf tree.now positions deltas.now →
+        hits.new.items ≡ hits.old.items ++ hits_in game (record { tree = tree.now; positions = positions })) }
 {
-    let points = usize::from(tree.shape().count());
-    let mut stood = [false; ROOM];
-    search_nodes(game, tree, &mut stood[..points], hits)
+    let mut steps = Steps::<L>::new(blank);
+    search_nodes(game, tree, deltas, hits, &mut steps)
 }
 
-/// The hits in games, all simple, which are numbered from 0.
+// Adds the hits of a game.
+fn search_game(
+    alloc: Global,
+    game: usize,
+    tree: &GameTree,
+    hits: &mut Vec<Hit>,
+) -> Result<(), NoMemory>
+    ensures { OnOk result ((searched : Game) × (searched.tree ≡ tree.now) × ArePositions searched.tree searched.positions
+        × (hits.new.items ≡ hits.old.items ++ hits_in game searched)) }
+{
+    let deltas = deltas(alloc, tree)?;
+    search_counted::<Brand>(game, tree, &deltas, hits, Blank::new(1))?;
+    Ok(())
+}
+
+/// The hits in games, which are numbered from 0.
 pub(crate) fn search(alloc: Global, trees: &[GameTree]) -> Result<Vec<Hit>, NoMemory>
-    requires { All IsSimple trees.now }
     ensures { IfOk result (λ hits. (games : List Game) × AreGames trees.now games × (hits.items ≡ hits_from 0 games)) }
 {
     let mut hits = Vec::new(alloc);
     for (number, tree) in trees.iter().enumerate() {
-        search_game(number, tree, &mut hits)?;
+        search_game(alloc, number, tree, &mut hits)?;
     }
     Ok(hits)
 }

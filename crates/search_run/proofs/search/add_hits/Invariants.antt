@@ -1,5 +1,6 @@
-use Rattle.search_run.proofs.SearchLemmas.{Scanned}
+use Rattle.std.proofs.Common.{◌≡◌, ◌++◌, take}
+use Rattle.search_run.specs.NodeHits.{change_hits}
 use Rattle.search_run.proofs.search.add_hits.Given as goal
 
-abbrev pub invariant-loop-number : goal.invariant-loop-number
-invariant-loop-number l = Scanned l.place l.shape l.board.position l.fn.stood l.stood l.fn.hits.items l.hits.items l.number
+abbrev pub invariant-loop-change : goal.invariant-loop-change
+invariant-loop-change l = l.hits.items ≡ l.fn.hits.items ++ change_hits l.place l.shape l.walker.position (take l.change-index l.changes)

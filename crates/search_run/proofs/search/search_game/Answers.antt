@@ -1,6 +1,8 @@
-use Rattle.search_run.proofs.GameLemmas.{unset_marks}
-use Rattle.search_run.specs.declared.search.TheConstants.{ROOM}
+use Rattle.std.proofs.Common.{refl}
+use Rattle.search_run.proofs.GameLemmas.{game_of}
 use Rattle.search_run.proofs.search.search_game.Goals as goal
 
-pub search_nodes-requires-clause-clear : goal.search_nodes-requires-clause-clear
-search_nodes-requires-clause-clear c = unset_marks ROOM c.from-points.result
+pub returns : goal.returns
+returns c =
+    let positions = c.in_ok-deltas.ensures in
+    (game_of c.args.tree.now positions.0, refl, positions.1, c.in_ok-search_counted.ensures positions.0 positions.2)

@@ -2,7 +2,7 @@ use Rattle.std.proofs.Common.{◌≡◌, ◌<◌, ◌∙◌, Some, arith, length
 use Rattle.kb_geometry.specs.Board.{number_of}
 use Rattle.search_run.specs.SimpleParts.{point_of}
 use Rattle.search_run.specs.declared.simple.TheConstants.{ROOM}
-use Rattle.search_run.proofs.Boards.{point_count-le-room}
+use Rattle.kb_geometry.proofs.Shapes.{point_count-le-most}
 use Rattle.search_run.proofs.SimpleLemmas.{MarkedTo-more, MarkedTo-none, MarkedTo-start, MarkedTo-twice}
 use Rattle.search_run.proofs.simple.has_no_point_twice.Goals as goal
 use Rattle.search_run.proofs.simple.has_no_point_twice.Goals.{in-Some+else-marks-number, in_default}
@@ -32,7 +32,7 @@ loop-node-preserved c =
           let free = rw number at w.if-marks-number.false in
           let within : number_of tree.shape p < length c.loop-node.marks =
           let in_range = rw (w.number.ensures.value, c.shape-shape.ensures.value) at w.number.ensures.in_range in
-          let most = point_count-le-room tree.shape in
+          let most = point_count-le-most tree.shape in
           let room = c.loop-node.invariant.room in
           omega (arith, in_range, most, room) in
           rw (w.marks-is, number) (MarkedTo-more tree c.loop-node.marks n p here within free c.loop-node.invariant)
