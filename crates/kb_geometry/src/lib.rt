@@ -18,7 +18,7 @@ pub use laws::a_setup_sets_its_rectangle_alone;
 pub use memory::NoMemory;
 pub use shape::{MAX_POINTS, MAX_SIDE, Point, Rect, Shape};
 pub use stone::{Cell, Change, Colour, Outcome};
-pub use symmetry::{Label, Symmetry};
+pub use symmetry::{LABELS, Label, Symmetry};
 pub use symmetry_maps::{apply, apply_rect, apply_within, inverse, turned};
 pub use text::Text;
 

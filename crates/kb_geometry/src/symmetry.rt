@@ -5,8 +5,8 @@ ghost use Rattle.std.specs.Prelude.{◌≡◌, ◌<◌, ◌≤◌, ◌↔◌, Is
 // How many symmetries there are. A label with this much added exchanges the colours.
 const SYMMETRIES: u8 = 8;
 
-// How many labels there are.
-const LABELS: u8 = 16;
+/// How many labels there are.
+pub const LABELS: u8 = 16;
 
 /// A symmetry of a board, by its number from 0 to 7. On a board of c columns and r rows the point (x, y) goes to:
 ///
