@@ -2,8 +2,13 @@
 // colours.
 ghost use Rattle.std.specs.Prelude.{◌≡◌, ◌<◌, ◌≤◌, ◌↔◌, IsTrue, IsSome, IfSome};
 
+use crate::shape::Shape;
+
 // How many symmetries there are. A label with this much added exchanges the colours.
 const SYMMETRIES: u8 = 8;
+
+// The first of the symmetries that exchange columns and rows.
+pub(crate) const FIRST_EXCHANGING: u8 = 4;
 
 /// How many labels there are.
 pub const LABELS: u8 = 16;
@@ -37,7 +42,7 @@ pub struct Label {
 }
 
 impl Symmetry {
-    ghost use Rattle.kb_geometry.specs.Symmetry.{number_of_symmetry};
+    ghost use Rattle.kb_geometry.specs.Symmetry.{number_of_symmetry, IsAllowed};
 
     /// The symmetry with this number. `None` exactly where it is above 7.
     pub fn new(number: u8) -> Option<Self>
@@ -57,6 +62,13 @@ impl Symmetry {
         ensures below { result < 8 }
     {
         self.number
+    }
+
+    /// Whether it is a symmetry of a board of this shape.
+    pub fn is_allowed_on(&self, shape: Shape) -> bool
+        ensures { IsTrue result ↔ IsAllowed (number_of_symmetry self.now) shape }
+    {
+        self.number < FIRST_EXCHANGING || shape.is_square()
     }
 }
 

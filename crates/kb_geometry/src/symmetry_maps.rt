@@ -6,10 +6,7 @@ ghost use Rattle.kb_geometry.specs.Board.{cols_of, rows_of, IsOnBoard, IsRectOnB
 ghost use Rattle.kb_geometry.specs.Symmetry.{number_of_symmetry, moved, inverse_number, turned_cols, turned_rows, IsAllowed};
 
 use crate::shape::{Point, Rect, Shape};
-use crate::symmetry::Symmetry;
-
-// The first of the symmetries that exchange columns and rows.
-const FIRST_EXCHANGING: u8 = 4;
+use crate::symmetry::{FIRST_EXCHANGING, Symmetry};
 
 /// Where a symmetry moves a point of the board.
 pub fn apply(s: Symmetry, shape: Shape, p: Point) -> Point

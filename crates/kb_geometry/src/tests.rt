@@ -81,7 +81,7 @@ fn symmetry_on(shape: Shape, number: u8) -> Option<Symmetry>
     ensures { IfSome result (λ s. IsAllowed (number_of_symmetry s) shape) }
 {
     let s = Symmetry::new(number)?;
-    if number < 4 || shape.is_square() {
+    if s.is_allowed_on(shape) {
         Some(s)
     } else {
         None
