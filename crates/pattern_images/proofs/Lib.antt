@@ -1,0 +1,13 @@
+pub mod Bases
+pub mod Cells
+pub mod Frames
+pub mod Growths
+pub mod Listed
+pub mod ListMoves
+pub mod ListSteps
+pub mod OneList
+pub mod PlacedOn
+pub mod StoredGrids
+pub mod Turned
+pub mod TurnLists
+pub mod TurnResults

@@ -1,0 +1,10 @@
+pub mod Grid
+pub mod Pattern
+pub mod Query
+pub mod Placements
+pub mod Holds
+pub mod ImageList
+pub mod Turned
+pub mod Stored
+pub mod Turns
+pub mod Listing

@@ -1,0 +1,112 @@
+// The places of a query's pattern on a board, in order.
+ghost use Rattle.std.specs.Prelude.{◌≡◌, ◌↔◌, ◌+◌, ◌<◌, [], Any, IsTrue, length, IfOk};
+ghost use Rattle.kb_geometry.specs.declared.shape.Shape.{Shape};
+ghost use Rattle.kb_geometry.specs.Board.{rows_of};
+ghost use Rattle.pattern_images.specs.Listing.{GivesAt, ListsOn};
+
+use crate::turn::Turn;
+use kb_geometry::{Label, Point, Shape};
+use std::alloc::{AllocError, Global};
+use std::mem::size_of;
+
+// A place, in 4 bytes: the upper left point, the least label, and the number of the rectangle of cells.
+#[derive(Clone, Copy, Debug)]
+pub(crate) struct StoredPlace {
+    pub(crate) x: u8,
+    pub(crate) y: u8,
+    pub(crate) label: Label,
+    pub(crate) class: u8,
+}
+
+const _: () = prove!(size_of::<StoredPlace>() == 4);
+
+// The places of the turns on a board: by row, then by column, then by label, each under its least label.
+pub(crate) fn list_places(
+    alloc: Global,
+    turns: &[Option<Turn>],
+    shape: Shape,
+) -> Result<Vec<StoredPlace>, AllocError>
+    requires { length turns.now ≡ 16 }
+    ensures { IfOk result (λ places. ListsOn shape turns.now 0 0 0 [] (rows_of shape) 0 0 places.items) }
+{
+    let mut places = Vec::new(alloc);
+    for y in 0..shape.rows() {
+        list_row(turns, shape, y, &mut places)?;
+    }
+    Ok(places)
+}
+
+// Adds the places in one row.
+fn list_row(
+    turns: &[Option<Turn>],
+    shape: Shape,
+    y: u8,
+    places: &mut Vec<StoredPlace>,
+) -> Result<(), AllocError>
+    requires { length turns.now ≡ 16 }
+    ensures { IfOk result (λ _. ListsOn shape turns.now y 0 0 places.old.items (y + 1) 0 0 places.new.items) }
+{
+    for x in 0..shape.cols() {
+        list_point(turns, Point { x, y }, places)?;
+    }
+    Ok(())
+}
+
+// Adds the places at one point.
+fn list_point(
+    turns: &[Option<Turn>],
+    p: Point,
+    places: &mut Vec<StoredPlace>,
+) -> Result<(), AllocError>
+    requires { length turns.now ≡ 16 }
+    ensures { IfOk result (λ _. (shape : Shape) → ListsOn shape turns.now p.y p.x 0 places.old.items p.y (p.x + 1) 0 places.new.items) }
+{
+    for number in 0..turns.len() {
+        list_label(turns, number, p, places)?;
+    }
+    Ok(())
+}
+
+// Adds the place at one point under one label, if there is one that no lesser label gives.
+fn list_label(
+    turns: &[Option<Turn>],
+    number: usize,
+    p: Point,
+    places: &mut Vec<StoredPlace>,
+) -> Result<(), AllocError>
+    requires { number < length turns.now }
+    ensures { IfOk result (λ _. (shape : Shape) → ListsOn shape turns.now p.y p.x number places.old.items p.y p.x (number + 1) places.new.items) }
+{
+    let Some(turn) = turns[number] else {
+        return Ok(());
+    };
+    if !turn.corners.contains(p) {
+        return Ok(());
+    }
+    if is_given(&turns[..number], turn.class, p) {
+        return Ok(());
+    }
+    places.push(StoredPlace {
+        x: p.x,
+        y: p.y,
+        label: turn.label,
+        class: turn.class,
+    })?;
+    Ok(())
+}
+
+// Whether one of the turns gives the rectangle of cells with this number at this point.
+fn is_given(turns: &[Option<Turn>], class: u8, p: Point) -> bool
+    ensures { IsTrue result ↔ Any (GivesAt class p) turns.now }
+{
+    turns.iter().any(|turn| gives_at(*turn, class, p))
+}
+
+fn gives_at(turn: Option<Turn>, class: u8, p: Point) -> bool
+    ensures { IsTrue result ↔ GivesAt class p turn }
+{
+    match turn {
+        Some(turn) => turn.class == class && turn.corners.contains(p),
+        None => false,
+    }
+}

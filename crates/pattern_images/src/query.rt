@@ -1,0 +1,76 @@
+// Queries: a pattern, and where it is looked for.
+ghost use Rattle.std.specs.Prelude.{◌≡◌, ◌↔◌, IsTrue, IfOk};
+
+use crate::Pattern;
+use kb_geometry::{Label, NoMemory, Rect, Shape};
+use std::alloc::Global;
+
+// The first of the symmetries that only square boards have.
+const FIRST_OF_SQUARES: u8 = 4;
+
+/// A search for a pattern in games.
+#[derive(Debug, Drop)]
+pub struct Query {
+    pub pattern: Pattern,
+    /// Black and white are not exchanged.
+    pub same: bool,
+    /// The pattern isn't turned or mirrored.
+    pub fixed: bool,
+    /// Only nodes of the main line count.
+    pub main: bool,
+    /// Only games on this board count, if there is one.
+    pub board: Option<Shape>,
+    /// The least move number that counts.
+    pub from_move: u32,
+    /// The greatest move number that counts.
+    pub to_move: u32,
+    /// Where the pattern's upper left point may stand before it is moved, if that is told. Both corners belong to
+    /// the rectangle. It may reach past the board.
+    pub at: Option<Rect>,
+}
+
+impl Query {
+    ghost use Rattle.kb_geometry.specs.Symmetry.{number_of_label};
+    ghost use Rattle.pattern_images.specs.Query.{IsForBoard, IsLabelOf};
+
+    // Whether the query looks on boards of this shape.
+    pub(crate) fn is_for(&self, shape: Shape) -> bool
+        ensures { IsTrue result ↔ IsForBoard self.now shape }
+    {
+        match self.board {
+            Some(board) => board == shape,
+            None => true,
+        }
+    }
+
+    // Whether the label is one of the query's on a board of this shape.
+    pub(crate) fn has_label(&self, shape: Shape, label: Label) -> bool
+        ensures { IsTrue result ↔ IsLabelOf self.now shape (number_of_label label) }
+    {
+        let symmetry = label.symmetry().number();
+        if symmetry >= FIRST_OF_SQUARES && !shape.is_square() {
+            return false;
+        }
+        if self.fixed && symmetry != 0 {
+            return false;
+        }
+        !(self.same && label.exchanged())
+    }
+
+    /// An equal query. The only error is `NoMemory`.
+    pub fn copy(&self, alloc: Global) -> Result<Query, NoMemory>
+        ensures { IfOk result (λ copied. copied ≡ self.now) }
+    {
+        let pattern = self.pattern.copy(alloc)?;
+        Ok(Query {
+            pattern,
+            same: self.same,
+            fixed: self.fixed,
+            main: self.main,
+            board: self.board,
+            from_move: self.from_move,
+            to_move: self.to_move,
+            at: self.at,
+        })
+    }
+}
