@@ -5,9 +5,6 @@ use crate::Pattern;
 use kb_geometry::{Label, NoMemory, Rect, Shape};
 use std::alloc::Global;
 
-// The first of the symmetries that only square boards have.
-const FIRST_OF_SQUARES: u8 = 4;
-
 /// A search for a pattern in games.
 #[derive(Debug, Drop)]
 pub struct Query {
@@ -47,11 +44,11 @@ impl Query {
     pub(crate) fn has_label(&self, shape: Shape, label: Label) -> bool
         ensures { IsTrue result ↔ IsLabelOf self.now shape (number_of_label label) }
     {
-        let symmetry = label.symmetry().number();
-        if symmetry >= FIRST_OF_SQUARES && !shape.is_square() {
+        let symmetry = label.symmetry();
+        if !symmetry.is_allowed_on(shape) {
             return false;
         }
-        if self.fixed && symmetry != 0 {
+        if self.fixed && symmetry.number() != 0 {
             return false;
         }
         !(self.same && label.exchanged())
