@@ -6,7 +6,7 @@ pub mod DeltaGrowth
 pub mod DeltaPaths
 pub mod Fills
 pub mod GroupLaws
-mod HandMade
+pub mod HandMade
 pub mod MadeChanges
 pub mod Neighbours
 pub mod NetChanges

@@ -9,4 +9,5 @@ mod Counts
 mod Nexts
 mod Shifts
 mod Sameness
+mod Windows
 pub mod Enumerations

@@ -1,5 +1,6 @@
 //! A set of numbers below a bound, as words of 64 bits.
 ghost use Rattle.std.specs.Prelude.{◌≡◌, ◌≢◌, ℕ, ◌+◌, ◌<◌, ◌≤◌, ◌⊎◌, ◌↔◌, [], Contains, IfNone, IfSome, IsTrue, length, nat_eq, slice_index};
+ghost use Rattle.std.specs.Int.{bit_at};
 ghost use Rattle.std.specs.Cmp.{partial_equiv_from_equiv};
 ghost use Rattle.std.specs.Cmp.Lexicographic.{pointwise};
 ghost use Rattle.std.specs.List.Sorted.{IsStrictlyIncreasing};
@@ -180,6 +181,19 @@ impl BitBoard {
         None
     }
 
+    /// The numbers from `start` on as a word: bit k is set exactly where `start + k` is in the set.
+    pub fn window(&self, start: u16) -> u64
+        ensures { (k : ℕ) → k < 64 → (bit_at result k ≡ 1) ↔ Contains self.now (start + k) }
+    {
+        let first = usize::from(start / 64);
+        let bits = start % 64;
+        let low = word_at(&self.words, first);
+        if bits == 0 {
+            return low;
+        }
+        joined(word_at(&self.words, first + 1), low, 64 - bits)
+    }
+
     /// How many numbers the set has.
     pub fn len(&self) -> u16
         ensures { result ≡ length self.now }
@@ -241,6 +255,13 @@ fn joined(word: u64, before: u64, bits: u16) -> u64
 {
     // In two steps, since no shift may be by 64.
     word << bits | before >> 1 >> (63 - bits)
+}
+
+/// The word with this number, 0 past the last one.
+fn word_at(words: &[u64; WORDS], k: usize) -> u64
+    ensures { result ≡ slice_index words.now k }
+{
+    if k < WORDS { words[k] } else { 0 }
 }
 
 /// How many words are in use, up to the last that isn't 0, where those from `most` on are 0.

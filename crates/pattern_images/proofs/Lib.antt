@@ -8,6 +8,7 @@ pub mod ListSteps
 pub mod OneList
 pub mod PlacedOn
 pub mod StoredGrids
+pub mod StoredPlaces
 pub mod Turned
 pub mod TurnLists
 pub mod TurnResults

@@ -1,11 +1,11 @@
 -- What contracts see of the images of a query.
-use Rattle.std.specs.Prelude.{◌≡◌, ℕ, ◌+◌, ◌≤◌, List, [], slice_index_or}
+use Rattle.std.specs.Prelude.{◌≡◌, ℕ, ◌+◌, ◌≤◌, List, [], slice_index_or, All, AllPairs, Contains}
 use Rattle.kb_geometry.specs.declared.shape.Shape.{Shape}
 use Rattle.kb_geometry.specs.Board.{cols_of, rows_of}
 use Rattle.kb_geometry.specs.Symmetry.{number_of_label}
 use Rattle.pattern_images.specs.declared.hit.Place.{Place}
 use Rattle.pattern_images.specs.Grid.{Grid}
-use Rattle.pattern_images.specs.Placements.{Placement}
+use Rattle.pattern_images.specs.Placements.{Placement, IsBefore}
 
 -- The shape of the board, the rectangles of cells that the placements have, and the placements.
 pub record ImageList : Type 0 where
@@ -39,3 +39,9 @@ pub record IsPlacedOn (shape : Shape) (placement : Placement) : Type 0 where
   pub some_row : 1 ≤ placement.grid.rows
   pub columns : placement.x + placement.grid.cols ≤ cols_of shape
   pub rows : placement.y + placement.grid.rows ≤ rows_of shape
+
+-- The placements lie on the board, in order, and the cells of each are one of the rectangles of cells.
+pub record AreImages (images : ImageList) : Type 0 where
+  pub placed : All (IsPlacedOn images.shape) images.placements
+  pub ordered : AllPairs IsBefore images.placements
+  pub classes : All (λ (placement : Placement). Contains images.grids placement.grid) images.placements

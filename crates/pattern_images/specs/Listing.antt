@@ -43,3 +43,8 @@ GivesAt class p (Some turn) = (turn.class ≡ class) × IsInside turn.corners p
 -- what is known of a stored place: its rectangle of cells is there, and it lies on the board
 abbrev pub IsStoredOn : Shape → List Grid → StoredPlace → Type 0
 IsStoredOn shape grids s = (s.class < length grids) × IsPlacedOn shape (placement_in grids s)
+
+-- what is known of all stored places: they are in order
+pub record AreStoredOn (shape : Shape) (grids : List Grid) (stored : List StoredPlace) : Type 0 where
+  pub each : All (IsStoredOn shape grids) stored
+  pub ordered : AllPairs IsBefore (map (placement_in grids) stored)

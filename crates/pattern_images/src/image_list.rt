@@ -22,21 +22,21 @@ pub struct Images {
 }
 
 impl Model for Images {
-    ghost use Rattle.std.specs.Prelude.{map, All};
+    ghost use Rattle.std.specs.Prelude.{map};
     ghost use Rattle.pattern_images.specs.ImageList.{ImageList};
 
     ghost Value = { ImageList };
 
-    ghost use Rattle.pattern_images.specs.Listing.{placement_in, IsStoredOn};
+    ghost use Rattle.pattern_images.specs.Listing.{placement_in, AreStoredOn};
 
     ghost view = { λ im. record { shape = im.shape; grids = im.grids; placements = map (placement_in im.grids) im.places.items } };
 
-    ghost invariant = { λ im. All (IsStoredOn im.shape im.grids) im.places.items };
+    ghost invariant = { λ im. AreStoredOn im.shape im.grids im.places.items };
 }
 
 impl Images {
     ghost use Rattle.pattern_images.specs.Grid.{cell_in};
-    ghost use Rattle.pattern_images.specs.ImageList.{grid_at, placement_at, IsPlaceOf, IsPlacedOn};
+    ghost use Rattle.pattern_images.specs.ImageList.{grid_at, placement_at, AreImages, IsPlaceOf, IsPlacedOn};
 
     /// The shape of the board.
     pub fn shape(&self) -> Shape
@@ -47,7 +47,8 @@ impl Images {
 
     /// How many placements.
     pub fn len(&self) -> usize
-        ensures { result ≡ length self.now.placements }
+        ensures value { result ≡ length self.now.placements }
+        ensures images { AreImages self.now }
     {
         self.places.len()
     }
