@@ -1,0 +1,11 @@
+mod Areas
+mod Beginning
+mod ChangedPoints
+mod FoundLists
+mod HoldsLaw
+mod MaskBits
+mod Nodes
+mod Ranges
+mod RowFits
+mod RowLists
+mod StartLists

@@ -1,0 +1,9 @@
+pub mod Areas
+pub mod Begins
+pub mod GridRows
+pub mod Masks
+pub mod Matchers
+pub mod Nodes
+pub mod Occurrences
+pub mod StoredRows
+pub mod Visits

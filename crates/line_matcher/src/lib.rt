@@ -1,0 +1,17 @@
+//! The occurrences of placements in one game.
+//!
+//! Stands on kb_geometry, kb_bits, capture_board and pattern_images. The layer above uses that `match_game` finds
+//! exactly the nodes and placements where a placement begins to hold, in order.
+#![tactic(auto)]
+
+mod changed;
+mod grid_rows;
+mod laws;
+mod mask;
+mod matcher;
+mod starts;
+mod visit;
+mod walk;
+
+pub use laws::the_test_tells_whether_a_placement_holds;
+pub use walk::match_game;
