@@ -8,6 +8,7 @@ use std::test::Fail;
 
 mod damaged;
 mod imports;
+mod occurrences;
 mod positions;
 
 /// A file: its path, its name and its text.
