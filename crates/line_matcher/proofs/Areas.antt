@@ -24,13 +24,13 @@ in_row shape placement y width placed wide low high =
     elim (cases_order placement.y y) [
       | inl same ↦ let e : placement.y * cols_of shape ≡ y * cols_of shape = ap (λ (n : ℕ). n * cols_of shape) same in (same, omega arith)
       | inr other ↦ elim other [
-          | inl above ↦
-              let rows : (placement.y + 1) * cols_of shape ≤ y * cols_of shape = mul-le-mul_right (cols_of shape) (omega arith) in
-              absurd (omega (arith, placed.columns, placed.some_column))
-          | inr below ↦
-              let rows : (y + 1) * cols_of shape ≤ placement.y * cols_of shape = mul-le-mul_right (cols_of shape) (omega arith) in
-              absurd (omega arith)
-        ]
+        | inl above ↦
+            let rows : (placement.y + 1) * cols_of shape ≤ y * cols_of shape = mul-le-mul_right (cols_of shape) (omega arith) in
+            absurd (omega (arith, placed.columns, placed.some_column))
+        | inr below ↦
+            let rows : (y + 1) * cols_of shape ≤ placement.y * cols_of shape = mul-le-mul_right (cols_of shape) (omega arith) in
+            absurd (omega arith)
+      ]
     ]
 
 -- a placement whose upper left point stands before a row
@@ -121,10 +121,10 @@ module _ (images : ImageList) (placed : All (IsPlacedOn images.shape) images.pla
           IsAdded-skip images.placements test visit.node (start row_start) (start (row_start + area.x0)) found
           (start_le row_start (row_start + area.x0) (omega arith) end)
           (λ i low high.
-            let before = before_start (row_start + area.x0) i end high in
-            let from = from_start row_start i (omega arith) low before.0 in
-            let here = in_row images.shape (at i) y area.x0 (placed_at i before.0) (omega (arith, on_board)) from before.1 in
-            outside i before.0 (λ inside. omega (arith, here.1, inside.0)))
+          let before = before_start (row_start + area.x0) i end high in
+          let from = from_start row_start i (omega arith) low before.0 in
+          let here = in_row images.shape (at i) y area.x0 (placed_at i before.0) (omega (arith, on_board)) from before.1 in
+          outside i before.0 (λ inside. omega (arith, here.1, inside.0)))
 
       -- the points behind it
       pub row_right : (x : ℕ) (found : List Found) → x ≡ area.x1 + 1 → IsFoundAt images visit (start (row_start + x)) (start ((y + 1) * cols_of images.shape)) found found
@@ -133,11 +133,11 @@ module _ (images : ImageList) (placed : All (IsPlacedOn images.shape) images.pla
           IsAdded-skip images.placements test visit.node (start (row_start + x)) (start ((y + 1) * cols_of images.shape)) found
           (start_le (row_start + x) ((y + 1) * cols_of images.shape) (omega (arith, on_board)) end)
           (λ i low high.
-            let before = before_start ((y + 1) * cols_of images.shape) i end high in
-            let from = from_start (row_start + x) i (omega (arith, on_board)) low before.0 in
-            let here = in_row images.shape (at i) y (cols_of images.shape) (placed_at i before.0) (omega arith) (omega arith) (omega arith) in
-            let e_row : (at i).y * cols_of images.shape ≡ row_start = ap (λ (n : ℕ). n * cols_of images.shape) here.0 in
-            outside i before.0 (λ inside. omega (arith, inside.1)))
+          let before = before_start ((y + 1) * cols_of images.shape) i end high in
+          let from = from_start (row_start + x) i (omega (arith, on_board)) low before.0 in
+          let here = in_row images.shape (at i) y (cols_of images.shape) (placed_at i before.0) (omega arith) (omega arith) (omega arith) in
+          let e_row : (at i).y * cols_of images.shape ≡ row_start = ap (λ (n : ℕ). n * cols_of images.shape) here.0 in
+          outside i before.0 (λ inside. omega (arith, inside.1)))
 
     -- ---- all rows
     module _ (on_board : IsRectOnBoard images.shape area) where
@@ -147,9 +147,9 @@ module _ (images : ImageList) (placed : All (IsPlacedOn images.shape) images.pla
           let end = row_end images.shape area.y0 (omega (arith, on_board)) in
           IsAdded-skip images.placements test visit.node 0 (start (area.y0 * cols_of images.shape)) found (omega arith)
           (λ i low high.
-            let before = before_start (area.y0 * cols_of images.shape) i end high in
-            let above = above_row images.shape (at i) area.y0 before.1 in
-            outside i before.0 (λ inside. omega (arith, inside.2)))
+          let before = before_start (area.y0 * cols_of images.shape) i end high in
+          let above = above_row images.shape (at i) area.y0 before.1 in
+          outside i before.0 (λ inside. omega (arith, inside.2)))
 
       -- the rows below it
       pub rows_below : (y : ℕ) (found : List Found) → y ≡ area.y1 + 1 → IsFoundAt images visit (start (y * cols_of images.shape)) (length images.placements) found found
@@ -157,6 +157,6 @@ module _ (images : ImageList) (placed : All (IsPlacedOn images.shape) images.pla
           let within = row_end images.shape y (omega (arith, on_board)) in
           IsAdded-skip images.placements test visit.node (start (y * cols_of images.shape)) (length images.placements) found ((are.each (y * cols_of images.shape) within).most)
           (λ i low lt.
-            let from = from_start (y * cols_of images.shape) i within low lt in
-            let below = below_row images.shape (at i) y (placed_at i lt) from in
-            outside i lt (λ inside. omega (arith, inside.3)))
+          let from = from_start (y * cols_of images.shape) i within low lt in
+          let below = below_row images.shape (at i) y (placed_at i lt) from in
+          outside i lt (λ inside. omega (arith, inside.3)))

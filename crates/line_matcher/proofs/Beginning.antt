@@ -45,11 +45,10 @@ module _ (shape : Shape) (points : List ℕ) (placement : Placement) where
   pub touches-decides : Decides (touches shape points placement) ((dx : ℕ) × (dy : ℕ) × Touched shape points placement dx dy)
   touches-decides =
       let rows = any_below (λ dy. list_any (test dy) (range_with_len 0 placement.grid.cols)) placement.grid.rows in
-      let cols = λ (dy : ℕ). any_below (test dy) placement.grid.cols in
-      (
+      let cols = λ (dy : ℕ). any_below (test dy) placement.grid.cols in (
         λ t. let y = rows.0 t in let x = (cols y.0).0 y.2 in
-        let parts = and_parts (is_care (cell_in placement.grid x.0 y.0)) (list_any (nat_eq (number_under shape placement x.0 y.0)) points) x.2 in
-        (x.0, y.0, record { column = x.1; row = y.1; care = parts.0; point = Contains-from_any exact_unsigned_eq (number_under shape placement x.0 y.0) points parts.1 }),
+            let parts = and_parts (is_care (cell_in placement.grid x.0 y.0)) (list_any (nat_eq (number_under shape placement x.0 y.0)) points) x.2 in
+            (x.0, y.0, record { column = x.1; row = y.1; care = parts.0; point = Contains-from_any exact_unsigned_eq (number_under shape placement x.0 y.0) points parts.1 }),
         λ (dx, dy, at). rows.1 (dy, at.row, (cols dy).1 (dx, at.column, and_from (is_care (cell_in placement.grid dx dy)) (list_any (nat_eq (number_under shape placement dx dy)) points) at.care (list_any-from_Contains nat_eq_equiv (number_under shape placement dx dy) points at.point))),
       )
 
@@ -67,24 +66,34 @@ module _ (shape : Shape) (placement : Placement) (placed : IsPlacedOn shape plac
       let row = slice_index_or rows dy no_mask in
       let is = are.each dy in_rows in
       elim (cases_lt k placement.grid.cols) [
-        | inl in_cols ↦ (k, dy, record {
+        | inl in_cols ↦ (
+          k,
+          dy,
+          record {
             column = in_cols;
             row = in_rows;
             care = passes_from_bit (is_care (cell_in placement.grid k dy)) (sym (is.care.within k in_cols) ∙ at.care);
             point = subst (Contains points) (sym (number_under-is shape placement placed k dy)) at.point;
-          })
+          },
+        )
         | inr past ↦ absurd (omega (arith, is.care.behind k past, at.care))
       ]
 
   rows_touched : (points : List ℕ) → (dx : ℕ) × (dy : ℕ) × Touched shape points placement dx dy → RowsTouch points
   rows_touched points (dx, dy, at) =
       let narrow = narrow_grid shape placement placed in
-      let is = are.each dy at.row in
-      (dy, omega (arith, are.count, at.row), (dx, record {
-        narrow = omega (arith, at.column);
-        care = is.care.within dx at.column ∙ ap (λ (b : Bool). cond b 1 0) at.care;
-        point = subst (Contains points) (number_under-is shape placement placed dx dy) at.point;
-      }))
+      let is = are.each dy at.row in (
+        dy,
+        omega (arith, are.count, at.row),
+        (
+          dx,
+          record {
+            narrow = omega (arith, at.column);
+            care = is.care.within dx at.column ∙ ap (λ (b : Bool). cond b 1 0) at.care;
+            point = subst (Contains points) (number_under-is shape placement placed dx dy) at.point;
+          },
+        ),
+      )
 
   pub touches-told : (points : List ℕ) (r : Bool) → IsTrue r ↔ RowsTouch points → r ≡ touches shape points placement
   touches-told points r told =
@@ -96,26 +105,26 @@ module _ (shape : Shape) (placement : Placement) (placed : IsPlacedOn shape plac
     pub holds-told : (r : Bool) → IsTrue r ↔ ((dy : ℕ) → dy < length rows → FitsRow (slice_index_or rows dy no_mask) black white (start_of dy)) → r ≡ holds shape position placement
     holds-told r told =
         same_from_decides r (holds shape position placement)
-          (λ t. rows_fit-holds shape placement placed position black white is_b is_w rows are (told.0 t), λ h. told.1 (holds-rows_fit shape placement placed position black white is_b is_w rows are h))
-          (holds-decides shape position placement)
+        (λ t. rows_fit-holds shape placement placed position black white is_b is_w rows are (told.0 t), λ h. told.1 (holds-rows_fit shape placement placed position black white is_b is_w rows are h))
+        (holds-decides shape position placement)
 
 -- ---- as the functions tell it
 module _ (shape : Shape) (placement : Placement) (placed : IsPlacedOn shape placement) (rows : List RowMask) (are : AreRowsOf placement.grid rows) (first cols : ℕ) (first_is : first ≡ first_of shape placement) (cols_is : cols ≡ cols_of shape) where
   pub may_begin-read : (points : List ℕ) (r : Bool) → IsTrue r ↔ ((dy : ℕ) × (dy < length rows) × ((k : ℕ) × TouchesAt (slice_index_or rows dy no_mask) points (first + dy * cols) k)) → r ≡ touches shape points placement
   may_begin-read points r told =
       touches-told shape placement placed rows are points r
-        (subst (λ (n : ℕ). IsTrue r ↔ ((dy : ℕ) × (dy < length rows) × ((k : ℕ) × TouchesAt (slice_index_or rows dy no_mask) points (n + dy * cols_of shape) k))) first_is
-        (subst (λ (n : ℕ). IsTrue r ↔ ((dy : ℕ) × (dy < length rows) × ((k : ℕ) × TouchesAt (slice_index_or rows dy no_mask) points (first + dy * n) k))) cols_is told))
+      (subst (λ (n : ℕ). IsTrue r ↔ ((dy : ℕ) × (dy < length rows) × ((k : ℕ) × TouchesAt (slice_index_or rows dy no_mask) points (n + dy * cols_of shape) k))) first_is
+      (subst (λ (n : ℕ). IsTrue r ↔ ((dy : ℕ) × (dy < length rows) × ((k : ℕ) × TouchesAt (slice_index_or rows dy no_mask) points (first + dy * n) k))) cols_is told))
 
   pub holds-read : (shown : Shape) (position : Position) (black white : List ℕ) → shown ≡ shape → HasCell shown position stone.Black black → HasCell shown position stone.White white →
       (r : Bool) → IsTrue r ↔ ((dy : ℕ) → dy < length rows → FitsRow (slice_index_or rows dy no_mask) black white (first + dy * cols)) → r ≡ holds shape position placement
   holds-read shown position black white same is_b is_w r told =
       holds-told shape placement placed rows are position black white
-        (subst (λ (s : Shape). HasCell s position stone.Black black) same is_b)
-        (subst (λ (s : Shape). HasCell s position stone.White white) same is_w)
-        r
-        (subst (λ (n : ℕ). IsTrue r ↔ ((dy : ℕ) → dy < length rows → FitsRow (slice_index_or rows dy no_mask) black white (n + dy * cols_of shape))) first_is
-        (subst (λ (n : ℕ). IsTrue r ↔ ((dy : ℕ) → dy < length rows → FitsRow (slice_index_or rows dy no_mask) black white (first + dy * n))) cols_is told))
+      (subst (λ (s : Shape). HasCell s position stone.Black black) same is_b)
+      (subst (λ (s : Shape). HasCell s position stone.White white) same is_w)
+      r
+      (subst (λ (n : ℕ). IsTrue r ↔ ((dy : ℕ) → dy < length rows → FitsRow (slice_index_or rows dy no_mask) black white (n + dy * cols_of shape))) first_is
+      (subst (λ (n : ℕ). IsTrue r ↔ ((dy : ℕ) → dy < length rows → FitsRow (slice_index_or rows dy no_mask) black white (first + dy * n))) cols_is told))
 
 -- the rows that a matcher keeps for a placement
 pub placement_rows : (grids : List Grid) (lists : List (List RowMask)) (k : ℕ) (grid : Grid) (rows : List RowMask) → AreGridRows grids lists → k < length grids → grid_at grids k ≡ grid → rows ≡ slice_index_or lists k [] → AreRowsOf grid rows

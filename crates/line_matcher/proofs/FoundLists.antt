@@ -87,12 +87,12 @@ module _ (placements : List Placement) (test : Placement → Bool) (node : ℕ) 
       new ≡ old ++ record { node = node; place = place } ∷ [] → IsAdded placements test node i (i + 1) old new
   IsAdded-push i old new place t is pushed = record {
     grown = λ before are.
-      let o : Occurrence = record { node = node; placement = i } in
-      let f : Found = record { node = node; place = place } in
-      let os = occurrences_below placements test node i in
-      let e : before ++ occurrences_below placements test node (i + 1) ≡ before ++ os ++ o ∷ [] =
-          ap (λ (ps : List Occurrence). before ++ ps) (occurrences_below-push placements test node i t) ∙ sym (append_assoc before os (o ∷ [])) in
-      subst (λ (fs : List Found). AreFound placements (before ++ occurrences_below placements test node (i + 1)) fs) (sym pushed)
+        let o : Occurrence = record { node = node; placement = i } in
+        let f : Found = record { node = node; place = place } in
+        let os = occurrences_below placements test node i in
+        let e : before ++ occurrences_below placements test node (i + 1) ≡ before ++ os ++ o ∷ [] =
+        ap (λ (ps : List Occurrence). before ++ ps) (occurrences_below-push placements test node i t) ∙ sym (append_assoc before os (o ∷ [])) in
+        subst (λ (fs : List Found). AreFound placements (before ++ occurrences_below placements test node (i + 1)) fs) (sym pushed)
         (subst (λ (ps : List Occurrence). AreFound placements ps (old ++ f ∷ [])) (sym e) (AreFound-push placements (before ++ os) old o f are (record { node = refl; place = is })));
   }
 

@@ -34,8 +34,7 @@ module _ (shape : Shape) (position : Position) (placement : Placement) where
   holds-decides =
       let test : ℕ → ℕ → Bool = λ dy dx. allows (cell_in placement.grid dx dy) (cell_at position (number_under shape placement dx dy)) in
       let rows = all_below (λ dy. list_all (test dy) (range_with_len 0 placement.grid.cols)) placement.grid.rows in
-      let cols = λ (dy : ℕ). all_below (test dy) placement.grid.cols in
-      (
+      let cols = λ (dy : ℕ). all_below (test dy) placement.grid.cols in (
         λ t dx dy in_cols in_rows. (allows-decides (cell_in placement.grid dx dy) (cell_at position (number_under shape placement dx dy))).0 ((cols dy).0 (rows.0 t dy in_rows) dx in_cols),
         λ h. rows.1 (λ dy in_rows. (cols dy).1 (λ dx in_cols. (allows-decides (cell_in placement.grid dx dy) (cell_at position (number_under shape placement dx dy))).1 (h dx dy in_cols in_rows))),
       )

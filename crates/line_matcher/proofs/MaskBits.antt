@@ -23,41 +23,42 @@ same_bits : (a b : ℕ) → a < 2 → b < 2 → (a ≡ 1 → b ≡ 1) → (b ≡
 same_bits a b la lb f g = elim (cases_eq a 1) [
   | inl one ↦ let other = f one in omega arith
   | inr not_one ↦ elim (cases_eq b 1) [
-      | inl one ↦ absurd (not_one (g one))
-      | inr none ↦ omega arith
-    ]
+    | inl one ↦ absurd (not_one (g one))
+    | inr none ↦ omega arith
+  ]
 ]
 
 module _ (w word care : ℕ) (points : List ℕ) (start : ℕ) (window : (k : ℕ) → k < 64 → (bit_at w k ≡ 1) ↔ Contains points (start + k)) where
   under_bit : (k : ℕ) → k < 64 → (bit_at (bit_and w care) k ≡ 1) ↔ (Contains points (start + k) × (bit_at care k ≡ 1))
   under_bit k lt =
-      let m = min_bits (bit_at w k) (bit_at care k) (bit_at-lt w k) (bit_at-lt care k) in
-      (
+      let m = min_bits (bit_at w k) (bit_at care k) (bit_at-lt w k) (bit_at-lt care k) in (
         λ e. let p = m.0 (sym (bit_at_and w care k) ∙ e) in ((window k lt).0 p.0, p.1),
         λ h. bit_at_and w care k ∙ m.1 ((window k lt).1 h.0, h.1),
       )
 
   pub is_under-told : word < 2 ^ 64 → w < 2 ^ 64 → IsTrue (nat_eq (bit_and w care) word) ↔ IsUnder word care points start
   is_under-told fits w_fits =
-    let both_fit : bit_and w care < 2 ^ 64 = omega (arith, and_le_l w care) in (
-    λ t. record { bits = λ k lt. let e : bit_at (bit_and w care) k ≡ bit_at word k = ap (λ (v : ℕ). bit_at v k) (eqb-true (bit_and w care) word t) in
-    (λ one. (under_bit k lt).0 (e ∙ one), λ h. sym e ∙ (under_bit k lt).1 h) },
-    λ under. eq-eqb (bit_and w care) word (same_from_bits_below 64 (bit_and w care) word both_fit fits (λ k lt.
-      same_bits (bit_at (bit_and w care) k) (bit_at word k) (bit_at-lt (bit_and w care) k) (bit_at-lt word k)
-        (λ one. (under.bits k lt).1 ((under_bit k lt).0 one))
-        (λ one. (under_bit k lt).1 ((under.bits k lt).0 one)))),
-  )
+      let both_fit : bit_and w care < 2 ^ 64 = omega (arith, and_le_l w care) in (
+        λ t. record {
+          bits = λ k lt. let e : bit_at (bit_and w care) k ≡ bit_at word k = ap (λ (v : ℕ). bit_at v k) (eqb-true (bit_and w care) word t) in
+              (λ one. (under_bit k lt).0 (e ∙ one), λ h. sym e ∙ (under_bit k lt).1 h);
+        },
+        λ under. eq-eqb (bit_and w care) word (same_from_bits_below 64 (bit_and w care) word both_fit fits (λ k lt.
+            same_bits (bit_at (bit_and w care) k) (bit_at word k) (bit_at-lt (bit_and w care) k) (bit_at-lt word k)
+            (λ one. (under.bits k lt).1 ((under_bit k lt).0 one))
+            (λ one. (under_bit k lt).1 ((under.bits k lt).0 one)))),
+      )
 
 module _ (w : ℕ) (row : RowMask) (points : List ℕ) (start : ℕ) (window : (k : ℕ) → k < 64 → (bit_at w k ≡ 1) ↔ Contains points (start + k)) where
   pub touches-told : w < 2 ^ 64 → IsTrue (not (nat_eq (bit_and w row.care) 0)) ↔ ((k : ℕ) × TouchesAt row points start k)
   touches-told w_fits =
-    let fits : bit_and w row.care < 2 ^ 64 = omega (arith, and_le_l w row.care) in (
-    λ t. let ne = eqb-false (bit_and w row.care) 0 (not-true (nat_eq (bit_and w row.care) 0) t) in
-    let b = word_has_bit (bit_and w row.care) (omega arith) fits in
-    let both = (under_bit w 0 row.care points start window b.0 b.1).0 b.2 in
-    (b.0, record { narrow = b.1; care = both.1; point = both.0 }),
-    λ (k, at). not_from_false (nat_eq (bit_and w row.care) 0) (ne_eqb (bit_and w row.care) 0 (λ none.
-      let one = (under_bit w 0 row.care points start window k at.narrow).1 (at.point, at.care) in
-      let zero = ap (λ (v : ℕ). bit_at v k) none ∙ bit_at-zero k in
-      omega arith)),
-  )
+      let fits : bit_and w row.care < 2 ^ 64 = omega (arith, and_le_l w row.care) in (
+        λ t. let ne = eqb-false (bit_and w row.care) 0 (not-true (nat_eq (bit_and w row.care) 0) t) in
+            let b = word_has_bit (bit_and w row.care) (omega arith) fits in
+            let both = (under_bit w 0 row.care points start window b.0 b.1).0 b.2 in
+            (b.0, record { narrow = b.1; care = both.1; point = both.0 }),
+        λ (k, at). not_from_false (nat_eq (bit_and w row.care) 0) (ne_eqb (bit_and w row.care) 0 (λ none.
+            let one = (under_bit w 0 row.care points start window k at.narrow).1 (at.point, at.care) in
+            let zero = ap (λ (v : ℕ). bit_at v k) none ∙ bit_at-zero k in
+            omega arith)),
+      )

@@ -63,13 +63,13 @@ module _ (shape : Shape) (before : Position) (cs : List Change) (of : AreChanges
       let old : c.old ≡ cell_at before c.point = at_change (λ (d : Change). d.old ≡ cell_at before d.point) cs of.old k c lt at in
       let new : cell_at after c.point ≡ c.new = at_change (λ (d : Change). cell_at after d.point ≡ d.new) cs (with_changes-new before cs of.on_board (AreChangesOf-apart before cs of)) k c lt at in
       at_change (λ (d : Change). d.old ≢ d.new) cs of.differ k c lt at
-        (old ∙ ap (cell_at before) is ∙ same ∙ sym (ap (cell_at after) is) ∙ new)
+      (old ∙ ap (cell_at before) is ∙ same ∙ sym (ap (cell_at after) is) ∙ new)
 
   touched_before : (dx dy : ℕ) → Touched shape points placement dx dy → Holds shape after placement → Holds shape before placement → ⊥
   touched_before dx dy at holds_after holds_before =
       let p = number_under shape placement dx dy in
       differs p ((are_points p).0 at.point)
-        (allowed_once (cell_in placement.grid dx dy) (cell_at before p) (cell_at after p) at.care (holds_before dx dy at.column at.row) (holds_after dx dy at.column at.row))
+      (allowed_once (cell_in placement.grid dx dy) (cell_at before p) (cell_at after p) at.care (holds_before dx dy at.column at.row) (holds_after dx dy at.column at.row))
 
   untouched_before : ((dx dy : ℕ) → Touched shape points placement dx dy → ⊥) → Holds shape after placement → Holds shape before placement
   untouched_before none holds_after dx dy column row =
@@ -77,9 +77,9 @@ module _ (shape : Shape) (before : Position) (cs : List Change) (of : AreChanges
       let c = cell_in placement.grid dx dy in
       elim (cases_Bool (is_care c)) [
         | inl care ↦ elim (changed_or_not p cs) [
-            | inl changed_there ↦ absurd (none dx dy (record { column = column; row = row; care = care; point = (are_points p).1 changed_there }))
-            | inr unchanged ↦ subst (Allows c) (with_changes-unchanged before cs p unchanged) (holds_after dx dy column row)
-          ]
+          | inl changed_there ↦ absurd (none dx dy (record { column = column; row = row; care = care; point = (are_points p).1 changed_there }))
+          | inr unchanged ↦ subst (Allows c) (with_changes-unchanged before cs p unchanged) (holds_after dx dy column row)
+        ]
         | inr wild ↦ allowed_by_wildcard c (cell_at before p) wild
       ]
 
@@ -94,7 +94,7 @@ module _ (shape : Shape) (before : Position) (cs : List Change) (of : AreChanges
             touched ∙ sym (ap not gone)
         | inr untouched ↦
             let held : holds shape before placement ≡ true = (holds-decides shape before placement).1
-                (untouched_before (λ dx dy at. false≢true (sym untouched ∙ (touches-decides shape points placement).1 (dx, dy, at))) holds_after) in
+            (untouched_before (λ dx dy at. false≢true (sym untouched ∙ (touches-decides shape points placement).1 (dx, dy, at))) holds_after) in
             untouched ∙ sym (ap not held)
       ]
 
@@ -128,9 +128,9 @@ pub IsFoundIn-added : (deltas : Deltas) (placements : List Placement) (node : �
     IsAdded placements test node 0 (length placements) old new → IsFoundIn deltas placements node old new
 IsFoundIn-added deltas placements node test old new agree added = record {
   grown = λ before are.
-    let e : occurrences_below placements test node (length placements) ≡ occurrences_at deltas placements node =
-        occurrences_below-agree placements test (λ p. begins_at deltas p node) node (length placements) (λ i. agree (placement_at placements i)) in
-    subst (λ (os : List Occurrence). AreFound placements (before ++ os) new) e
+      let e : occurrences_below placements test node (length placements) ≡ occurrences_at deltas placements node =
+      occurrences_below-agree placements test (λ p. begins_at deltas p node) node (length placements) (λ i. agree (placement_at placements i)) in
+      subst (λ (os : List Occurrence). AreFound placements (before ++ os) new) e
       (added.grown before (subst (λ (os : List Occurrence). AreFound placements os old) (sym (append-nil before)) are));
 }
 
@@ -138,19 +138,19 @@ pub found_at_root : (deltas : Deltas) (images : ImageList) (position : Position)
     IsFoundAtRoot images position node old new → IsFoundIn deltas images.placements node old new
 found_at_root deltas images position node old new same_shape shown root added =
     IsFoundIn-added deltas images.placements node (begins images.shape position changed.Everything) old new
-      (λ p. ap (λ (s : Shape). begins s position changed.Everything p) same_shape ∙ ap (λ (q : Position). begins deltas.shape q changed.Everything p) shown ∙ begins_at-root deltas p node root)
-      added
+    (λ p. ap (λ (s : Shape). begins s position changed.Everything p) same_shape ∙ ap (λ (q : Position). begins deltas.shape q changed.Everything p) shown ∙ begins_at-root deltas p node root)
+    added
 
 pub found_by_changes : (deltas : Deltas) (images : ImageList) (position : Position) (changes : List Change) (node m : ℕ) (old new : List Found) → images.shape ≡ deltas.shape → position ≡ position_at deltas node → AreDeltas deltas → parent_of deltas node ≡ Some m →
     AreChangesOf (position_where deltas (parent_of deltas node)) changes → changes ≡ changes_of deltas node → IsFoundByChanges images position changes node old new → IsFoundIn deltas images.placements node old new
 found_by_changes deltas images position changes node m old new same_shape shown are parent of are_changes found =
     let here : (p : ℕ) → Contains found.points p ↔ Any (λ (c : Change). c.point ≡ p) (changes_of deltas node) =
-        subst (λ (cs : List Change). (p : ℕ) → Contains found.points p ↔ Any (λ (c : Change). c.point ≡ p) cs) are_changes found.are_points in
+    subst (λ (cs : List Change). (p : ℕ) → Contains found.points p ↔ Any (λ (c : Change). c.point ≡ p) cs) are_changes found.are_points in
     IsFoundIn-added deltas images.placements node (begins images.shape position (changed.Points found.points)) old new
-      (λ p. ap (λ (s : Shape). begins s position (changed.Points found.points) p) same_shape
-        ∙ ap (λ (q : Position). begins deltas.shape q (changed.Points found.points) p) shown
-        ∙ begins_at-child deltas p node m are parent (subst (AreChangesOf (position_where deltas (parent_of deltas node))) are_changes of) found.points here)
-      found.added
+    (λ p. ap (λ (s : Shape). begins s position (changed.Points found.points) p) same_shape
+    ∙ ap (λ (q : Position). begins deltas.shape q (changed.Points found.points) p) shown
+    ∙ begins_at-child deltas p node m are parent (subst (AreChangesOf (position_where deltas (parent_of deltas node))) are_changes of) found.points here)
+    found.added
 
 -- without changes nothing begins to hold
 pub found_by_none : (images : ImageList) (position : Position) (changes : List Change) (node : ℕ) (found : List Found) → changes ≡ [] → IsFoundByChanges images position changes node found found
@@ -161,7 +161,7 @@ found_by_none images position changes node found none = record {
     λ (k, c, lt, at, is). absurd (omega (arith, ap (λ (cs : List Change). length cs) none)),
   );
   added = IsAdded-skip images.placements (begins images.shape position (changed.Points [])) node 0 (length images.placements) found (omega arith)
-    (λ i low lt. untouched (placement_at images.placements i));
+      (λ i low lt. untouched (placement_at images.placements i));
 }
   where
     untouched : (placement : Placement) → begins images.shape position (changed.Points []) placement ≡ false
@@ -176,10 +176,10 @@ module _ (deltas : Deltas) (placements : List Placement) where
   pub IsFoundTo-more : (n : ℕ) (old between new : List Found) → IsFoundTo deltas placements n old between → IsFoundIn deltas placements n between new → IsFoundTo deltas placements (n + 1) old new
   IsFoundTo-more n old between new found here = record {
     grown = λ before are.
-      let at = occurrences_at deltas placements in
-      let e : before ++ flat_map at (range_with_len 0 n) ++ at n ≡ before ++ flat_map at (range_with_len 0 (n + 1)) =
-          flat_map_more at before (range_with_len 0 n) n ∙ ap (λ (is : List ℕ). before ++ flat_map at is) (sym (range_more 0 n ∙ ap (λ (i : ℕ). range_with_len 0 n ++ i ∷ []) (omega arith))) in
-      subst (λ (os : List Occurrence). AreFound placements os new) e (here.grown (before ++ flat_map at (range_with_len 0 n)) (found.grown before are));
+        let at = occurrences_at deltas placements in
+        let e : before ++ flat_map at (range_with_len 0 n) ++ at n ≡ before ++ flat_map at (range_with_len 0 (n + 1)) =
+        flat_map_more at before (range_with_len 0 n) n ∙ ap (λ (is : List ℕ). before ++ flat_map at is) (sym (range_more 0 n ∙ ap (λ (i : ℕ). range_with_len 0 n ++ i ∷ []) (omega arith))) in
+        subst (λ (os : List Occurrence). AreFound placements os new) e (here.grown (before ++ flat_map at (range_with_len 0 n)) (found.grown before are));
   }
 
   pub IsFoundTo-all : (new : List Found) (n : ℕ) → IsFoundTo deltas placements n [] new → AreFound placements (flat_map (occurrences_at deltas placements) (range_with_len 0 n)) new
@@ -200,8 +200,7 @@ module _ (images : ImageList) (are : AreImages images) where
   within_most most greatest i lt =
       let placement = placement_at images.placements i in
       let class = are.classes i (record { label = 0; x = 0; y = 0; grid = no_grid }) lt in
-      let is : grid_at images.grids class.0 ≡ placement.grid = get_or_default images.grids class.0 no_grid placement.grid class.1 ∙ class.2 in
-      (
+      let is : grid_at images.grids class.0 ≡ placement.grid = get_or_default images.grids class.0 no_grid placement.grid class.1 ∙ class.2 in (
         omega (arith, greatest.columns class.0 class.1, ap (λ (g : Grid). g.cols) is),
         omega (arith, greatest.rows class.0 class.1, ap (λ (g : Grid). g.rows) is),
       )

@@ -7,13 +7,12 @@ use Rattle.std.proofs.lemmas.Bool.{cases_eq, and_parts, and_from, or_cases, or_l
 all_from : (p : ℕ → Bool) (a n : ℕ) → Decides (list_all p (range_with_len a n)) ((k : ℕ) → a ≤ k → k < a + n → p k ≡ true)
 all_from p a zero = (λ e k low high. absurd (omega arith), λ h. refl)
 all_from p a (suc n) =
-    let rest = all_from p (a + 1) n in
-    (
+    let rest = all_from p (a + 1) n in (
       λ e k low high. let parts = and_parts (p a) (list_all p (range_with_len (a + 1) n)) e in
-      elim (cases_eq k a) [
-        | inl here ↦ ap p here ∙ parts.0
-        | inr later ↦ rest.0 parts.1 k (omega arith) (omega arith)
-      ],
+          elim (cases_eq k a) [
+            | inl here ↦ ap p here ∙ parts.0
+            | inr later ↦ rest.0 parts.1 k (omega arith) (omega arith)
+          ],
       λ h. and_from (p a) (list_all p (range_with_len (a + 1) n)) (h a (omega arith) (omega arith)) (rest.1 (λ k low high. h k (omega arith) (omega arith))),
     )
 
@@ -26,8 +25,7 @@ all_below p n =
 any_from : (p : ℕ → Bool) (a n : ℕ) → Decides (list_any p (range_with_len a n)) ((k : ℕ) × (a ≤ k) × (k < a + n) × (p k ≡ true))
 any_from p a zero = (λ e. absurd (false≢true e), λ (k, low, high, t). absurd (omega arith))
 any_from p a (suc n) =
-    let rest = any_from p (a + 1) n in
-    (
+    let rest = any_from p (a + 1) n in (
       λ e. elim (or_cases (p a) (list_any p (range_with_len (a + 1) n)) e) [
         | inl here ↦ (a, omega arith, omega arith, here)
         | inr later ↦ let k = rest.0 later in (k.0, omega arith, omega arith, k.3)

@@ -65,8 +65,8 @@ module _ (shape : Shape) (position : Position) (black white : List ℕ) (is_b : 
     row_allows fits dx lt =
         let p = start + dx in
         allowed_by_bits (cell_at position p) (Contains black p) (Contains white p) (on_point p stone.Black black (below dx lt) is_b) (on_point p stone.White white (below dx lt) is_w)
-          (bit_at row.black dx) (bit_at row.white dx) (bit_at row.care dx) (cell_in grid dx dy) (is.black.within dx lt) (is.white.within dx lt) (is.care.within dx lt)
-          (fits.black_cells.bits dx (omega arith)) (fits.white_cells.bits dx (omega arith))
+        (bit_at row.black dx) (bit_at row.white dx) (bit_at row.care dx) (cell_in grid dx dy) (is.black.within dx lt) (is.white.within dx lt) (is.care.within dx lt)
+        (fits.black_cells.bits dx (omega arith)) (fits.white_cells.bits dx (omega arith))
 
     module _ (allows : (dx : ℕ) → dx < grid.cols → Allows (cell_in grid dx dy) (cell_at position (start + dx))) where
       bits_within : (dx : ℕ) → dx < grid.cols →
@@ -75,7 +75,7 @@ module _ (shape : Shape) (position : Position) (black white : List ℕ) (is_b : 
       bits_within dx lt =
           let p = start + dx in
           bits_of_allowed (cell_at position p) (Contains black p) (Contains white p) (on_point p stone.Black black (below dx lt) is_b) (on_point p stone.White white (below dx lt) is_w)
-            (bit_at row.black dx) (bit_at row.white dx) (bit_at row.care dx) (cell_in grid dx dy) (is.black.within dx lt) (is.white.within dx lt) (is.care.within dx lt) (allows dx lt)
+          (bit_at row.black dx) (bit_at row.white dx) (bit_at row.care dx) (cell_in grid dx dy) (is.black.within dx lt) (is.white.within dx lt) (is.care.within dx lt) (allows dx lt)
 
       -- no bit stands behind the row's end
       behind : (b cb : ℕ) (has : Type 0) → b ≡ 0 → cb ≡ 0 → (b ≡ 1) ↔ (has × (cb ≡ 1))
@@ -83,14 +83,18 @@ module _ (shape : Shape) (position : Position) (black white : List ℕ) (is_b : 
 
       pub row_fits : FitsRow row black white start
       row_fits = record {
-        black_cells = record { bits = λ k k_lt. elim (cases_lt k grid.cols) [
-          | inl lt ↦ (bits_within k lt).0
-          | inr le ↦ behind (bit_at row.black k) (bit_at row.care k) (Contains black (start + k)) (is.black.behind k le) (is.care.behind k le)
-        ] };
-        white_cells = record { bits = λ k k_lt. elim (cases_lt k grid.cols) [
-          | inl lt ↦ (bits_within k lt).1
-          | inr le ↦ behind (bit_at row.white k) (bit_at row.care k) (Contains white (start + k)) (is.white.behind k le) (is.care.behind k le)
-        ] };
+        black_cells = record {
+          bits = λ k k_lt. elim (cases_lt k grid.cols) [
+            | inl lt ↦ (bits_within k lt).0
+            | inr le ↦ behind (bit_at row.black k) (bit_at row.care k) (Contains black (start + k)) (is.black.behind k le) (is.care.behind k le)
+          ];
+        };
+        white_cells = record {
+          bits = λ k k_lt. elim (cases_lt k grid.cols) [
+            | inl lt ↦ (bits_within k lt).1
+            | inr le ↦ behind (bit_at row.white k) (bit_at row.care k) (Contains white (start + k)) (is.white.behind k le) (is.care.behind k le)
+          ];
+        };
       }
 
 -- ---- a placement on the board
@@ -108,7 +112,7 @@ module _ (shape : Shape) (placement : Placement) (placed : IsPlacedOn shape plac
   pub number_under-lt : (dx dy : ℕ) → dx < placement.grid.cols → dy < placement.grid.rows → first_of shape placement + dy * cols_of shape + dx < point_count shape
   number_under-lt dx dy in_cols in_rows =
       let below : (placement.y + dy) * cols_of shape + (placement.x + dx) < cols_of shape * rows_of shape =
-          mul-add-lt (placement.y + dy) (cols_of shape) (placement.x + dx) (rows_of shape) (omega (arith, placed.rows)) (omega (arith, placed.columns)) in
+      mul-add-lt (placement.y + dy) (cols_of shape) (placement.x + dx) (rows_of shape) (omega (arith, placed.rows)) (omega (arith, placed.columns)) in
       omega arith
 
   -- behind the last row there is room for a number of 16 bits
@@ -137,4 +141,4 @@ module _ (shape : Shape) (placement : Placement) (placed : IsPlacedOn shape plac
         let row = slice_index_or rows dy no_mask in
         let in_rows : dy < placement.grid.rows = omega (arith, are.count) in
         row_fits shape position black white is_b is_w placement.grid dy (start_of dy) row (are.each dy in_rows) narrow_grid (λ dx' lt'. number_under-lt dx' dy lt' in_rows)
-          (λ dx in_cols. rw (number_under-is dx dy) at (holds dx dy in_cols in_rows))
+        (λ dx in_cols. rw (number_under-is dx dy) at (holds dx dy in_cols in_rows))

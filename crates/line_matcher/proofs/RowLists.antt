@@ -82,15 +82,15 @@ HaveGridsTo-more grids n ranges later rows now range have added from to pushed =
         | inl below ↦
             let same : get_or (ranges ++ range ∷ []) k d ≡ get_or ranges k d = get_or_append_left ranges (range ∷ []) d k (omega (arith, have.count)) in
             let here : rows_in now (get_or (ranges ++ range ∷ []) k d) ≡ rows_in rows (get_or ranges k d) =
-                ap (rows_in now) same
-                ∙ ap (λ (rs : List RowMask). rows_in rs (get_or ranges k d)) added.added
-                ∙ sym (rows_in-kept rows added.rows (get_or ranges k d) (have.within k d (omega (arith, have.count)))) in
+            ap (rows_in now) same
+            ∙ ap (λ (rs : List RowMask). rows_in rs (get_or ranges k d)) added.added
+            ∙ sym (rows_in-kept rows added.rows (get_or ranges k d) (have.within k d (omega (arith, have.count)))) in
             subst (AreRowsOf (grid_at grids k)) (sym here) (have.each k d below)
         | inr last ↦
             let here : n ≡ k = omega arith in
             let at : get_or (ranges ++ range ∷ []) k d ≡ range = get_or_push ranges range d k (have.count ∙ here) in
             let last_rows : rows_in now (get_or (ranges ++ range ∷ []) k d) ≡ added.rows =
-                ap (rows_in now) at ∙ ap (λ (rs : List RowMask). rows_in rs range) added.added ∙ rows_in-last rows added.rows range from (to ∙ ap length added.added) in
+            ap (rows_in now) at ∙ ap (λ (rs : List RowMask). rows_in rs range) added.added ∙ rows_in-last rows added.rows range from (to ∙ ap length added.added) in
             subst (AreRowsOf (grid_at grids k)) (sym last_rows) (subst (λ (i : ℕ). AreRowsOf (grid_at grids i) added.rows) here added.are)
       ]);
     }
@@ -99,6 +99,6 @@ pub HaveGridsTo-end : (grids : List Grid) (n : ℕ) (ranges : List RowRange) (ro
 HaveGridsTo-end grids n ranges rows have e = record {
   count = length-map ranges (rows_in rows) ∙ have.count ∙ e;
   each = λ k lt.
-    let d : RowRange = record { start = 0; end = 0 } in
-    subst (AreRowsOf (grid_at grids k)) (sym (get_or-map (rows_in rows) ranges k d [] (omega (arith, have.count)))) (have.each k d (omega arith));
+      let d : RowRange = record { start = 0; end = 0 } in
+      subst (AreRowsOf (grid_at grids k)) (sym (get_or-map (rows_in rows) ranges k d [] (omega (arith, have.count)))) (have.each k d (omega arith));
 }

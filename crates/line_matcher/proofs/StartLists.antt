@@ -35,10 +35,13 @@ module _ (shape : Shape) (placements : List Placement) where
     pub SplitsAt-here : (p i : ℕ) → i < length placements → ((j : ℕ) → j < i → first_at j < p) → p ≤ first_at i → SplitsAt shape placements p i
     SplitsAt-here p i lt before here = record {
       most = omega arith;
-      before = λ j j_lt. (before j, λ below. elim (cases_lt j i) [
-        | inl l ↦ l
-        | inr le ↦ absurd (omega (arith, ascending i j le j_lt))
-      ]);
+      before = λ j j_lt. (
+        before j,
+        λ below. elim (cases_lt j i) [
+          | inl l ↦ l
+          | inr le ↦ absurd (omega (arith, ascending i j le j_lt))
+        ],
+      );
     }
 
   -- all placements stand before a point

@@ -10,5 +10,4 @@ ghost use Rattle.line_matcher.specs.Occurrences.{holds};
 pub fn the_test_tells_whether_a_placement_holds()
     ensures { (shape : Shape) (position : Position) (placement : Placement) →
         (holds shape position placement ≡ true) ↔ Holds shape position placement }
-{
-}
+{}

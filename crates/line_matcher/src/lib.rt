@@ -15,3 +15,6 @@ mod walk;
 
 pub use laws::the_test_tells_whether_a_placement_holds;
 pub use walk::match_game;
+
+#[cfg(test)]
+mod tests;

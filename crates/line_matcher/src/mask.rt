@@ -46,7 +46,8 @@ impl RowMask {
     fn fits(&self, black: &BitBoard, white: &BitBoard, start: u16) -> bool
         ensures { IsTrue result ↔ FitsRow self.now black.now white.now start }
     {
-        is_under(self.black, self.care, black, start) && is_under(self.white, self.care, white, start)
+        is_under(self.black, self.care, black, start)
+            && is_under(self.white, self.care, white, start)
     }
 
     // Whether one of the points lies under a cell of the row that is no wildcard.
@@ -59,7 +60,13 @@ impl RowMask {
 
 // Whether each row fits the board. The first one stands on the points from `first` on, and each other one `cols` points
 // behind the one above it.
-pub(crate) fn rows_fit(rows: &[RowMask], black: &BitBoard, white: &BitBoard, first: u16, cols: u16) -> bool
+pub(crate) fn rows_fit(
+    rows: &[RowMask],
+    black: &BitBoard,
+    white: &BitBoard,
+    first: u16,
+    cols: u16,
+) -> bool
     requires { first + length rows.now * cols < 65536 }
     ensures { IsTrue result ↔ ((dy : ℕ) → dy < length rows.now →
         FitsRow (slice_index_or rows.now dy no_mask) black.now white.now (first + dy * cols)) }

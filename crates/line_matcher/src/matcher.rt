@@ -13,8 +13,8 @@ use crate::changed::{Changed, reach};
 use crate::grid_rows::GridRows;
 use crate::mask::{RowMask, rows_fit, rows_touch};
 use crate::starts::starts;
-use capture_board::Walker;
 use crate::visit::Visit;
+use capture_board::Walker;
 use kb_geometry::{Cell, NoMemory, Point, Rect, Shape};
 use pattern_images::{Found, Images};
 use std::alloc::Global;
@@ -63,7 +63,12 @@ impl<'a> Matcher<'a> {
     }
 
     // Adds what begins to hold at a node. It has its upper left points in the area.
-    pub(crate) fn add_area(&self, visit: &Visit, area: Rect, found: &mut Vec<Found>) -> Result<(), NoMemory>
+    pub(crate) fn add_area(
+        &self,
+        visit: &Visit,
+        area: Rect,
+        found: &mut Vec<Found>,
+    ) -> Result<(), NoMemory>
         requires area { IsRectOnBoard self.now.images.now.shape area }
         requires near { IsNear self.now.images.now visit.now area }
         requires shape { visit.now.walker.now.shape ≡ self.now.images.now.shape }
@@ -87,7 +92,13 @@ impl<'a> Matcher<'a> {
     }
 
     // Adds what begins to hold at a node, among the placements with their upper left points in one row.
-    fn add_row(&self, visit: &Visit, area: Rect, y: u8, found: &mut Vec<Found>) -> Result<(), NoMemory>
+    fn add_row(
+        &self,
+        visit: &Visit,
+        area: Rect,
+        y: u8,
+        found: &mut Vec<Found>,
+    ) -> Result<(), NoMemory>
         requires row { y < rows_of self.now.images.now.shape }
         requires area { IsRectOnBoard self.now.images.now.shape area }
         requires near { IsNear self.now.images.now visit.now area }
@@ -109,7 +120,14 @@ impl<'a> Matcher<'a> {
 
     // Adds what begins to hold at a node, among the placements from one number up to another. The number of the upper
     // left point of each is `first`.
-    fn add_run(&self, visit: &Visit, first: u16, from: usize, to: usize, found: &mut Vec<Found>) -> Result<(), NoMemory>
+    fn add_run(
+        &self,
+        visit: &Visit,
+        first: u16,
+        from: usize,
+        to: usize,
+        found: &mut Vec<Found>,
+    ) -> Result<(), NoMemory>
         requires ordered { from ≤ to }
         requires in_range { to ≤ length self.now.images.now.placements }
         requires first { (i : ℕ) → from ≤ i → i < to → first ≡ first_of self.now.images.now.shape (placement_at self.now.images.now.placements i) }

@@ -6,8 +6,7 @@ use Rattle.line_matcher.proofs.mask.rows_fit.Goals as goal
 
 pub returns-then-not-fits : goal.returns-then-not-fits
 returns-then-not-fits c =
-    let i = c.loop-row.row-index in
-    (
+    let i = c.loop-row.row-index in (
       λ t. absurd (false≢true t),
       λ fit. c.if-not-fits.ensures.1 (subst (λ (start : ℕ). FitsRow (slice_index_or c.args.rows.now i no_mask) c.args.black.now c.args.white.now start) (sym c.loop-row.invariant.start) (fit i c.loop-row-test.true)),
     )

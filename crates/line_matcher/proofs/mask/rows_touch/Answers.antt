@@ -10,5 +10,5 @@ loop-row-preserved c =
     record {
       start = omega arith;
       none = λ dy k lt. below_more (λ (j : ℕ). TouchesAt (slice_index_or c.args.rows.now j no_mask) c.args.points.now (c.args.first + j * c.args.cols) k → ⊥) i (λ j below. c.loop-row.invariant.none j k below)
-        (λ at. false≢true (sym c.if-touches.false ∙ c.touches.ensures.1 (k, subst (λ (start : ℕ). TouchesAt (slice_index_or c.args.rows.now i no_mask) c.args.points.now start k) (sym c.loop-row.invariant.start) at))) dy lt;
+          (λ at. false≢true (sym c.if-touches.false ∙ c.touches.ensures.1 (k, subst (λ (start : ℕ). TouchesAt (slice_index_or c.args.rows.now i no_mask) c.args.points.now start k) (sym c.loop-row.invariant.start) at))) dy lt;
     }

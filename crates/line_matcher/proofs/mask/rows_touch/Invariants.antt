@@ -6,5 +6,5 @@ use Rattle.line_matcher.proofs.mask.rows_touch.Given as goal
 abbrev pub invariant-loop-row : goal.invariant-loop-row
 invariant-loop-row l = record {
   start : l.start ≡ l.first + l.row-index * l.cols;
-  none : (dy k : ℕ) → dy < l.row-index → TouchesAt (slice_index_or l.rows dy no_mask) l.points (l.first + dy * l.cols) k → ⊥
+  none : (dy k : ℕ) → dy < l.row-index → TouchesAt (slice_index_or l.rows dy no_mask) l.points (l.first + dy * l.cols) k → ⊥;
 }

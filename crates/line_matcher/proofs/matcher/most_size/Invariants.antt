@@ -8,5 +8,5 @@ invariant-loop-class l = record {
   some_column : 1 ≤ l.most.cols;
   some_row : 1 ≤ l.most.rows;
   columns : (k : ℕ) → k < l.class → (grid_at l.images.grids k).cols ≤ l.most.cols;
-  rows : (k : ℕ) → k < l.class → (grid_at l.images.grids k).rows ≤ l.most.rows
+  rows : (k : ℕ) → k < l.class → (grid_at l.images.grids k).rows ≤ l.most.rows;
 }

@@ -7,4 +7,4 @@ pub returns-then-first_of-p : goal.returns-then-first_of-p
 returns-then-first_of-p c =
     let images = c.args.images.now in
     SplitsAt-here images.shape images.placements c.len-i-end.ensures.images.placed c.len-i-end.ensures.images.ordered c.args.p c.loop-i.i
-      (omega arith) c.loop-i.invariant (omega arith)
+    (omega arith) c.loop-i.invariant (omega arith)

@@ -12,6 +12,6 @@ returns-in_default c =
 pub add_area-requires-clause-near : goal.add_area-requires-clause-near
 add_area-requires-clause-near c = record {
   inside = λ i lt t. inside_reach c.args.matcher.now.images.now c.shape-shape.ensures.images c.args.walker.now.position c.args.changes.now c.changed_points.result c.changed_points.ensures c.in-Some.into c.reach.result
-    (subst (λ (s : Shape). HoldsChanges s c.args.changes.now c.in-Some.into) c.shape-shape.ensures.value c.in-Some.ensures.1)
-    c.args.matcher.now.most c.args.matcher.now.made.most_are c.reach.ensures.reach i lt t;
+      (subst (λ (s : Shape). HoldsChanges s c.args.changes.now c.in-Some.into) c.shape-shape.ensures.value c.in-Some.ensures.1)
+      c.args.matcher.now.most c.args.matcher.now.made.most_are c.reach.ensures.reach i lt t;
 }

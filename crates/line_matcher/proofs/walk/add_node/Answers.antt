@@ -21,14 +21,14 @@ returns-in-None c =
     let deltas = c.args.deltas.now in
     let shown : c.args.walker.now.position ≡ position_at deltas c.args.node = c.requires.stands.shown ∙ ap (λ (o : Option ℕ). position_where deltas o) c.requires.here in
     on_ok_weaker c.add_root.result
-      (found_at_root deltas c.args.matcher.now.images.now c.args.walker.now.position c.args.node c.args.found.now.items c.add_root.new.found.items c.requires.shape shown (sym c.in-None.ensures.value))
-      c.add_root.ensures
+    (found_at_root deltas c.args.matcher.now.images.now c.args.walker.now.position c.args.node c.args.found.now.items c.add_root.new.found.items c.requires.shape shown (sym c.in-None.ensures.value))
+    c.add_root.ensures
 
 pub returns-in-Some : goal.returns-in-Some
 returns-in-Some c =
     let deltas = c.args.deltas.now in
     let shown : c.args.walker.now.position ≡ position_at deltas c.args.node = c.requires.stands.shown ∙ ap (λ (o : Option ℕ). position_where deltas o) c.requires.here in
     on_ok_weaker c.add_child.result
-      (found_by_changes deltas c.args.matcher.now.images.now c.args.walker.now.position c.changes.result.now c.args.node c.in-Some.field-0 c.args.found.now.items c.add_child.new.found.items
-        c.requires.shape shown c.changes.ensures.deltas (sym c.in-Some.ensures.value) c.changes.ensures.changes c.changes.ensures.value)
-      c.add_child.ensures
+    (found_by_changes deltas c.args.matcher.now.images.now c.args.walker.now.position c.changes.result.now c.args.node c.in-Some.field-0 c.args.found.now.items c.add_child.new.found.items
+    c.requires.shape shown c.changes.ensures.deltas (sym c.in-Some.ensures.value) c.changes.ensures.changes c.changes.ensures.value)
+    c.add_child.ensures

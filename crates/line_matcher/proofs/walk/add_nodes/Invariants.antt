@@ -9,5 +9,5 @@ invariant-loop-node g l = record {
   found : IsFoundTo l.deltas l.matcher.images.now.placements l.node l.initial.found.items l.found.items;
   stands : StandsIn l.deltas l.walker;
   here : l.walker.here ≡ node_before l.node;
-  steps : l.steps ≡ l.initial.steps + l.node
+  steps : l.steps ≡ l.initial.steps + l.node;
 }

@@ -13,5 +13,5 @@ returns-clause-found g c =
     let deltas = c.args.deltas.now in
     let found = c.add_nodes.new.found.items in
     IsFoundTo-all deltas c.args.images.now.placements found (node_count deltas)
-      (subst (λ (placements : List Placement). IsFoundTo deltas placements (node_count deltas) [] found) (ap (λ (im : ImageList). im.placements) c.in_ok-matcher.ensures)
-      (subst (λ (none : List Found). IsFoundTo deltas c.in_ok-matcher.matcher.images.now.placements (node_count deltas) none found) c.new-found.ensures.items c.in_ok-add_nodes.ensures.found))
+    (subst (λ (placements : List Placement). IsFoundTo deltas placements (node_count deltas) [] found) (ap (λ (im : ImageList). im.placements) c.in_ok-matcher.ensures)
+    (subst (λ (none : List Found). IsFoundTo deltas c.in_ok-matcher.matcher.images.now.placements (node_count deltas) none found) c.new-found.ensures.items c.in_ok-add_nodes.ensures.found))

@@ -19,4 +19,4 @@ pub returns : goal.returns
 returns c =
     let images = c.args.self.now.images.now in
     IsAdded-trans images.placements (begins images.shape c.args.visit.now.walker.now.position c.args.visit.now.changed) c.args.visit.now.node c.loop-y.invariant
-      (rows_below images c.len-count.ensures.images.placed c.args.self.now.starts.items c.args.self.now.made.starts_are c.args.visit.now c.args.area c.requires.near c.requires.area c.loop-y.y c.loop-y.found.items (omega arith))
+    (rows_below images c.len-count.ensures.images.placed c.args.self.now.starts.items c.args.self.now.made.starts_are c.args.visit.now c.args.area c.requires.near c.requires.area c.loop-y.y c.loop-y.found.items (omega arith))

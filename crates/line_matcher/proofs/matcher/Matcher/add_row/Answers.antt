@@ -43,11 +43,11 @@ loop-x-preserved c =
     let from_is : c.start-from.result ≡ slice_index starts (row_start + c.loop-x.x) = c.start-from.ensures ∙ ap (slice_index starts) here in
     let to_is : c.start-to.result ≡ slice_index starts (row_start + (c.loop-x.x + 1)) = c.start-to.ensures ∙ ap (slice_index starts) next in
     IsAdded-trans images.placements test c.args.visit.now.node c.loop-x.invariant
-      (subst (λ (from : ℕ). IsAdded images.placements test c.args.visit.now.node from (slice_index starts (row_start + (c.loop-x.x + 1))) c.loop-x.found.items c.add_run.new.found.items) from_is
-      (subst (λ (to : ℕ). IsAdded images.placements test c.args.visit.now.node c.start-from.result to c.loop-x.found.items c.add_run.new.found.items) to_is c.in_ok-add_run.ensures))
+    (subst (λ (from : ℕ). IsAdded images.placements test c.args.visit.now.node from (slice_index starts (row_start + (c.loop-x.x + 1))) c.loop-x.found.items c.add_run.new.found.items) from_is
+    (subst (λ (to : ℕ). IsAdded images.placements test c.args.visit.now.node c.start-from.result to c.loop-x.found.items c.add_run.new.found.items) to_is c.in_ok-add_run.ensures))
 
 pub returns : goal.returns
 returns c =
     let images = c.args.self.now.images.now in
     IsAdded-trans images.placements (begins images.shape c.args.visit.now.walker.now.position c.args.visit.now.changed) c.args.visit.now.node c.loop-x.invariant
-      (row_right images c.len-count.ensures.images.placed c.args.self.now.starts.items c.args.self.now.made.starts_are c.args.visit.now c.args.area c.requires.near c.requires.area c.args.y c.requires.row c.loop-x.x c.loop-x.found.items (omega arith))
+    (row_right images c.len-count.ensures.images.placed c.args.self.now.starts.items c.args.self.now.made.starts_are c.args.visit.now c.args.area c.requires.near c.requires.area c.args.y c.requires.row c.loop-x.x c.loop-x.found.items (omega arith))

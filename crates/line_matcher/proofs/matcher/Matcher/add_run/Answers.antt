@@ -14,8 +14,8 @@ loop-i-preserved c =
     elim c.if-begins.branch [
       | then-begins+in_ok-push w ↦
           rw w.found-is (IsAdded-trans images.placements test visit.node c.loop-i.invariant
-            (IsAdded-push images.placements test visit.node c.loop-i.i c.loop-i.found.items w.push.new.self.items w.place.result (sym c.begins.ensures ∙ w.if-begins.true) w.place.ensures.value w.in_ok-push.ensures.items))
+          (IsAdded-push images.placements test visit.node c.loop-i.i c.loop-i.found.items w.push.new.self.items w.place.result (sym c.begins.ensures ∙ w.if-begins.true) w.place.ensures.value w.in_ok-push.ensures.items))
       | else-begins w ↦
           rw w.found-is (IsAdded-trans images.placements test visit.node c.loop-i.invariant
-            (IsAdded-pass images.placements test visit.node c.loop-i.i c.loop-i.found.items (sym c.begins.ensures ∙ w.if-begins.false)))
+          (IsAdded-pass images.placements test visit.node c.loop-i.i c.loop-i.found.items (sym c.begins.ensures ∙ w.if-begins.false)))
     ]

@@ -1,0 +1,283 @@
+// Occurrences in small games, worked out by hand.
+ghost use Rattle.std.specs.Prelude.{◌≡◌, ◌<◌};
+
+use crate::match_game;
+use capture_board::{NodeDeltas, Steps};
+use games::{Row, game_of};
+use kb_geometry::{Rect, Shape};
+use pattern_images::{Found, Pattern, PatternCell, Query, images};
+use std::alloc::Global;
+use std::fmt::Write;
+use std::marker::Brand;
+use std::process::Abort;
+use std::sync::ledger::{Blank, Ledger};
+use std::test::Fail;
+
+mod games;
+mod made_games;
+mod plain;
+
+// A search: the pattern's columns, rows and cells, whether the colours and the directions stay, and where its base
+// places are.
+type Asked = ((u8, u8, &'static str), bool, bool, Option<Rect>);
+
+const ANYWHERE: Option<Rect> = None;
+
+const fn at(x: u8, y: u8) -> Option<Rect> {
+    Some(Rect {
+        x0: x,
+        y0: y,
+        x1: x,
+        y1: y,
+    })
+}
+
+fn pattern_cell(byte: u8) -> PatternCell {
+    match byte {
+        b'.' => PatternCell::Empty,
+        b'X' => PatternCell::Black,
+        b'O' => PatternCell::White,
+        _ => PatternCell::Any,
+    }
+}
+
+fn query_of(rt: &impl Abort, alloc: Global, asked: Asked) -> Result<Query, Fail> {
+    let ((cols, rows, text), same, fixed, at) = asked;
+    let mut cells = Vec::new(alloc);
+    for byte in text.as_bytes() {
+        cells.push(pattern_cell(*byte))?;
+    }
+    Ok(Query {
+        pattern: Pattern::new(cols, rows, cells).expect(rt, "a pattern"),
+        same,
+        fixed,
+        main: false,
+        board: None,
+        from_move: 0,
+        to_move: 65_536,
+        at,
+    })
+}
+
+// What was found, as node, column, row and label of each.
+fn shown(alloc: Global, found: &[Found]) -> Result<String, Fail> {
+    let mut text = String::new(alloc);
+    for Found { node, place } in found {
+        if !text.is_empty() {
+            text.push_str(", ")?;
+        }
+        let label = place.label.number();
+        write!(text, "{node} {} {} {label}", place.x, place.y)?;
+    }
+    Ok(text)
+}
+
+// The occurrences in a game.
+fn found_counted<L: Ledger>(
+    rt: &impl Abort,
+    alloc: Global,
+    board: (u8, u8),
+    rows: &[Row],
+    asked: Asked,
+    blank: Blank,
+) -> Result<String, Fail>
+    requires name { blank.name ≡ L.name }
+    requires parts { blank.parts ≡ L.parts }
+    requires some { 0 < blank.parts }
+{
+    let shape = Shape::new(board.0, board.1).expect(rt, "a board");
+    let mut steps = Steps::<L>::new(blank);
+    let deltas = game_of(rt, alloc, shape, rows, &mut steps)?;
+    let query = query_of(rt, alloc, asked)?;
+    found_in(rt, alloc, &deltas, shape, &query, &mut steps)
+}
+
+fn found_in<L: Ledger>(
+    rt: &impl Abort,
+    alloc: Global,
+    deltas: &NodeDeltas,
+    shape: Shape,
+    query: &Query,
+    steps: &mut Steps<L>,
+) -> Result<String, Fail> {
+    assert_eq!(rt; deltas.shape(), shape);
+    let images = images(alloc, query, shape)?;
+    let found = match_game(alloc, deltas, &images, steps)?;
+    shown(alloc, &found)
+}
+
+fn found(
+    rt: &impl Abort,
+    alloc: Global,
+    board: (u8, u8),
+    rows: &[Row],
+    asked: Asked,
+) -> Result<String, Fail> {
+    found_counted::<Brand>(rt, alloc, board, rows, asked, Blank::new(1))
+}
+
+const ONE_BLACK: (u8, u8, &str) = (1, 1, "X");
+
+const ONE_WHITE: (u8, u8, &str) = (1, 1, "O");
+
+// A white stone is captured by the last move, and a corner of the pattern stands there for the first time.
+#[test]
+fn made_by_a_capture(rt: HostRuntime) -> Result<(), Fail> {
+    let game = [
+        (None, ""),
+        (Some(0), "Waa"),
+        (Some(1), "Bba"),
+        (Some(2), "Wcc"),
+        (Some(3), "Bab"),
+    ];
+    let cases = [
+        (((2u8, 2u8, ".XX."), true, false, ANYWHERE), "4 0 0 0"),
+        ((ONE_WHITE, true, false, at(0, 0)), "1 0 0 0, 3 2 2 3"),
+        ((ONE_WHITE, true, true, at(0, 0)), "1 0 0 0"),
+    ];
+    for (asked, wanted) in cases {
+        let text = found(&rt, rt.alloc(), (3, 3), &game, asked)?;
+        assert_eq!(rt; text.as_str(), wanted);
+    }
+    Ok(())
+}
+
+// A stone that is taken at once never holds, a move on a stone changes it, and a stone may be in no final position.
+#[test]
+fn stones_that_come_and_go(rt: HostRuntime) -> Result<(), Fail> {
+    let suicide = [
+        (None, ""),
+        (Some(0), "Baa"),
+        (Some(1), "Bbb"),
+        (Some(2), "Wab"),
+    ];
+    let on_a_stone = [(None, ""), (Some(0), "Bbb"), (Some(1), "Wbb")];
+    let taken_away = [
+        (None, ""),
+        (Some(0), "Bbb"),
+        (Some(1), "Bcc"),
+        (Some(1), "Waa"),
+        (Some(3), "eaa"),
+    ];
+    let cases = [
+        ((2, 2), suicide.as_slice(), ONE_WHITE, ""),
+        ((3, 3), on_a_stone.as_slice(), ONE_WHITE, "2 1 1 0"),
+        ((3, 3), on_a_stone.as_slice(), ONE_BLACK, "1 1 1 0"),
+        ((3, 3), taken_away.as_slice(), ONE_WHITE, "3 0 0 0"),
+    ];
+    for (board, game, pattern, wanted) in cases {
+        let asked = (pattern, true, false, ANYWHERE);
+        let text = found(&rt, rt.alloc(), board, game, asked)?;
+        assert_eq!(rt; text.as_str(), wanted);
+    }
+    Ok(())
+}
+
+// The shape of the ko comes up twice.
+#[test]
+fn a_ko_fought_twice(rt: HostRuntime) -> Result<(), Fail> {
+    let game = [
+        (None, "bba bab bbc wca wbb wdb wcc"),
+        (Some(0), "Bcb"),
+        (Some(1), "Wbb"),
+        (Some(2), "Bcb"),
+        (Some(3), "Wbb"),
+    ];
+    let asked = ((2, 1, ".X"), true, true, at(1, 1));
+    let text = found(&rt, rt.alloc(), (4, 3), &game, asked)?;
+    assert_eq!(rt; text.as_str(), "1 1 1 0, 3 1 1 0");
+    Ok(())
+}
+
+// With the colours exchanged; equal placements once; the least board; and wildcards alone, which hold at the root.
+#[test]
+fn labels_and_edges(rt: HostRuntime) -> Result<(), Fail> {
+    let three = [
+        (None, ""),
+        (Some(0), "Bcc"),
+        (Some(1), "Wbc"),
+        (Some(2), "Bcb"),
+    ];
+    let pair = [(None, ""), (Some(0), "Baa"), (Some(1), "Wba")];
+    let none = [(None, "")];
+    let one = [(None, ""), (Some(0), "Baa")];
+    let side_by_side = (2, 1, "XO");
+    let cases = [
+        (
+            (5, 5),
+            three.as_slice(),
+            (ONE_BLACK, false, false, ANYWHERE),
+            "1 2 2 0, 2 1 2 8, 3 2 1 0",
+        ),
+        (
+            (5, 5),
+            three.as_slice(),
+            (ONE_BLACK, true, true, ANYWHERE),
+            "1 2 2 0, 3 2 1 0",
+        ),
+        (
+            (2, 2),
+            pair.as_slice(),
+            (side_by_side, false, false, ANYWHERE),
+            "2 0 0 0",
+        ),
+        (
+            (2, 2),
+            pair.as_slice(),
+            (side_by_side, false, false, at(0, 0)),
+            "2 0 0 0",
+        ),
+        (
+            (1, 1),
+            none.as_slice(),
+            ((1, 1, "."), true, false, ANYWHERE),
+            "0 0 0 0",
+        ),
+        (
+            (2, 2),
+            one.as_slice(),
+            ((1, 1, "*"), false, false, ANYWHERE),
+            "0 0 0 0, 0 1 0 0, 0 0 1 0, 0 1 1 0",
+        ),
+        (
+            (2, 2),
+            one.as_slice(),
+            ((3, 1, "***"), false, false, ANYWHERE),
+            "",
+        ),
+    ];
+    for (board, game, asked, wanted) in cases {
+        let text = found(&rt, rt.alloc(), board, game, asked)?;
+        assert_eq!(rt; text.as_str(), wanted);
+    }
+    Ok(())
+}
+
+// What holds at the parent isn't found again in a branch, and what holds again further down is.
+#[test]
+fn branches(rt: HostRuntime) -> Result<(), Fail> {
+    let game = [
+        (None, ""),
+        (Some(0), "Baa"),
+        (Some(1), "Bbb"),
+        (Some(1), "Bcc"),
+        (Some(3), "eaa"),
+        (Some(4), "Baa"),
+        (Some(0), "Baa"),
+        (Some(6), ""),
+    ];
+    let corner = ((1, 1, "X"), true, true, at(0, 0));
+    let across = ((2, 2, "X**X"), true, true, at(0, 0));
+    let cases = [
+        (corner, "1 0 0 0, 5 0 0 0, 6 0 0 0"),
+        ((ONE_BLACK, true, true, at(1, 1)), "2 1 1 0"),
+        (across, "2 0 0 0"),
+        // Nothing changes under its cells that are no wildcards.
+        (((2, 1, ".*"), true, true, at(1, 2)), "0 1 2 0"),
+    ];
+    for (asked, wanted) in cases {
+        let text = found(&rt, rt.alloc(), (3, 3), &game, asked)?;
+        assert_eq!(rt; text.as_str(), wanted);
+    }
+    Ok(())
+}
