@@ -218,3 +218,27 @@ fn a_set_that_shrank_meets_smaller_and_larger_ones(rt: HostRuntime) {
         );
     }
 }
+
+#[test]
+fn windows_at_the_borders_of_words(rt: HostRuntime) {
+    let set = set_of(&[0, 5, 63, 64, 127, 300, 360]);
+    let cases = [
+        (0u16, 1u64 | 1 << 5 | 1 << 63),
+        (1, 1 << 4 | 1 << 62 | 1 << 63),
+        (5, 1 | 1 << 58 | 1 << 59),
+        (63, 1 | 1 << 1),
+        (64, 1 | 1 << 63),
+        (65, 1 << 62),
+        (297, 1 << 3 | 1 << 63),
+        (300, 1 | 1 << 60),
+        (320, 1 << 40),
+        (360, 1),
+        (361, 0),
+        (1000, 0),
+        (65535, 0),
+    ];
+    for (start, window) in cases {
+        assert_eq!(rt; set.window(start), window, "{start}");
+        assert_eq!(rt; BitBoard::empty().window(start), 0, "{start}");
+    }
+}

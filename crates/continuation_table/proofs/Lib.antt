@@ -1,0 +1,7 @@
+pub mod Children
+pub mod Descents
+pub mod Finding
+pub mod Losses
+pub mod Rebuilt
+pub mod RowOrder
+pub mod KeptRows

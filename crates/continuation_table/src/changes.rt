@@ -1,0 +1,59 @@
+// Whether a placement still holds after changes.
+ghost use Rattle.std.specs.Prelude.{◌≡◌, ℕ, ◌<◌, ◌↔◌, length, All, IsTrue, Some};
+ghost use Rattle.kb_geometry.specs.declared.stone.Change.{Change};
+ghost use Rattle.kb_geometry.specs.Board.{point_count};
+ghost use Rattle.capture_board.specs.Deltas.{node_count, parent_of};
+ghost use Rattle.pattern_images.specs.ImageList.{IsPlaceOf, IsPlacedOn, placement_at};
+ghost use Rattle.continuation_table.specs.Continuation.{HoldsAt};
+ghost use Rattle.continuation_table.specs.Descending.{AreBeside, Asks, IsWithin};
+
+use capture_board::NodeDeltas;
+use kb_geometry::{Change, Point};
+use pattern_images::{Images, PatternCell, Place};
+
+// Whether the point lies in the rectangle of a place.
+pub(crate) fn covers(place: Place, p: Point) -> bool
+    ensures { IsTrue result ↔ IsWithin place p }
+{
+    p.x >= place.x && p.x - place.x < place.cols && p.y >= place.y && p.y - place.y < place.rows
+}
+
+// Whether a placement still holds at a node. It is known to hold at the parent.
+pub(crate) fn still_holds(deltas: &NodeDeltas, images: &Images, i: usize, node: u32) -> bool
+    requires shape { images.now.shape ≡ deltas.now.shape }
+    requires placement { i < length images.now.placements }
+    requires node { node < node_count deltas.now }
+    ensures { (above : ℕ) → parent_of deltas.now node ≡ Some above → HoldsAt deltas.now (placement_at images.now.placements i) above →
+        (IsTrue result ↔ HoldsAt deltas.now (placement_at images.now.placements i) node) }
+{
+    are_beside(images, i, deltas.changes(node))
+}
+
+// Whether no change is on a point at which a placement asks for one cell.
+fn are_beside(images: &Images, i: usize, changes: &[Change]) -> bool
+    requires placement { i < length images.now.placements }
+    requires on_board { All (λ (c : Change). c.point < point_count images.now.shape) changes.now }
+    ensures placed { IsPlacedOn images.now.shape (placement_at images.now.placements i) }
+    ensures value { IsTrue result ↔ AreBeside images.now.shape (placement_at images.now.placements i) changes.now }
+{
+    let shape = images.shape();
+    let place = images.place(i);
+    for change in changes {
+        if asks(images, i, place, shape.point(change.point)) {
+            return false;
+        }
+    }
+    true
+}
+
+// Whether a placement asks for one cell at a point.
+fn asks(images: &Images, i: usize, place: Place, p: Point) -> bool
+    requires placement { i < length images.now.placements }
+    requires place { IsPlaceOf (placement_at images.now.placements i) place }
+    ensures { IsTrue result ↔ Asks (placement_at images.now.placements i) p }
+{
+    if !covers(place, p) {
+        return false;
+    }
+    images.cell(i, p.x - place.x, p.y - place.y) != PatternCell::Any
+}
