@@ -14,7 +14,8 @@ mod visit;
 mod walk;
 
 pub use laws::the_test_tells_whether_a_placement_holds;
-pub use walk::match_game;
+pub use matcher::Matcher;
+pub use walk::{match_game, match_with};
 
 #[cfg(test)]
 mod tests;

@@ -19,10 +19,12 @@ use kb_geometry::{Cell, NoMemory, Point, Rect, Shape};
 use pattern_images::{Found, Images};
 use std::alloc::Global;
 
-// The images of a query, with the rows of their cells as words, and the placements by their upper left points.
+/// The images of a query, made ready to be looked for in many games on boards of their shape.
 #[derive(Debug, Drop)]
-pub(crate) struct Matcher<'a> {
-    images: &'a Images,
+pub struct Matcher<'a> {
+    /// The images.
+    pub images: &'a Images,
+    // The rows of their cells as words, and the placements by their upper left points.
     rows: GridRows,
     starts: Vec<usize>,
     // The most columns, and the most rows, that a placement has; at least 1.
@@ -38,8 +40,8 @@ struct Size {
 }
 
 impl<'a> Matcher<'a> {
-    // Makes ready the placements of the images. The only error is `NoMemory`.
-    pub(crate) fn new(alloc: Global, images: &'a Images) -> Result<Self, NoMemory>
+    /// Makes ready the placements of the images. The only error is `NoMemory`.
+    pub fn new(alloc: Global, images: &'a Images) -> Result<Self, NoMemory>
         ensures { IfOk result (λ matcher. matcher.images.now ≡ images.now) }
     {
         let rows = GridRows::of(alloc, images)?;

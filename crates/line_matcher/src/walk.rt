@@ -33,8 +33,22 @@ pub fn match_game<L: Ledger>(
     ensures ticks { steps.new ≤ steps.old + node_count deltas.now }
 {
     let matcher = Matcher::new(alloc, images)?;
+    match_with(alloc, deltas, &matcher, steps)
+}
+
+/// What [`match_game`] gives for the images of a matcher, which may serve for many games.
+pub fn match_with<L: Ledger>(
+    alloc: Global,
+    deltas: &NodeDeltas,
+    matcher: &Matcher,
+    steps: &mut Steps<L>,
+) -> Result<Vec<Found>, NoMemory>
+    requires { matcher.now.images.now.shape ≡ deltas.now.shape }
+    ensures found { IfOk result (λ found. AreFound matcher.now.images.now.placements (occurrences_in deltas.now matcher.now.images.now.placements) found.items) }
+    ensures ticks { steps.new ≤ steps.old + node_count deltas.now }
+{
     let mut found = Vec::new(alloc);
-    add_nodes(&matcher, deltas, &mut found, steps)?;
+    add_nodes(matcher, deltas, &mut found, steps)?;
     Ok(found)
 }
 
