@@ -1,9 +1,6 @@
 pub mod Course
-pub mod Hits
 pub mod Imported
-pub mod Lines
-pub mod NextLine
-pub mod NodeHits
+pub mod Lawful
 pub mod Outcome
 pub mod Reads
 pub mod Rooms
@@ -11,9 +8,5 @@ pub mod Run
 pub mod RunErrors
 pub mod Script
 pub mod Serial
-pub mod Session
-pub mod Simple
-pub mod SimpleParts
 pub mod Steps
 pub mod Texts
-pub mod Wins

@@ -1,5 +1,5 @@
 -- What becomes of a file by its bytes, and by the games and nodes that the base has before it.
-use Rattle.std.specs.Prelude.{◌⊎◌, ℕ, ◌+◌, ◌≤◌, List, [], length, sum_by, All}
+use Rattle.std.specs.Prelude.{◌⊎◌, ℕ, ◌+◌, ◌≤◌, List, [], length, sum_by}
 use Rattle.sgf_reader.specs.declared.collection.Collection.{Collection}
 use Rattle.sgf_reader.specs.declared.fault.FaultKind.{FaultKind}
 use Rattle.sgf_reader.specs.Faults.{IsFirstFault, IsRead}
@@ -10,7 +10,6 @@ use Rattle.search_run.specs.declared.outcome.Counts.{Counts}
 use Rattle.search_run.specs.declared.outcome.FileOutcome.{FileOutcome}
 use Rattle.search_run.specs.declared.outcome.FileOutcome.TheVariants as file
 use Rattle.search_run.specs.declared.outcome.TheConstants.{MAX_BASE_GAMES, MAX_BASE_NODES}
-use Rattle.search_run.specs.Simple.{IsSimple}
 
 -- The bytes have this fault at this offset: the first one of their syntax, or, where there is none, of their values.
 abbrev pub IsFaulty : List ℕ → FaultKind → ℕ → Type 0
@@ -43,10 +42,9 @@ counts_of trees = record { games = length trees; nodes = nodes_of trees }
 abbrev pub HasRoom : Counts → List Tree → Type 0
 HasRoom before trees = (games_after before trees ≤ MAX_BASE_GAMES) × (nodes_after before trees ≤ MAX_BASE_NODES)
 
--- What becomes of a file that was read, and the games that it adds. A file is refused with its fault if it has one. One of
--- whose games isn't simple is refused without an offset. Else it is accepted where there is room in the base for its games.
+-- What becomes of a file that was read, and the games that it adds. A file is refused with its fault if it has one. Else it
+-- is accepted where there is room in the base for its games.
 pub data IsOutcome (bytes : List ℕ) (before : Counts) : FileOutcome → List Tree → Type 0 where
   refused : {of : FaultKind} {at : ℕ} → IsFaulty bytes of at → IsOutcome bytes before (file.Refused of at) []
-  not_yet : (trees : List Tree) → HaveGames bytes trees → ¬ All IsSimple trees → IsOutcome bytes before file.NotYet []
-  full : (trees : List Tree) → HaveGames bytes trees → All IsSimple trees → ¬ HasRoom before trees → IsOutcome bytes before (file.Full (games_after before trees) (nodes_after before trees)) []
-  accepted : {trees : List Tree} → HaveGames bytes trees → All IsSimple trees → HasRoom before trees → IsOutcome bytes before (file.Accepted (length trees)) trees
+  full : (trees : List Tree) → HaveGames bytes trees → ¬ HasRoom before trees → IsOutcome bytes before (file.Full (games_after before trees) (nodes_after before trees)) []
+  accepted : {trees : List Tree} → HaveGames bytes trees → HasRoom before trees → IsOutcome bytes before (file.Accepted (length trees)) trees

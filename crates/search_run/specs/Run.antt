@@ -3,8 +3,8 @@ use Rattle.std.specs.Prelude.{◌≡◌, ℕ, List, ◌++◌, Option, Some}
 use Rattle.kb_edges.specs.Faults.{RoseBy}
 use Rattle.kb_edges.specs.Files.{File}
 use Rattle.search_run.specs.Course.{ImportCourse, losses_of}
-use Rattle.search_run.specs.Session.{HasPrinted, IsBegun, IsLawful, State}
-use Rattle.search_run.specs.declared.statement.Placed.{Placed}
+use Rattle.search_run.specs.Lawful.{HasPrinted, IsBegun, IsLawful, State}
+use Rattle.query_script.specs.declared.statement.Placed.{Placed}
 
 -- The text so far is what these statements print, by a course whose losses are at most the rise of the folder's count.
 pub record HasRun (files : List File) (placed : List Placed) (state : State) (before : List ℕ) (written : Option (List ℕ)) (faults_before faults_now : ℕ) : Type 0 where

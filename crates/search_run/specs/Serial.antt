@@ -3,7 +3,7 @@ use Rattle.std.specs.Prelude.{ℕ, List, Option}
 use Rattle.kb_edges.specs.Files.{File}
 use Rattle.search_run.specs.Run.{WritesBegun, WritesLawful}
 use Rattle.search_run.specs.Script.{IsScript}
-use Rattle.search_run.specs.declared.statement.Placed.{Placed}
+use Rattle.query_script.specs.declared.statement.Placed.{Placed}
 use Rattle.search_run.specs.declared.status.Status.{Status}
 use Rattle.search_run.specs.declared.status.Status.TheVariants as status
 

@@ -3,8 +3,8 @@ use Rattle.std.specs.Prelude.{◌≡◌, ◌⊎◌, ℕ, List, [], ◌++◌, Opt
 use Rattle.kb_edges.specs.Faults.{RoseBy}
 use Rattle.kb_edges.specs.Files.{File}
 use Rattle.search_run.specs.Course.{ImportCourse, losses_of}
-use Rattle.search_run.specs.Session.{IsPrefix, IsText, Leads, State}
-use Rattle.search_run.specs.declared.statement.Placed.{Placed}
+use Rattle.search_run.specs.Lawful.{IsPrefix, IsText, Leads, State}
+use Rattle.query_script.specs.declared.statement.Placed.{Placed}
 
 -- the text of the statement is written, and the state is the next one
 pub record PassesStatement (files : List File) (s : State) (p : Placed) (next : State) (before : List ℕ) (written : Option (List ℕ)) (faults_before faults_now : ℕ) : Type 0 where

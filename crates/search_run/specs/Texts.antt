@@ -1,28 +1,14 @@
--- The printed texts. Numbers are decimal, and each line ends with a line feed.
-use Rattle.std.specs.Prelude.{ℕ, not, ◌&&◌, Bool, true, false, List, [], ◌∷◌, ◌++◌, length, codes, count_by}
+-- The printed report of an import. Numbers are decimal, and each line ends with a line feed.
+use Rattle.std.specs.Prelude.{ℕ, Bool, true, false, List, [], ◌∷◌, ◌++◌, length, codes, count_by}
 use Rattle.std.specs.Fmt.{decimal}
 use Rattle.std.specs.List.{flat_map}
 use Rattle.sgf_reader.specs.declared.fault.FaultKind.{FaultKind}
 use Rattle.sgf_reader.specs.declared.fault.FaultKind.TheVariants as kind
-use Rattle.search_run.specs.Wins.{is_black_win, is_white_win}
+use Rattle.query_script.specs.Texts.{line_text}
 use Rattle.search_run.specs.Course.{FileReport, Found, Files, TooMany, Unlisted}
-use Rattle.search_run.specs.declared.hit.Hit.{Hit}
 use Rattle.search_run.specs.declared.print.FileCounts.{FileCounts}
 use Rattle.search_run.specs.declared.outcome.FileOutcome.{FileOutcome}
 use Rattle.search_run.specs.declared.outcome.FileOutcome.TheVariants as file
-
--- a line: these pieces and a line feed
-abbrev pub line_text : List (List ℕ) → List ℕ
-line_text [] = 10 ∷ []
-line_text (piece ∷ pieces) = piece ++ line_text pieces
-
--- `LINE import PATH`
-abbrev pub import_text : ℕ → List ℕ → List ℕ
-import_text line path = line_text (decimal line ∷ codes " import " ∷ path ∷ [])
-
--- `LINE wait version V`
-abbrev pub wait_text : ℕ → ℕ → List ℕ
-wait_text line version = line_text (decimal line ∷ codes " wait version " ∷ decimal version ∷ [])
 
 -- the word of a fault's kind
 abbrev pub kind_word : FaultKind → List ℕ
@@ -50,14 +36,13 @@ full_text games nodes name = line_text (codes "full " ∷ decimal games ∷ code
 abbrev pub unread_text : List ℕ → List ℕ
 unread_text name = line_text (codes "unread " ∷ name ∷ [])
 
--- the line of a file that was not accepted; an accepted one has none; one whose games aren't simple is refused as NotYet
+-- the line of a file that was not accepted; an accepted one has none
 abbrev pub file_text : FileReport → List ℕ
 file_text f = text f.outcome
   where
     text : FileOutcome → List ℕ
     text (file.Accepted games) = []
     text (file.Refused of at) = refused_text (kind_word of) at f.name
-    text file.NotYet = refused_text (codes "NotYet") 0 f.name
     text (file.Full games nodes) = full_text games nodes f.name
     text file.Unread = unread_text f.name
 
@@ -67,7 +52,6 @@ is_accepted f = test f.outcome
     test : FileOutcome → Bool
     test (file.Accepted games) = true
     test (file.Refused of at) = false
-    test file.NotYet = false
     test (file.Full games nodes) = false
     test file.Unread = false
 
@@ -77,7 +61,6 @@ is_refused f = test f.outcome
     test : FileOutcome → Bool
     test (file.Accepted games) = false
     test (file.Refused of at) = true
-    test file.NotYet = true
     test (file.Full games nodes) = false
     test file.Unread = false
 
@@ -87,7 +70,6 @@ is_full f = test f.outcome
     test : FileOutcome → Bool
     test (file.Accepted games) = false
     test (file.Refused of at) = false
-    test file.NotYet = false
     test (file.Full games nodes) = true
     test file.Unread = false
 
@@ -97,7 +79,6 @@ is_unread f = test f.outcome
     test : FileOutcome → Bool
     test (file.Accepted games) = false
     test (file.Refused of at) = false
-    test file.NotYet = false
     test (file.Full games nodes) = false
     test file.Unread = true
 
@@ -139,35 +120,4 @@ too_many_text line names = line_text (decimal line ∷ codes " imported too many
 abbrev pub report_text : ℕ → Found → ℕ → List ℕ
 report_text line Unlisted version = unlisted_text line
 report_text line (TooMany names) version = too_many_text line names
-report_text line (Files reports trees) version = listed_text line reports (length trees) version
-
--- a hit: its game, node, column and row, the label 0, and no continuation
-abbrev pub hit_text : Hit → List ℕ
-hit_text hit = line_text (codes "hit " ∷ decimal hit.game ∷ codes " " ∷ decimal hit.node ∷ codes " " ∷ decimal hit.point.x ∷ codes " " ∷ decimal hit.point.y ∷ codes " 0 -" ∷ [])
-
--- hits in games that Black won
-abbrev pub black_wins : List Hit → ℕ
-black_wins hits = count_by (λ (hit : Hit). is_black_win hit.outcome) hits
-
--- hits in games that White won
-abbrev pub white_wins : List Hit → ℕ
-white_wins hits = count_by (λ (hit : Hit). is_white_win hit.outcome) hits
-
--- hits in all other games
-abbrev pub other_games : List Hit → ℕ
-other_games hits = count_by (λ (hit : Hit). not (is_black_win hit.outcome) && not (is_white_win hit.outcome)) hits
-
--- the line of totals: all hits, none with a continuation at once or later, and the hits by who won
-abbrev pub totals_line : ℕ → ℕ → ℕ → ℕ → List ℕ
-totals_line count black white other = line_text (codes "total " ∷ decimal count ∷ codes " 0 0 " ∷ decimal black ∷ codes " " ∷ decimal white ∷ codes " " ∷ decimal other ∷ [])
-
-abbrev pub totals_text : List Hit → List ℕ
-totals_text hits = totals_line (length hits) (black_wins hits) (white_wins hits) (other_games hits)
-
--- `LINE search version V games G hits H`
-abbrev pub search_head : ℕ → ℕ → ℕ → ℕ → List ℕ
-search_head line version games hits = line_text (decimal line ∷ codes " search version " ∷ decimal version ∷ codes " games " ∷ decimal games ∷ codes " hits " ∷ decimal hits ∷ [])
-
--- the head of a search, the hits, the totals
-abbrev pub search_text : ℕ → ℕ → ℕ → List Hit → List ℕ
-search_text line version games hits = search_head line version games (length hits) ++ (flat_map hit_text hits ++ totals_text hits)
+report_text line (Files reports games) version = listed_text line reports (length games) version

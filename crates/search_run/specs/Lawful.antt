@@ -1,63 +1,70 @@
 -- What a run of a script prints: the lawful outputs, and the texts with which one can begin.
-use Rattle.std.specs.Prelude.{◌≡◌, ◌⊎◌, ℕ, ◌+◌, ◌<◌, slice_index_or, List, [], ◌∷◌, ◌++◌, length, map}
+use Rattle.std.specs.Prelude.{◌≡◌, ◌⊎◌, ℕ, ◌+◌, ◌/◌, List, [], ◌∷◌, ◌++◌, length}
 use Rattle.kb_edges.specs.Files.{File}
-use Rattle.game_tree.specs.Tree.{Tree}
-use Rattle.game_tree.specs.Position.{ArePositions}
-use Rattle.search_run.specs.Course.{Files, Found, ImportCourse, IsImported, TooMany, Unlisted}
-use Rattle.search_run.specs.Hits.{Game, hits_from}
+use Rattle.query_script.specs.declared.statement.Placed.{Placed}
+use Rattle.query_script.specs.declared.statement.PlacedSearch.{PlacedSearch}
+use Rattle.query_script.specs.declared.statement.Statement.{Statement}
+use Rattle.query_script.specs.declared.statement.Statement.TheVariants as statement
+use Rattle.query_script.specs.Texts.{import_text, until_text, wait_text}
+use Rattle.session_core.specs.Answers.{IsGameText, IsSearchText}
+use Rattle.session_core.specs.Games.{Game}
+use Rattle.search_run.specs.Course.{Files, Found, ImportCourse, IsImported, TooMany, Unlisted, trees_in}
 use Rattle.search_run.specs.Outcome.{counts_of}
-use Rattle.search_run.specs.Texts.{import_text, report_text, search_text, wait_text}
-use Rattle.search_run.specs.declared.statement.Placed.{Placed}
-use Rattle.search_run.specs.declared.statement.Statement.{Statement}
-use Rattle.search_run.specs.declared.statement.Statement.TheVariants as statement
+use Rattle.search_run.specs.Texts.{report_text}
 
--- Where a session stands: the number of the last version, its games, and the report of an import that isn't joined
+-- Where a run stands: the number of the last version, its games, and the report of an import that isn't joined
 -- yet, or the empty text.
 pub record State : Type 0 where
   pub version : ℕ
-  pub trees : List Tree
+  pub games : List Game
   pub unjoined : List ℕ
 
 -- the empty base
 abbrev pub at_start : State
-at_start = record { version = 0; trees = []; unjoined = [] }
+at_start = record { version = 0; games = []; unjoined = [] }
 
--- how many versions an import adds: one where there is a name
+-- how many files make one version
+abbrev pub batch_size : ℕ
+batch_size = 64
+
+-- how many versions an import adds: one for each whole batch of its files, and one for what is left
 abbrev pub versions_of : Found → ℕ
 versions_of Unlisted = 0
 versions_of (TooMany names) = 0
-versions_of (Files [] trees) = 0
-versions_of (Files (report ∷ reports) trees) = 1
+versions_of (Files reports games) = (length reports + 63) / batch_size
 
 -- the games that an import adds
-abbrev pub trees_of : Found → List Tree
-trees_of Unlisted = []
-trees_of (TooMany names) = []
-trees_of (Files reports trees) = trees
+abbrev pub games_in : Found → List Game
+games_in Unlisted = []
+games_in (TooMany names) = []
+games_in (Files reports games) = games
 
 -- after an import at this line: its report waits until it is joined
 abbrev pub after_import : State → ℕ → Found → State
 after_import s line found = record {
   version = s.version + versions_of found;
-  trees = s.trees ++ trees_of found;
+  games = s.games ++ games_in found;
   unjoined = report_text line found (s.version + versions_of found);
 }
 
 -- the report is printed
 abbrev pub joined : State → State
-joined s = record { version = s.version; trees = s.trees; unjoined = [] }
+joined s = record { version = s.version; games = s.games; unjoined = [] }
 
--- the games are these trees with the positions at their nodes
-pub record AreGames (trees : List Tree) (games : List Game) : Type 0 where
-  pub same : map (λ (game : Game). game.tree) games ≡ trees
-  pub played : (k : ℕ) (d : Game) → k < length games → ArePositions (slice_index_or games k d).tree (slice_index_or games k d).positions
+-- the texts of the searches of a block, in order
+abbrev pub AreSearchTexts : State → List PlacedSearch → List ℕ → Type 0
+AreSearchTexts s [] text = text ≡ []
+AreSearchTexts s (p ∷ ps) text = (first : List ℕ) × (rest : List ℕ) × IsSearchText p.line s.version s.games p.query first × AreSearchTexts s ps rest × (text ≡ first ++ rest)
 
--- The text of a statement in a state. An import and a wait print the report of an import that isn't joined first. A
--- search prints the hits of the last version.
+-- The text of a statement in a state. An import and a wait print the report of an import that isn't joined first. All others
+-- speak of the last version.
 abbrev pub IsTextAt : State → ℕ → Statement → List ℕ → Type 0
 IsTextAt s line (statement.Import path) text = text ≡ s.unjoined ++ import_text line path
 IsTextAt s line statement.Wait text = text ≡ s.unjoined ++ wait_text line s.version
-IsTextAt s line statement.Search text = (games : List Game) × AreGames s.trees games × (text ≡ search_text line s.version (length s.trees) (hits_from 0 games))
+IsTextAt s line (statement.Until number) text = text ≡ until_text line number s.version
+IsTextAt s line (statement.Search query) text = IsSearchText line s.version s.games query text
+IsTextAt s line (statement.Together searches) text = AreSearchTexts s searches text
+IsTextAt s line (statement.Game number) text = IsGameText line s.version s.games number text
 
 abbrev pub IsText : State → Placed → List ℕ → Type 0
 IsText s p text = IsTextAt s p.line p.statement text
@@ -65,9 +72,12 @@ IsText s p text = IsTextAt s p.line p.statement text
 -- The state after a statement, and what the course says of it: an import takes one entry of the course, and finds
 -- what it finds by that entry.
 abbrev pub LeadsAt : List File → State → ℕ → Statement → List ImportCourse → State → Type 0
-LeadsAt files s line (statement.Import path) used next = (entry : ImportCourse) × (found : Found) × (used ≡ entry ∷ []) × IsImported files path (counts_of s.trees) entry found × (next ≡ after_import s line found)
+LeadsAt files s line (statement.Import path) used next = (entry : ImportCourse) × (found : Found) × (used ≡ entry ∷ []) × IsImported files path (counts_of (trees_in s.games)) entry found × (next ≡ after_import s line found)
 LeadsAt files s line statement.Wait used next = (used ≡ []) × (next ≡ joined s)
-LeadsAt files s line statement.Search used next = (used ≡ []) × (next ≡ s)
+LeadsAt files s line (statement.Until number) used next = (used ≡ []) × (next ≡ s)
+LeadsAt files s line (statement.Search query) used next = (used ≡ []) × (next ≡ s)
+LeadsAt files s line (statement.Together searches) used next = (used ≡ []) × (next ≡ s)
+LeadsAt files s line (statement.Game number) used next = (used ≡ []) × (next ≡ s)
 
 abbrev pub Leads : List File → State → Placed → List ImportCourse → State → Type 0
 Leads files s p used next = LeadsAt files s p.line p.statement used next

@@ -1,0 +1,6 @@
+pub mod Words
+pub mod Search
+pub mod Statements
+pub mod Script
+pub mod Lines
+pub mod Texts

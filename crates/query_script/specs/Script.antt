@@ -1,0 +1,118 @@
+-- The script: its lines, its blocks of searches, the statements that it spells, and the least line that is bad.
+use Rattle.std.specs.Prelude.{◌≡◌, ◌⊎◌, ◌==◌, ◌&&◌, ℕ, ◌+◌, ◌-◌, ◌<◌, ◌≤◌, nat_lt, List, [], ◌∷◌, length, map, take, slice_index_or, All, AllPairs, Any, if◌then◌else◌}
+use Rattle.bstr.specs.Text.{lines_of}
+use Rattle.pattern_images.specs.declared.query.Query.{Query}
+use Rattle.query_script.specs.declared.statement.Placed.{Placed}
+use Rattle.query_script.specs.declared.statement.PlacedSearch.{PlacedSearch}
+use Rattle.query_script.specs.declared.statement.Statement.{Statement}
+use Rattle.query_script.specs.declared.statement.Statement.TheVariants as statement
+use Rattle.query_script.specs.Statements.{IsSkipped, Spells, SpellsEnd, SpellsSearch, SpellsTogether}
+
+-- the bytes without the last one, if that is this byte
+abbrev pub without_last : ℕ → List ℕ → List ℕ
+without_last c bytes = if nat_lt 0 (length bytes) && (slice_index_or bytes (length bytes - 1) 0 == c) then take (length bytes - 1) bytes else bytes
+
+-- a line without its line feed, and without one carriage return before that or before the end
+abbrev pub without_end : List ℕ → List ℕ
+without_end line = without_last 13 (without_last 10 line)
+
+-- the lines of a script: each ends with a line feed, the last one perhaps with the text
+abbrev pub script_lines : List ℕ → List (List ℕ)
+script_lines text = map without_end (lines_of text)
+
+-- the line with this number, from 1
+abbrev pub line_at : List (List ℕ) → ℕ → List ℕ
+line_at lines k = slice_index_or ([] ∷ lines) k []
+
+-- Line k stands in the block that line j begins: no line between them ends it.
+pub record IsWithin (lines : List (List ℕ)) (j k : ℕ) : Type 0 where
+  pub before : j < k
+  pub begins : SpellsTogether (line_at lines j)
+  pub goes_on : (m : ℕ) → j < m → m < k → ¬ SpellsEnd (line_at lines m)
+
+-- line m is a search between two lines
+pub record IsSearchBetween (lines : List (List ℕ)) (j k m : ℕ) : Type 0 where
+  pub behind : j < m
+  pub before : m < k
+  pub query : Query
+  pub spelled : SpellsSearch (line_at lines m) query
+
+-- so many searches, or more, stand between two lines
+pub record AreSearchesBetween (lines : List (List ℕ)) (j k count : ℕ) : Type 0 where
+  pub numbers : List ℕ
+  pub ascending : AllPairs ◌<◌ numbers
+  pub searches : All (IsSearchBetween lines j k) numbers
+  pub count_is : length numbers ≡ count
+
+-- the statement is a search
+abbrev pub IsSearch : Statement → Type 0
+IsSearch s = (query : Query) × (s ≡ statement.Search query)
+
+-- the most searches of a block
+abbrev pub most_searches : ℕ
+most_searches = 8
+
+-- Why a line is bad: it spells nothing; it ends no block, or one without a search; it is the ninth search of a block, or
+-- another statement inside a block; or it begins a block that no later line ends.
+pub data IsFaulty (lines : List (List ℕ)) (k : ℕ) : Type 0 where
+  spells_nothing : ¬ IsSkipped (line_at lines k) → ¬ SpellsTogether (line_at lines k) → ¬ SpellsEnd (line_at lines k) → ((s : Statement) → ¬ Spells (line_at lines k) s) → IsFaulty lines k
+  ends_no_block : SpellsEnd (line_at lines k) → ((j : ℕ) → ¬ IsWithin lines j k) → IsFaulty lines k
+  ends_empty_block : (j : ℕ) → SpellsEnd (line_at lines k) → IsWithin lines j k → ((m : ℕ) → ¬ IsSearchBetween lines j k m) → IsFaulty lines k
+  one_search_too_many : (j : ℕ) (query : Query) → SpellsSearch (line_at lines k) query → IsWithin lines j k → AreSearchesBetween lines j k most_searches → IsFaulty lines k
+  block_inside_block : (j : ℕ) → SpellsTogether (line_at lines k) → IsWithin lines j k → IsFaulty lines k
+  statement_inside_block : (j : ℕ) (s : Statement) → Spells (line_at lines k) s → ¬ IsSearch s → IsWithin lines j k → IsFaulty lines k
+  never_ended : SpellsTogether (line_at lines k) → ((m : ℕ) → k < m → ¬ SpellsEnd (line_at lines m)) → IsFaulty lines k
+
+-- a bad line, by its number from 1
+pub record IsBadLine (lines : List (List ℕ)) (k : ℕ) : Type 0 where
+  pub from_one : 1 ≤ k
+  pub to_last : k ≤ length lines
+  pub faulty : IsFaulty lines k
+
+-- the least bad line
+pub record IsLeastBadLine (lines : List (List ℕ)) (k : ℕ) : Type 0 where
+  pub bad : IsBadLine lines k
+  pub least : (j : ℕ) → j < k → ¬ IsBadLine lines j
+
+-- the lines are in the grammar: none is bad
+abbrev pub AreGood : List (List ℕ) → Type 0
+AreGood lines = (k : ℕ) → ¬ IsBadLine lines k
+
+-- the search is that of its line, inside the block that line j begins
+pub record IsSearchOf (lines : List (List ℕ)) (j : ℕ) (s : PlacedSearch) : Type 0 where
+  pub there : s.line ≤ length lines
+  pub within : IsWithin lines j s.line
+  pub spelled : SpellsSearch (line_at lines s.line) s.query
+
+-- These are the searches of the block that line j begins, in order of their lines.
+pub record AreSearchesOf (lines : List (List ℕ)) (j : ℕ) (searches : List PlacedSearch) : Type 0 where
+  pub ordered : AllPairs (λ (a : PlacedSearch) (b : PlacedSearch). a.line < b.line) searches
+  pub sound : All (IsSearchOf lines j) searches
+  pub complete : (m : ℕ) (query : Query) → m ≤ length lines → IsWithin lines j m → SpellsSearch (line_at lines m) query → Any (λ (s : PlacedSearch). s.line ≡ m) searches
+
+-- the line spells the statement by itself, outside blocks
+pub record StandsAlone (lines : List (List ℕ)) (k : ℕ) (s : Statement) : Type 0 where
+  pub spelled : Spells (line_at lines k) s
+  pub outside : (j : ℕ) → ¬ IsWithin lines j k
+
+-- The statement is that of line k: it stands there alone, or it is the block that begins there.
+abbrev pub StandsAt : List (List ℕ) → ℕ → Statement → Type 0
+StandsAt lines k (statement.Import path) = StandsAlone lines k (statement.Import path)
+StandsAt lines k statement.Wait = StandsAlone lines k statement.Wait
+StandsAt lines k (statement.Until number) = StandsAlone lines k (statement.Until number)
+StandsAt lines k (statement.Search query) = StandsAlone lines k (statement.Search query)
+StandsAt lines k (statement.Together searches) = SpellsTogether (line_at lines k) × AreSearchesOf lines k searches
+StandsAt lines k (statement.Game number) = StandsAlone lines k (statement.Game number)
+
+-- a statement stands at this line
+pub record IsPlacedAt (lines : List (List ℕ)) (p : Placed) : Type 0 where
+  pub from_one : 1 ≤ p.line
+  pub to_last : p.line ≤ length lines
+  pub stands : StandsAt lines p.line p.statement
+
+-- The lines are in the grammar, and these are their statements, in order of their lines.
+pub record AreStatements (lines : List (List ℕ)) (placed : List Placed) : Type 0 where
+  pub good : AreGood lines
+  pub ordered : AllPairs (λ (a : Placed) (b : Placed). a.line < b.line) placed
+  pub sound : All (IsPlacedAt lines) placed
+  pub complete : (k : ℕ) (s : Statement) → 1 ≤ k → k ≤ length lines → StandsAt lines k s → Any (λ (p : Placed). p.line ≡ k) placed

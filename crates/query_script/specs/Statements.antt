@@ -1,0 +1,55 @@
+-- What a line spells: nothing that counts, a statement, the beginning of a block, or its end.
+use Rattle.std.specs.Prelude.{◌≡◌, ◌⊎◌, ℕ, ◌≤◌, List, [], ◌∷◌, ◌++◌, length, codes, IsUtf8}
+use Rattle.pattern_images.specs.declared.query.Query.{Query}
+use Rattle.query_script.specs.declared.statement.Statement.{Statement}
+use Rattle.query_script.specs.declared.statement.Statement.TheVariants as statement
+use Rattle.query_script.specs.declared.word.Word.{Word}
+use Rattle.query_script.specs.Search.{IsBody}
+use Rattle.query_script.specs.Words.{AreBlanks, AreWords, IsNumber, bare, bytes_of}
+
+-- the greatest number of a version that a statement may wait for, and of a game
+abbrev pub most_number : ℕ
+most_number = 4294967295
+
+-- the bare or quoted word is a path: text in UTF-8, not empty
+pub record IsPath (w : Word) (path : List ℕ) : Type 0 where
+  pub bytes : bytes_of w ≡ path
+  pub some : 1 ≤ length path
+  pub utf8 : IsUtf8 path
+
+-- the words spell the statement, which takes one line
+abbrev pub IsStatement : List Word → Statement → Type 0
+IsStatement words (statement.Import path) = (w : Word) × (words ≡ bare (codes "import") ∷ w ∷ []) × IsPath w path
+IsStatement words statement.Wait = words ≡ bare (codes "wait") ∷ []
+IsStatement words (statement.Until number) = (w : Word) × (words ≡ bare (codes "until") ∷ w ∷ []) × IsNumber w number × (number ≤ most_number)
+IsStatement words (statement.Search query) = (body : List Word) × (words ≡ bare (codes "search") ∷ body) × IsBody body query
+IsStatement words (statement.Together searches) = ⊥
+IsStatement words (statement.Game number) = (w : Word) × (words ≡ bare (codes "game") ∷ w ∷ []) × IsNumber w number × (number ≤ most_number)
+
+-- the line spells the statement
+abbrev pub Spells : List ℕ → Statement → Type 0
+Spells line s = (words : List Word) × AreWords line words × IsStatement words s
+
+-- the line spells a search
+abbrev pub SpellsSearch : List ℕ → Query → Type 0
+SpellsSearch line query = Spells line (statement.Search query)
+
+-- the line begins a block
+abbrev pub SpellsTogether : List ℕ → Type 0
+SpellsTogether line = AreWords line (bare (codes "together") ∷ [])
+
+-- the line ends a block
+abbrev pub SpellsEnd : List ℕ → Type 0
+SpellsEnd line = AreWords line (bare (codes "end") ∷ [])
+
+-- nothing, or a comment, which begins with `#`
+abbrev pub IsRemark : List ℕ → Type 0
+IsRemark rest = (rest ≡ []) ⊎ ((text : List ℕ) × (rest ≡ 35 ∷ text))
+
+-- The line is skipped: it is empty, of spaces and tabs alone, or its first other byte is `#`.
+pub record IsSkipped (line : List ℕ) : Type 0 where
+  pub blanks : List ℕ
+  pub rest : List ℕ
+  pub split : line ≡ blanks ++ rest
+  pub are_blanks : AreBlanks blanks
+  pub remark : IsRemark rest

@@ -1,0 +1,85 @@
+-- The printed texts of statements. Numbers are decimal, and each line ends with a line feed.
+use Rattle.std.specs.Prelude.{ℕ, Bool, true, false, List, [], ◌∷◌, ◌++◌, length, codes, Option, Some, None}
+use Rattle.std.specs.Fmt.{decimal}
+use Rattle.std.specs.List.{flat_map}
+use Rattle.kb_geometry.specs.declared.stone.Colour.{Colour}
+use Rattle.kb_geometry.specs.declared.stone.Colour.TheVariants as colour
+use Rattle.kb_geometry.specs.Symmetry.{number_of_label}
+use Rattle.pattern_images.specs.declared.hit.Hit.{Hit}
+use Rattle.pattern_images.specs.declared.hit.Next.{Next}
+use Rattle.continuation_table.specs.declared.table.Row.{Row}
+use Rattle.continuation_table.specs.declared.tally.Tally.{Tally}
+use Rattle.continuation_table.specs.Table.{TableView}
+
+-- a line: these pieces and a line feed
+abbrev pub line_text : List (List ℕ) → List ℕ
+line_text [] = 10 ∷ []
+line_text (piece ∷ pieces) = piece ++ line_text pieces
+
+-- `LINE import PATH`
+abbrev pub import_text : ℕ → List ℕ → List ℕ
+import_text line path = line_text (decimal line ∷ codes " import " ∷ path ∷ [])
+
+-- `LINE wait version V`
+abbrev pub wait_text : ℕ → ℕ → List ℕ
+wait_text line version = line_text (decimal line ∷ codes " wait version " ∷ decimal version ∷ [])
+
+-- `LINE until K version V`
+abbrev pub until_text : ℕ → ℕ → ℕ → List ℕ
+until_text line number version = line_text (decimal line ∷ codes " until " ∷ decimal number ∷ codes " version " ∷ decimal version ∷ [])
+
+-- `B` or `W`
+abbrev pub colour_letter : Colour → List ℕ
+colour_letter colour.Black = codes "B"
+colour_letter colour.White = codes "W"
+
+-- `now` or `later`
+abbrev pub when_word : Bool → List ℕ
+when_word true = codes "now"
+when_word false = codes "later"
+
+-- how a hit goes on: `-`, or the colour, column and row, and when
+abbrev pub next_text : Option Next → List ℕ
+next_text None = line_text (codes "-" ∷ [])
+next_text (Some next) = line_text (colour_letter next.colour ∷ codes " " ∷ decimal next.x ∷ codes " " ∷ decimal next.y ∷ codes " " ∷ when_word next.now ∷ [])
+
+-- `hit GAME NODE X Y LABEL `
+abbrev pub hit_head : Hit → List ℕ
+hit_head hit = codes "hit " ++ (decimal hit.game ++ (codes " " ++ (decimal hit.node ++ (codes " " ++ (decimal hit.place.x ++ (codes " " ++ (decimal hit.place.y ++ (codes " " ++ (decimal (number_of_label hit.place.label) ++ codes " ")))))))))
+
+-- `hit GAME NODE X Y LABEL NEXT`
+abbrev pub hit_text : Hit → List ℕ
+hit_text hit = hit_head hit ++ next_text hit.next
+
+-- `COUNT NOW LATER BLACK WHITE OTHER`
+abbrev pub tally_text : Tally → List ℕ
+tally_text tally = line_text (decimal tally.count ∷ codes " " ∷ decimal tally.now ∷ codes " " ∷ decimal tally.later ∷ codes " " ∷ decimal tally.black ∷ codes " " ∷ decimal tally.white ∷ codes " " ∷ decimal tally.other ∷ [])
+
+-- `row COLOUR X Y `
+abbrev pub row_head : Row → List ℕ
+row_head row = codes "row " ++ (colour_letter row.colour ++ (codes " " ++ (decimal row.x ++ (codes " " ++ (decimal row.y ++ codes " ")))))
+
+-- `row COLOUR X Y COUNT NOW LATER BLACK WHITE OTHER`
+abbrev pub row_text : Row → List ℕ
+row_text row = row_head row ++ tally_text row.tally
+
+-- `total COUNT NOW LATER BLACK WHITE OTHER`
+abbrev pub total_text : Tally → List ℕ
+total_text tally = codes "total " ++ tally_text tally
+
+-- `LINE search version V games G hits H`
+abbrev pub search_head : ℕ → ℕ → ℕ → ℕ → List ℕ
+search_head line version games hits = line_text (decimal line ∷ codes " search version " ∷ decimal version ∷ codes " games " ∷ decimal games ∷ codes " hits " ∷ decimal hits ∷ [])
+
+-- the head of a search, its hits, the rows and the totals of their table
+abbrev pub search_text : ℕ → ℕ → ℕ → List Hit → TableView → List ℕ
+search_text line version games hits table =
+    search_head line version games (length hits) ++ (flat_map hit_text hits ++ (flat_map row_text table.rows ++ total_text table.totals))
+
+-- `LINE game N version V place P file NAME`
+abbrev pub game_head : ℕ → ℕ → ℕ → ℕ → List ℕ → List ℕ
+game_head line game version place file = line_text (decimal line ∷ codes " game " ∷ decimal game ∷ codes " version " ∷ decimal version ∷ codes " place " ∷ decimal place ∷ codes " file " ∷ file ∷ [])
+
+-- `LINE game N version V none`
+abbrev pub no_game_text : ℕ → ℕ → ℕ → List ℕ
+no_game_text line game version = line_text (decimal line ∷ codes " game " ∷ decimal game ∷ codes " version " ∷ decimal version ∷ codes " none" ∷ [])

@@ -1,0 +1,18 @@
+//! The script: its grammar, and the printed texts of its statements.
+//!
+//! Stands on kb_geometry, game_tree, pattern_images, pattern_syntax, continuation_table and the library bstr, which splits
+//! the lines. The layer above uses that `read_script` gives the statements of a script in the grammar, or else its least
+//! bad line, and that `print_hits` and the other printers append the texts.
+#![tactic(auto)]
+
+mod line;
+mod print;
+mod script;
+mod search_text;
+mod statement;
+mod word;
+
+pub use print::{print_game, print_import, print_no_game, print_until, print_wait};
+pub use script::read_script;
+pub use search_text::print_hits;
+pub use statement::{MAX_SCRIPT, Placed, PlacedSearch, ScriptError, SearchList, Statement};

@@ -1,0 +1,106 @@
+// The statements of a script, and why a script is refused.
+ghost use Rattle.std.specs.Prelude.{◌≡◌};
+ghost use Rattle.query_script.specs.declared.statement.ScriptError.TheVariants.{NoMemory};
+
+use kb_geometry::{NoMemory, Text};
+use pattern_images::Query;
+use std::alloc::{AllocError, AllocFailed};
+use std::marker::Model;
+
+/// The most bytes that a script may have.
+pub const MAX_SCRIPT: usize = 1_048_576;
+
+/// A statement of the script.
+#[derive(Debug, Drop)]
+pub enum Statement {
+    /// `import PATH`: imports the files of a folder.
+    Import { path: Text },
+    /// `wait`: waits for the import, and tells the version after it.
+    Wait,
+    /// `until K`: waits for the version with this number.
+    Until { number: u64 },
+    /// `search ..`: where a pattern occurs.
+    Search { query: Query },
+    /// `together`, one to eight lines of searches, `end`: searches that are made at the same time.
+    Together { searches: SearchList },
+    /// `game N`: a game as SGF text.
+    Game { number: u32 },
+}
+
+/// A statement and its line, from 1. A block of searches has the line of its `together`.
+#[derive(Debug, Drop)]
+pub struct Placed {
+    pub line: u32,
+    pub statement: Statement,
+}
+
+/// A search inside a block, and its line, from 1.
+#[derive(Debug, Drop)]
+pub struct PlacedSearch {
+    pub line: u32,
+    pub query: Query,
+}
+
+/// Searches of a block. Contracts see them as a list.
+#[derive(Debug, Drop)]
+pub struct SearchList {
+    items: Vec<PlacedSearch>,
+}
+
+impl Model for SearchList {
+    ghost use Rattle.std.specs.Prelude.{List};
+    ghost use Rattle.query_script.specs.declared.statement.PlacedSearch.{PlacedSearch};
+
+    ghost Value = { List PlacedSearch };
+
+    ghost view = { λ s. s.items.items };
+}
+
+impl SearchList {
+    /// Holds these searches.
+    pub fn new(items: Vec<PlacedSearch>) -> Self
+        ensures { result ≡ items.items }
+    {
+        SearchList { items }
+    }
+
+    /// The searches.
+    pub fn as_slice(&self) -> &[PlacedSearch]
+        ensures { result.now ≡ self.now }
+    {
+        self.items.as_slice()
+    }
+}
+
+/// Why a script was not read.
+#[derive(Clone, Copy, Debug, PartialEq, Eq)]
+pub enum ScriptError {
+    /// The least line that is bad, from 1.
+    BadLine { line: u32 },
+    /// An allocation was refused.
+    NoMemory,
+}
+
+impl From<AllocError> for ScriptError {
+    ghost from_gives = { λ _ e. e ≡ NoMemory };
+
+    fn from(_: AllocError) -> Self {
+        ScriptError::NoMemory
+    }
+}
+
+impl<T: Drop> From<AllocFailed<T>> for ScriptError {
+    ghost from_gives = { λ _ e. e ≡ NoMemory };
+
+    fn from(_: AllocFailed<T>) -> Self {
+        ScriptError::NoMemory
+    }
+}
+
+impl From<NoMemory> for ScriptError {
+    ghost from_gives = { λ _ e. e ≡ NoMemory };
+
+    fn from(_: NoMemory) -> Self {
+        ScriptError::NoMemory
+    }
+}

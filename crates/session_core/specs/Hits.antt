@@ -1,0 +1,59 @@
+-- The hits of a query in games: each game, node and placement where the placement holds and did not hold at the node's parent,
+-- if the query looks at the node.
+use Rattle.std.specs.Prelude.{◌≡◌, ℕ, ◌≤◌, IsTrue, List, [], ◌∷◌, ◌++◌, length, Option, Some, None}
+use Rattle.kb_geometry.specs.declared.shape.Shape.{Shape}
+use Rattle.game_tree.specs.MainLine.{IsOnMainLine}
+use Rattle.game_tree.specs.Result.{outcome_of}
+use Rattle.game_tree.specs.Tree.{Tree, move_number_of}
+use Rattle.capture_board.specs.Deltas.{Deltas}
+use Rattle.pattern_images.specs.declared.hit.Hit.{Hit}
+use Rattle.pattern_images.specs.declared.hit.Next.{Next}
+use Rattle.pattern_images.specs.declared.query.Query.{Query}
+use Rattle.pattern_images.specs.ImageList.{IsPlaceOf, placement_at}
+use Rattle.pattern_images.specs.Placements.{ArePlacements, Placement}
+use Rattle.line_matcher.specs.Occurrences.{Occurrence, occurrences_in}
+use Rattle.continuation_table.specs.Continuation.{IsContinuation}
+use Rattle.session_core.specs.Games.{AreChangesOf, Game}
+
+-- The query looks at the node: the node is on the main line, if the query asks for that, and its move number is within the
+-- query's bounds.
+pub record LooksAt (query : Query) (tree : Tree) (n : ℕ) : Type 0 where
+  pub main : IsTrue query.main → IsOnMainLine tree n
+  pub from : query.from_move ≤ move_number_of tree n
+  pub to : move_number_of tree n ≤ query.to_move
+
+-- how the game goes on from a node where the placement holds, if it does
+abbrev pub GoesOn : Tree → Deltas → Placement → ℕ → Option Next → Type 0
+GoesOn tree changes placement n (Some next) = IsContinuation tree changes placement n next
+GoesOn tree changes placement n None = (next : Next) → ¬ IsContinuation tree changes placement n next
+
+-- the hit of an occurrence in the game with this number
+pub record IsHit (number : ℕ) (tree : Tree) (changes : Deltas) (placements : List Placement) (o : Occurrence) (hit : Hit) : Type 0 where
+  pub game : hit.game ≡ number
+  pub node : hit.node ≡ o.node
+  pub place : IsPlaceOf (placement_at placements o.placement) hit.place
+  pub moves : hit.moves ≡ move_number_of tree o.node
+  pub outcome : hit.outcome ≡ outcome_of tree.info.outcome_text
+  pub next : GoesOn tree changes (placement_at placements o.placement) o.node hit.next
+
+-- The hits of occurrences in a game: one for each at whose node the query looks, in their order.
+pub data AreHitsOf (query : Query) (number : ℕ) (tree : Tree) (changes : Deltas) (placements : List Placement) : List Occurrence → List Hit → Type 0 where
+  nothing : AreHitsOf query number tree changes placements [] []
+  hit : {occurrences : List Occurrence} {hits : List Hit} (o : Occurrence) (hit : Hit) → AreHitsOf query number tree changes placements occurrences hits →
+      LooksAt query tree o.node → IsHit number tree changes placements o hit → AreHitsOf query number tree changes placements (occurrences ++ o ∷ []) (hits ++ hit ∷ [])
+  left_out : {occurrences : List Occurrence} {hits : List Hit} (o : Occurrence) → AreHitsOf query number tree changes placements occurrences hits →
+      ¬ LooksAt query tree o.node → AreHitsOf query number tree changes placements (occurrences ++ o ∷ []) hits
+
+-- The hits in the game with this number: those of the occurrences of the query's placements on the game's board, by node, and
+-- at one node in the order of the placements.
+pub record AreHitsIn (query : Query) (number : ℕ) (tree : Tree) (hits : List Hit) : Type 0 where
+  pub changes : Deltas
+  pub are_changes : AreChangesOf tree changes
+  pub placements : List Placement
+  pub are_placements : ArePlacements query tree.shape placements
+  pub are_hits : AreHitsOf query number tree changes placements (occurrences_in changes placements) hits
+
+-- the hits in games, which are numbered from 0, in order of the games
+pub data AreHits (query : Query) : List Game → List Hit → Type 0 where
+  nothing : AreHits query [] []
+  one_more : {games : List Game} {hits : List Hit} (game : Game) (more : List Hit) → AreHits query games hits → AreHitsIn query (length games) game.tree more → AreHits query (games ++ game ∷ []) (hits ++ more)
