@@ -1,18 +1,21 @@
 # The three commands of the README. They want the toolchain's command `rt`, and bash.
 
 PROGRAM := build/gobase
-SCRIPT := import games\nwait\nsearch same fixed X\n
-GAMES := $(wildcard games/*.sgf)
+SCRIPT := scripts/joseki.script
+
+# What the trial run looks at, since it is slow: three games, and one search.
+TRIAL := import games\nwait\nsearch main *OX*/OX.X/*OX*\n
+TRIAL_GAMES := games/capture-5x5.sgf games/club-evening-9x9.sgf games/fight-9x9.sgf
 
 .PHONY: run build test
 
-# Answers the script over the sample games: by the native program where it is there, else by a run
-# without a proof, which works on copies of the games.
+# Answers a script over the sample games by the native program where it is there, else a short script over
+# some of them by a run without a proof, which works on copies of the games.
 run:
 	@if [ -x $(PROGRAM) ]; then \
-	    printf '$(SCRIPT)' | $(PROGRAM); \
+	    $(PROGRAM) < $(SCRIPT); \
 	else \
-	    printf '$(SCRIPT)' | (cd crates/gobase && rt try $(foreach game,$(GAMES),--data $(game)=../../$(game))); \
+	    printf '$(TRIAL)' | (cd crates/gobase && rt try $(foreach game,$(TRIAL_GAMES),--data $(game)=../../$(game))); \
 	fi
 
 # Proves what isn't proved yet, and leaves the native program.
