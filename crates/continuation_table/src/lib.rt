@@ -16,6 +16,7 @@ mod tally;
 mod way_down;
 
 pub use continuation::next_of;
+pub use places::number_of_place;
 pub use table::{Row, Table};
 pub use tally::Tally;
 pub use way_down::next_below;

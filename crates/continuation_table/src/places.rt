@@ -13,8 +13,11 @@ use capture_board::NodeDeltas;
 use kb_geometry::{Cell, Point};
 use pattern_images::{Images, PatternCell, Place};
 
-// The number of the placement with this place, if there is one.
-pub(crate) fn number_of_place(images: &Images, place: Place) -> usize
+/// The number of the placement with this place. If none has it, the number is that of the first placement behind the place, or
+/// the count of placements.
+///
+/// It takes as many comparisons as the logarithm of that count.
+pub fn number_of_place(images: &Images, place: Place) -> usize
     ensures { (i : ℕ) → i < length images.now.placements → IsPlaceOf (placement_at images.now.placements i) place → result ≡ i }
 {
     let mut from = 0;

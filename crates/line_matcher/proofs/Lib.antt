@@ -2,7 +2,7 @@ mod Areas
 mod Beginning
 mod ChangedPoints
 mod FoundLists
-mod HoldsLaw
+pub mod HoldsLaw
 mod MaskBits
 mod Nodes
 mod Ranges

@@ -1,3 +1,4 @@
 pub mod Games
 pub mod Hits
 pub mod Answers
+pub mod Searching

@@ -4,6 +4,7 @@
 //! patterns. The layer above uses that what [`Session::answer`] appends is exactly the statement's text.
 #![tactic(auto)]
 
+mod search;
 mod session;
 mod stored;
 

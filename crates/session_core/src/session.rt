@@ -1,12 +1,17 @@
 // The answers of statements.
-ghost use Rattle.std.specs.Prelude.{◌≡◌, ◌≤◌, ◌++◌, ℕ, All, List, OnErr, OnOk, length};
-ghost use Rattle.session_core.specs.Answers.{BeginWith, IsAnswer, IsAnswered, IsSearchText};
+ghost use Rattle.std.specs.Prelude.{◌≡◌, ◌≤◌, ◌++◌, ◌∷◌, [], ℕ, All, List, OnErr, OnOk, length, string_bytes};
+ghost use Rattle.sgf_writer.specs.Written.{IsWritten};
+ghost use Rattle.query_script.specs.Texts.{game_head};
+ghost use Rattle.session_core.specs.Answers.{BeginWith, IsAnswer, IsAnswered, IsGameText, IsSearchText};
 ghost use Rattle.session_core.specs.Games.{HasItsChanges, games_of};
 
+use crate::search::hits_of;
 use crate::stored::{MAX_GAMES, Stored};
+use continuation_table::Table;
 use kb_geometry::NoMemory;
 use pattern_images::Query;
-use query_script::Statement;
+use query_script::{Statement, print_game, print_hits, print_no_game};
+use sgf_writer::write;
 use std::alloc::Global;
 
 /// Answers statements, one after another.
@@ -38,9 +43,14 @@ impl Session {
         ensures ok { OnOk result ((text : List ℕ) × IsAnswer line number (games_of games.now) statement.now text × (out.new.items ≡ out.old.items ++ text)) }
         ensures refused { OnErr result (BeginWith out.new.items out.old.items) }
     {
-        let _statement = statement;
-        let _games = games;
-        Err(NoMemory)
+        match statement {
+            Statement::Search { query } => append_search(alloc, line, query, number, games, out),
+            Statement::Game { number: game } => append_game(line, *game, number, games, out),
+            Statement::Import { .. }
+            | Statement::Wait
+            | Statement::Until { .. }
+            | Statement::Together { .. } => unreachable!(),
+        }
     }
 
     /// Appends the text of a search that stands in a block of searches. All else is as for [`answer`](Session::answer).
@@ -58,8 +68,60 @@ impl Session {
         ensures ok { OnOk result ((text : List ℕ) × IsSearchText line number (games_of games.now) query.now text × (out.new.items ≡ out.old.items ++ text)) }
         ensures refused { OnErr result (BeginWith out.new.items out.old.items) }
     {
-        let _query = query;
-        let _games = games;
-        Err(NoMemory)
+        append_search(alloc, line, query, number, games, out)
     }
+}
+
+// Appends the text of a search.
+fn append_search(
+    alloc: Global,
+    line: u32,
+    query: &Query,
+    number: u64,
+    games: &[Stored],
+    out: &mut Vec<u8>,
+) -> Result<(), NoMemory>
+    requires most { length games.now ≤ MAX_GAMES }
+    requires changes { All HasItsChanges games.now }
+    ensures ok { OnOk result ((text : List ℕ) × IsSearchText line number (games_of games.now) query.now text × (out.new.items ≡ out.old.items ++ text)) }
+    ensures refused { OnErr result (out.new.items ≡ out.old.items) }
+{
+    let hits = hits_of(alloc, query, games)?;
+    let table = Table::of(alloc, &hits)?;
+    print_hits(line, number, games.len() as u32, &hits, &table, out)
+}
+
+// Appends the text of the game with this number, or that the version has no such game.
+fn append_game(
+    line: u32,
+    game: u32,
+    number: u64,
+    games: &[Stored],
+    out: &mut Vec<u8>,
+) -> Result<(), NoMemory>
+    ensures ok { OnOk result ((text : List ℕ) × IsGameText line number (games_of games.now) game text × (out.new.items ≡ out.old.items ++ text)) }
+    ensures refused { OnErr result (BeginWith out.new.items out.old.items) }
+{
+    match games.get(game as usize) {
+        Some(stored) => append_stored(line, game, number, stored, out),
+        None => print_no_game(line, game, number, out),
+    }
+}
+
+// Appends the text of a game that is there: its head, the written tree, and a line feed.
+fn append_stored(
+    line: u32,
+    game: u32,
+    number: u64,
+    stored: &Stored,
+    out: &mut Vec<u8>,
+) -> Result<(), NoMemory>
+    ensures ok { OnOk result ((written : List ℕ) × IsWritten stored.now.tree written
+        × (out.new.items ≡ out.old.items ++ (game_head line game number stored.now.place (string_bytes stored.now.file) ++ (written ++ 10 ∷ [])))) }
+    ensures refused { OnErr result (BeginWith out.new.items out.old.items) }
+{
+    print_game(line, game, number, stored.place, &stored.file, out)?;
+    write(&stored.tree, out)?;
+    out.push(b'\n')?;
+    Ok(())
 }

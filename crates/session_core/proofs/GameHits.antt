@@ -1,0 +1,34 @@
+-- The hits of one game.
+use Rattle.std.proofs.Common.{◌≡◌, ℕ, List, [], length, sym, subst}
+use Rattle.game_tree.specs.Tree.{Tree}
+use Rattle.capture_board.specs.Deltas.{Deltas}
+use Rattle.pattern_images.specs.declared.hit.Hit.{Hit}
+use Rattle.pattern_images.specs.declared.query.Query.{Query}
+use Rattle.pattern_images.specs.Placements.{ArePlacements, Placement}
+use Rattle.line_matcher.specs.Occurrences.{occurrences_in}
+use Rattle.session_core.specs.Games.{AreChangesOf}
+use Rattle.session_core.specs.Hits.{AreHitsIn, AreHitsOf}
+use Rattle.session_core.specs.Searching.{AreHitsAdded}
+use Rattle.session_core.proofs.AddedHits.{AreHitsAdded-none}
+use Rattle.session_core.proofs.WhereFound.{no_occurrences}
+
+module _ (query : Query) (number : ℕ) (game : Tree) (changes : Deltas) (of : AreChangesOf game changes) (placements : List Placement) (are : ArePlacements query game.shape placements) (old new : List Hit) where
+  -- those of all its occurrences
+  pub AreHitsIn-added : AreHitsAdded (AreHitsOf query number game changes placements (occurrences_in changes placements)) old new → AreHitsAdded (AreHitsIn query number game) old new
+  AreHitsIn-added added = record {
+    more = added.more;
+    added = added.added;
+    are_hits = record { changes = changes; are_changes = of; placements = placements; are_placements = are; are_hits = added.are_hits };
+  }
+
+  -- none without a placement
+  pub AreHitsIn-none : length placements ≡ 0 → new ≡ old → AreHitsAdded (AreHitsIn query number game) old new
+  AreHitsIn-none none same =
+      subst (λ hs. AreHitsAdded (AreHitsIn query number game) old hs) (sym same)
+      (AreHitsAdded-none (AreHitsIn query number game) old (record {
+        changes = changes;
+        are_changes = of;
+        placements = placements;
+        are_placements = are;
+        are_hits = subst (λ os. AreHitsOf query number game changes placements os []) (sym (no_occurrences changes placements none)) AreHitsOf.nothing;
+      }))

@@ -1,0 +1,74 @@
+-- What is known of each occurrence in a game: its node and its placement are there, and the placement holds at the node.
+use Prim.Native.Nat.{zero}
+use Rattle.std.proofs.Common.{◌≡◌, ℕ, suc, ◌+◌, ◌<◌, ◌≤◌, Bool, true, false, List, [], ◌∷◌, ◌++◌, length, get_or, map, refl, arith}
+use Rattle.std.specs.Prelude.{◌&&◌, not, filter, All}
+use Rattle.std.specs.List.{flat_map, range_with_len}
+use Rattle.std.specs.Option.{option_map_or}
+use Rattle.std.proofs.lemmas.Bool.{and_parts}
+use Rattle.std.proofs.lemmas.List.Elements.{All-append, All-cons, All-filter, All-head, All-map, All-nil, All-tail, All-weaker, filter_passes}
+use Rattle.capture_board.specs.Deltas.{Deltas, node_count, parent_of}
+use Rattle.pattern_images.specs.ImageList.{placement_at}
+use Rattle.pattern_images.specs.Placements.{Placement}
+use Rattle.continuation_table.specs.Continuation.{HoldsAt}
+use Rattle.line_matcher.specs.Occurrences.{Occurrence, begins_at, holds_at, occurrences_at, occurrences_in}
+use Rattle.line_matcher.proofs.HoldsLaw.{holds-decides}
+use Rattle.capture_board.specs.Deltas.{position_at}
+
+-- ---- lists
+-- what holds of each element of each part holds of each element
+All-flat_map : {X Y : Type 0} (P : Y → Type 0) (f : X → List Y) (xs : List X) → All (λ x. All P (f x)) xs → All P (flat_map f xs)
+All-flat_map P f [] each = All-nil P
+All-flat_map P f (x ∷ xs) each =
+    All-append P (f x) (flat_map f xs) (All-head (λ y. All P (f y)) x xs each) (All-flat_map P f xs (All-tail (λ y. All P (f y)) x xs each))
+
+range_from : (a n : ℕ) → All (λ k. k < a + n) (range_with_len a n)
+range_from a zero = All-nil (λ k. k < a + 0)
+range_from a (suc n) =
+    All-cons (λ k. k < a + suc n) a (range_with_len (a + 1) n) (omega arith)
+    (All-weaker (λ k. k < a + 1 + n) (λ k. k < a + suc n) (λ k lt. omega arith) (range_with_len (a + 1) n) (range_from (a + 1) n))
+
+-- the first n numbers are less than n
+all_less : (n : ℕ) → All (λ k. k < n) (range_with_len 0 n)
+all_less n = All-weaker (λ k. k < 0 + n) (λ k. k < n) (λ k lt. omega arith) (range_with_len 0 n) (range_from 0 n)
+
+-- ---- occurrences
+module _ (changes : Deltas) (placements : List Placement) where
+  -- the node and the placement are there, and the placement holds at the node
+  pub record IsThere (o : Occurrence) : Type 0 where
+    pub node : o.node < node_count changes
+    pub placement : o.placement < length placements
+    pub holds : HoldsAt changes (placement_at placements o.placement) o.node
+
+  abbrev begins : ℕ → ℕ → Type 0
+  begins n i = begins_at changes (placement_at placements i) n ≡ true
+
+  there : (n i : ℕ) → n < node_count changes → i < length placements → begins n i → IsThere (record { node = n; placement = i })
+  there n i in_range placement t =
+      let placed = placement_at placements i in
+      let parts = and_parts (holds_at changes placed n) (not (option_map_or (holds_at changes placed) (parent_of changes n) false)) t in
+      record {
+        node = in_range;
+        placement = placement;
+        holds = (holds-decides changes.shape (position_at changes n) placed).0 parts.0;
+      }
+
+  there_at : (n : ℕ) → n < node_count changes → All IsThere (occurrences_at changes placements n)
+  there_at n in_range =
+      let test : ℕ → Bool = λ i. begins_at changes (placement_at placements i) n in
+      let kept = filter test (range_with_len 0 (length placements)) in
+      let passed = filter_passes test (range_with_len 0 (length placements)) in
+      let less = All-filter test (λ i. i < length placements) (range_with_len 0 (length placements)) (all_less (length placements)) in
+      All-map IsThere (λ i. record { node = n; placement = i }) kept (λ k d lt. there n (get_or kept k d) in_range (less k d lt) (passed k d lt))
+
+  pub occurrences_are_there : All IsThere (occurrences_in changes placements)
+  occurrences_are_there =
+      All-flat_map IsThere (occurrences_at changes placements) (range_with_len 0 (node_count changes))
+      (λ k d lt. there_at (get_or (range_with_len 0 (node_count changes)) k d) (all_less (node_count changes) k d lt))
+
+  -- with no placement there is no occurrence
+  pub no_occurrences : length placements ≡ 0 → occurrences_in changes placements ≡ []
+  no_occurrences none = nowhere (occurrences_in changes placements) occurrences_are_there
+    where
+      nowhere : (os : List Occurrence) → All IsThere os → os ≡ []
+      nowhere [] all = refl
+      nowhere (o ∷ os) all = let first = All-head IsThere o os all in absurd (omega (arith, first.placement))

@@ -1,0 +1,177 @@
+// The hits of a query in games.
+ghost use Rattle.std.specs.Prelude.{◌≡◌, ◌↔◌, ◌<◌, ◌≤◌, ℕ, All, IfOk, IsTrue, OnOk, length, slice_index_or, take};
+ghost use Rattle.game_tree.specs.Tree.{node_count};
+ghost use Rattle.pattern_images.specs.ImageList.{IsPlaceOf, placement_at};
+ghost use Rattle.pattern_images.specs.Placements.{ArePlacements};
+ghost use Rattle.line_matcher.specs.Occurrences.{AreFound, occurrences_in};
+ghost use Rattle.continuation_table.specs.Continuation.{HoldsAt};
+ghost use Rattle.session_core.specs.Games.{HasItsChanges, games_of};
+ghost use Rattle.session_core.specs.Hits.{AreHits, AreHitsIn, AreHitsOf, IsHit, LooksAt};
+ghost use Rattle.session_core.specs.Searching.{AreHitsAdded, IsHitOf, IsPlacedAt, IsRun};
+
+use crate::stored::{MAX_GAMES, Stored};
+use capture_board::{NodeDeltas, Steps};
+use continuation_table::{next_below, number_of_place};
+use game_tree::GameTree;
+use kb_geometry::NoMemory;
+use line_matcher::{Matcher, match_with};
+use pattern_images::{Found, Hit, Images, Query, images};
+use std::alloc::Global;
+use std::marker::Brand;
+use std::sync::ledger::{Blank, Ledger};
+
+/// The hits of a query in games, which are numbered from 0. They stand by game, then by node, then in the order of the
+/// placements. The only error is `NoMemory`.
+pub(crate) fn hits_of(alloc: Global, query: &Query, games: &[Stored]) -> Result<Vec<Hit>, NoMemory>
+    requires most { length games.now ≤ MAX_GAMES }
+    requires changes { All HasItsChanges games.now }
+    ensures { IfOk result (λ hits. AreHits query.now (games_of games.now) hits.items) }
+{
+    let mut hits = Vec::new(alloc);
+    let mut from = 0;
+    while from < games.len() {
+        let to = run_end(games, from);
+        add_run(alloc, query, games, from, to, &mut hits)?;
+        from = to;
+    }
+    Ok(hits)
+}
+
+// Where the run of games ends that begins with this one: the games of a run have boards of one shape.
+fn run_end(games: &[Stored], from: usize) -> usize
+    requires { from < length games.now }
+    ensures some { from < result }
+    ensures in_range { result ≤ length games.now }
+    ensures run { IsRun games.now from result }
+{
+    for to in from + 1..games.len() {
+        if !have_one_shape(&games[from], &games[to]) {
+            return to;
+        }
+    }
+    games.len()
+}
+
+// Whether the boards of two games have one shape.
+fn have_one_shape(a: &Stored, b: &Stored) -> bool
+    ensures { IsTrue result ↔ (a.now.deltas.shape ≡ b.now.deltas.shape) }
+{
+    a.deltas.shape() == b.deltas.shape()
+}
+
+// Adds the hits of the games of a run. The images are made once, for they are the same on all its boards.
+fn add_run(
+    alloc: Global,
+    query: &Query,
+    games: &[Stored],
+    from: usize,
+    to: usize,
+    hits: &mut Vec<Hit>,
+) -> Result<(), NoMemory>
+    requires most { length games.now ≤ MAX_GAMES }
+    requires changes { All HasItsChanges games.now }
+    requires some { from < to }
+    requires in_range { to ≤ length games.now }
+    requires run { IsRun games.now from to }
+    requires before { AreHits query.now (games_of (take from games.now)) hits.old.items }
+    ensures { OnOk result (AreHits query.now (games_of (take to games.now)) hits.new.items) }
+{
+    let images = images(alloc, query, games[from].deltas.shape())?;
+    let matcher = Matcher::new(alloc, &images)?;
+    for number in from..to {
+        add_game(alloc, query, number as u32, &games[number], &matcher, hits)?;
+    }
+    Ok(())
+}
+
+// Adds the hits of the game with this number. The matcher is that of the query's images on the game's board.
+fn add_game(
+    alloc: Global,
+    query: &Query,
+    number: u32,
+    game: &Stored,
+    matcher: &Matcher,
+    hits: &mut Vec<Hit>,
+) -> Result<(), NoMemory>
+    requires changes { HasItsChanges game.now }
+    requires shape { matcher.now.images.now.shape ≡ game.now.deltas.shape }
+    requires placements { ArePlacements query.now game.now.tree.shape matcher.now.images.now.placements }
+    ensures { OnOk result (AreHitsAdded (AreHitsIn query.now number game.now.tree) hits.old.items hits.new.items) }
+{
+    if matcher.images.is_empty() {
+        return Ok(());
+    }
+    let found = found_in::<Brand>(alloc, &game.deltas, matcher, Blank::new(1))?;
+    add_found(query, number, game, matcher.images, &found, hits)
+}
+
+// Where placements begin to hold in a game, with a count of steps of its own.
+fn found_in<L: Ledger>(
+    alloc: Global,
+    deltas: &NodeDeltas,
+    matcher: &Matcher,
+    blank: Blank,
+) -> Result<Vec<Found>, NoMemory>
+    requires name { blank.name ≡ L.name }
+    requires parts { blank.parts ≡ L.parts }
+    requires some { 0 < blank.parts }
+    requires shape { matcher.now.images.now.shape ≡ deltas.now.shape }
+    ensures { IfOk result (λ found. AreFound matcher.now.images.now.placements (occurrences_in deltas.now matcher.now.images.now.placements) found.items) }
+{
+    let mut steps = Steps::<L>::new(blank);
+    match_with(alloc, deltas, matcher, &mut steps)
+}
+
+// Adds the hits among what was found in a game.
+fn add_found(
+    query: &Query,
+    number: u32,
+    game: &Stored,
+    images: &Images,
+    found: &[Found],
+    hits: &mut Vec<Hit>,
+) -> Result<(), NoMemory>
+    requires changes { HasItsChanges game.now }
+    requires shape { images.now.shape ≡ game.now.deltas.shape }
+    requires found { AreFound images.now.placements (occurrences_in game.now.deltas images.now.placements) found.now }
+    ensures { OnOk result (AreHitsAdded (AreHitsOf query.now number game.now.tree game.now.deltas images.now.placements
+        (occurrences_in game.now.deltas images.now.placements)) hits.old.items hits.new.items) }
+{
+    for found in found {
+        if looks_at(query, &game.tree, found.node) {
+            hits.push(hit_of(number, game, images, found))?;
+        }
+    }
+    Ok(())
+}
+
+// Whether the query looks at a node.
+fn looks_at(query: &Query, tree: &GameTree, node: u32) -> bool
+    requires { node < node_count tree.now }
+    ensures { IsTrue result ↔ LooksAt query.now tree.now node }
+{
+    if query.main && !tree.is_main(node) {
+        return false;
+    }
+    let moves = tree.move_number(node);
+    query.from_move <= moves && moves <= query.to_move
+}
+
+// The hit of what was found in the game with this number.
+fn hit_of(number: u32, game: &Stored, images: &Images, found: &Found) -> Hit
+    requires changes { HasItsChanges game.now }
+    requires shape { images.now.shape ≡ game.now.deltas.shape }
+    requires node { found.now.node < node_count game.now.tree }
+    requires place { IsPlacedAt game.now.deltas images.now.placements found.now }
+    ensures { IsHitOf number game.now.tree game.now.deltas images.now.placements found.now result }
+{
+    let placement = number_of_place(images, found.place);
+    Hit {
+        game: number,
+        node: found.node,
+        place: found.place,
+        moves: game.tree.move_number(found.node),
+        outcome: game.tree.info().outcome(),
+        next: next_below(&game.tree, &game.deltas, images, placement, found.node),
+    }
+}
