@@ -1,1 +1,6 @@
-
+mod FirstWords
+mod Faults
+mod TextLines
+mod PlacedLists
+mod ReadOutside
+mod ReadInside

@@ -4,3 +4,4 @@ pub mod Statements
 pub mod Script
 pub mod Lines
 pub mod Texts
+pub mod Progress

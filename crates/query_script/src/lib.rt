@@ -7,6 +7,7 @@
 
 mod line;
 mod print;
+mod progress;
 mod script;
 mod search_text;
 mod statement;
@@ -16,3 +17,6 @@ pub use print::{print_game, print_import, print_no_game, print_until, print_wait
 pub use script::read_script;
 pub use search_text::print_hits;
 pub use statement::{MAX_SCRIPT, Placed, PlacedSearch, ScriptError, SearchList, Statement};
+
+#[cfg(test)]
+mod tests;

@@ -2,7 +2,10 @@
 ghost use Rattle.std.specs.Prelude.{◌≡◌, ◌≤◌, ℕ, length, IfOk, IsErrOf};
 ghost use Rattle.query_script.specs.Script.{AreStatements, IsLeastBadLine, script_lines};
 
+use crate::line::read_line;
+use crate::progress::Progress;
 use crate::statement::{MAX_SCRIPT, Placed, ScriptError};
+use bstr::ByteSlice;
 use std::alloc::Global;
 
 /// Reads a script of at most [`MAX_SCRIPT`] bytes.
@@ -16,7 +19,17 @@ pub fn read_script(alloc: Global, text: &[u8]) -> Result<Vec<Placed>, ScriptErro
     ensures statements { IfOk result (λ placed. AreStatements (script_lines text.now) placed.items) }
     ensures bad_line { (k : ℕ) → IsErrOf result (ScriptError.BadLine k) → IsLeastBadLine (script_lines text.now) k }
 {
-    let _alloc = alloc;
-    let _text = text;
-    Err(ScriptError::NoMemory)
+    let mut placed = Vec::new(alloc);
+    let mut progress = Progress::Outside;
+    let mut number = 0;
+    for bytes in text.lines_with_terminator() {
+        number += 1;
+        let line = read_line(alloc, bytes)?;
+        progress = progress.after(alloc, number, line, &mut placed)?;
+    }
+    match progress {
+        Progress::Outside => Ok(placed),
+        Progress::Inside(block) => Err(ScriptError::BadLine { line: block.line }),
+        Progress::Broken { begun, .. } => Err(ScriptError::BadLine { line: begun }),
+    }
 }

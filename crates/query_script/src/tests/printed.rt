@@ -1,0 +1,120 @@
+// Printed texts, written down by hand.
+use crate::{print_game, print_hits, print_import, print_no_game, print_until, print_wait};
+use continuation_table::Table;
+use kb_geometry::{Colour, Label, Outcome};
+use pattern_images::{Hit, Next, Place};
+use std::alloc::Global;
+use std::process::Abort;
+use std::test::Fail;
+
+// A colour, a column, a row, and whether it is the next move.
+type Going = Option<(Colour, u8, u8, bool)>;
+
+const FIRST: &str = "before\n";
+
+// A text to which others are appended.
+fn begun(alloc: Global) -> Result<Vec<u8>, Fail> {
+    let mut out = Vec::new(alloc);
+    out.extend_from_slice(FIRST.as_bytes())?;
+    Ok(out)
+}
+
+// A hit of a game and a node, at a column and a row under a label.
+fn hit(
+    rt: &impl Abort,
+    game: u32,
+    node: u32,
+    at: (u8, u8, u8),
+    outcome: Outcome,
+    next: Going,
+) -> Hit {
+    let (x, y, label) = at;
+    Hit {
+        game,
+        node,
+        place: Place {
+            x,
+            y,
+            cols: 1,
+            rows: 1,
+            label: Label::new(label).expect(rt, "a label"),
+        },
+        moves: 9,
+        outcome,
+        next: next.map(|(colour, x, y, now)| Next { colour, x, y, now }),
+    }
+}
+
+#[test]
+fn lines_of_statements_are_printed(rt: HostRuntime) -> Result<(), Fail> {
+    let mut out = begun(rt.alloc())?;
+    print_import(1, "my games", &mut out)?;
+    print_import(4294967295, "\u{e9}", &mut out)?;
+    print_wait(2, 0, &mut out)?;
+    print_wait(3, 18446744073709551615, &mut out)?;
+    print_until(4, 5, 6, &mut out)?;
+    print_until(7, 4294967295, 10000000000, &mut out)?;
+    print_game(8, 9, 10, 11, "a b.sgf", &mut out)?;
+    print_game(12, 4294967295, 13, 65535, "c", &mut out)?;
+    print_no_game(14, 15, 16, &mut out)?;
+    let wanted =
+        "before\n1 import my games\n4294967295 import \u{e9}\n2 wait version 0\n3 wait version 18446744073709551615\n4 until 5 version 6\n7 until 4294967295 version 10000000000\n8 game 9 version 10 place 11 file a b.sgf\n12 game 4294967295 version 13 place 65535 file c\n14 game 15 version 16 none\n";
+    assert_eq!(rt; out.as_slice(), wanted.as_bytes());
+    Ok(())
+}
+
+#[test]
+fn a_search_without_hits_is_printed(rt: HostRuntime) -> Result<(), Fail> {
+    let mut out = begun(rt.alloc())?;
+    let table = Table::of(rt.alloc(), &[])?;
+    print_hits(3, 0, 0, &[], &table, &mut out)?;
+    let wanted = "before\n3 search version 0 games 0 hits 0\ntotal 0 0 0 0 0 0\n";
+    assert_eq!(rt; out.as_slice(), wanted.as_bytes());
+    Ok(())
+}
+
+#[test]
+fn a_search_with_hits_is_printed(rt: HostRuntime) -> Result<(), Fail> {
+    let mut out = begun(rt.alloc())?;
+    let hits = [
+        hit(&rt, 0, 0, (0, 0, 0), Outcome::Black, None),
+        hit(
+            &rt,
+            1,
+            7,
+            (3, 4, 12),
+            Outcome::White,
+            Some((Colour::Black, 1, 0, true)),
+        ),
+        hit(
+            &rt,
+            2,
+            10,
+            (18, 0, 15),
+            Outcome::Draw,
+            Some((Colour::White, 18, 2, false)),
+        ),
+        hit(
+            &rt,
+            4294967295,
+            65535,
+            (5, 18, 1),
+            Outcome::Black,
+            Some((Colour::Black, 1, 0, false)),
+        ),
+        hit(&rt, 4294967295, 65535, (6, 18, 8), Outcome::Black, None),
+    ];
+    let table = Table::of(rt.alloc(), hits.as_slice())?;
+    print_hits(
+        4294967295,
+        18446744073709551615,
+        4294967295,
+        hits.as_slice(),
+        &table,
+        &mut out,
+    )?;
+    let wanted =
+        "before\n4294967295 search version 18446744073709551615 games 4294967295 hits 5\nhit 0 0 0 0 0 -\nhit 1 7 3 4 12 B 1 0 now\nhit 2 10 18 0 15 W 18 2 later\nhit 4294967295 65535 5 18 1 B 1 0 later\nhit 4294967295 65535 6 18 8 -\nrow B 1 0 2 1 1 2 0 0\nrow W 18 2 1 0 1 0 0 1\ntotal 5 1 2 3 1 1\n";
+    assert_eq!(rt; out.as_slice(), wanted.as_bytes());
+    Ok(())
+}
