@@ -1,6 +1,13 @@
-mod FirstWords
 mod Faults
-mod TextLines
+mod FirstWords
+pub mod LineStatements
+pub mod LineWords
+pub mod Numbers
+pub mod PatternWords
 mod PlacedLists
-mod ReadOutside
+pub mod Quoted
 mod ReadInside
+mod ReadOutside
+pub mod SearchBodies
+pub mod SearchWords
+mod TextLines

@@ -6,12 +6,16 @@
 #![tactic(auto)]
 
 mod line;
+mod number;
 mod print;
 mod progress;
 mod script;
 mod search_text;
+mod search_words;
 mod statement;
+mod statements;
 mod word;
+mod words;
 
 pub use print::{print_game, print_import, print_no_game, print_until, print_wait};
 pub use script::read_script;

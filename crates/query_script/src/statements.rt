@@ -1,0 +1,120 @@
+// The statements that take one line, from the words of a line.
+ghost use Rattle.std.specs.Prelude.{◌≡◌, ◌≢◌, ◌≤◌, ◌↔◌, ℕ, List, [], ◌∷◌, Option, None, codes, IfOk, IfSome, IfNone, IsTrue};
+ghost use Rattle.pattern_images.specs.declared.query.Query.{Query};
+ghost use Rattle.query_script.specs.declared.statement.Statement.{Statement};
+ghost use Rattle.query_script.specs.declared.statement.Statement.TheVariants as statement;
+ghost use Rattle.query_script.specs.declared.word.Word.{Word};
+ghost use Rattle.query_script.specs.Statements.{IsPath, IsStatement, most_number};
+ghost use Rattle.query_script.specs.Words.{IsNumber, bare};
+
+use crate::number::number_up_to;
+use crate::search_words::{behind_name, query_of};
+use crate::statement::Statement;
+use crate::word::Word;
+use kb_geometry::{NoMemory, Text};
+use pattern_images::Query;
+use std::alloc::Global;
+
+// The statement that the words spell, if they spell one that takes one line. The only error is `NoMemory`.
+pub(crate) fn statement_of(alloc: Global, words: &[Word]) -> Result<Option<Statement>, NoMemory>
+    ensures some { IfOk result (λ found. IfSome found (λ s. IsStatement words.now s)) }
+    ensures none { IfOk result (λ found. IfNone found ((s : Statement) → ¬ IsStatement words.now s)) }
+{
+    if let Some(path) = import_of(alloc, words)? {
+        return Ok(Some(Statement::Import { path }));
+    }
+    if is_name(words, b"wait") {
+        return Ok(Some(Statement::Wait));
+    }
+    if let Some(number) = until_of(words) {
+        return Ok(Some(Statement::Until { number }));
+    }
+    if let Some(query) = search_of(alloc, words)? {
+        return Ok(Some(Statement::Search { query }));
+    }
+    if let Some(number) = game_of(words) {
+        return Ok(Some(Statement::Game { number }));
+    }
+    Ok(None)
+}
+
+// The path of `import PATH`. The only error is `NoMemory`.
+fn import_of(alloc: Global, words: &[Word]) -> Result<Option<Text>, NoMemory>
+    ensures some { IfOk result (λ found. IfSome found (λ path. IsStatement words.now (statement.Import path))) }
+    ensures none { IfOk result (λ found. IfNone found ((path : List ℕ) → ¬ IsStatement words.now (statement.Import path))) }
+{
+    let Some(word) = only_word_behind(words, b"import") else {
+        return Ok(None);
+    };
+    path_of(alloc, word)
+}
+
+// The path that a word spells. The only error is `NoMemory`.
+fn path_of(alloc: Global, word: &Word) -> Result<Option<Text>, NoMemory>
+    ensures some { IfOk result (λ found. IfSome found (λ path. IsPath word.now path)) }
+    ensures none { IfOk result (λ found. IfNone found ((path : List ℕ) → ¬ IsPath word.now path)) }
+{
+    let bytes = word.bytes();
+    if bytes.is_empty() {
+        return Ok(None);
+    }
+    match std::str::from_utf8(bytes) {
+        Ok(path) => Ok(Some(Text::new(String::from_str(alloc, path)?))),
+        Err(_) => Ok(None),
+    }
+}
+
+// The number of `until K`.
+fn until_of(words: &[Word]) -> Option<u64>
+    ensures some { IfSome result (λ number. IsStatement words.now (statement.Until number)) }
+    ensures none { result ≡ None → (number : ℕ) → ¬ IsStatement words.now (statement.Until number) }
+{
+    let word = only_word_behind(words, b"until")?;
+    number_up_to(word, u64::from(u32::MAX))
+}
+
+// The query of `search ..`. The only error is `NoMemory`.
+fn search_of(alloc: Global, words: &[Word]) -> Result<Option<Query>, NoMemory>
+    ensures some { IfOk result (λ found. IfSome found (λ query. IsStatement words.now (statement.Search query))) }
+    ensures none { IfOk result (λ found. IfNone found ((query : Query) → ¬ IsStatement words.now (statement.Search query))) }
+{
+    let Some(rest) = behind_name(words, b"search") else {
+        return Ok(None);
+    };
+    query_of(alloc, rest)
+}
+
+// The number of `game N`.
+fn game_of(words: &[Word]) -> Option<u32>
+    ensures some { IfSome result (λ number. IsStatement words.now (statement.Game number)) }
+    ensures none { result ≡ None → (number : ℕ) → ¬ IsStatement words.now (statement.Game number) }
+{
+    let word = only_word_behind(words, b"game")?;
+    let number = number_up_to(word, u64::from(u32::MAX))?;
+    Some(number as u32)
+}
+
+// The only word behind this bare word, if the words are these two.
+fn only_word_behind<'a>(words: &'a [Word], name: &[u8]) -> Option<&'a Word>
+    ensures some { IfSome result (λ word. words.now ≡ bare name.now ∷ word.now ∷ []) }
+    ensures none { result ≡ None → (word : Word) → words.now ≢ bare name.now ∷ word ∷ [] }
+{
+    let [first, word] = words else {
+        return None;
+    };
+    if first.is_bare(name) {
+        Some(word)
+    } else {
+        None
+    }
+}
+
+// Whether this bare word is the only one.
+pub(crate) fn is_name(words: &[Word], name: &[u8]) -> bool
+    ensures { IsTrue result ↔ (words.now ≡ bare name.now ∷ []) }
+{
+    match words {
+        [word] => word.is_bare(name),
+        _ => false,
+    }
+}
