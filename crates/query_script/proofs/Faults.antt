@@ -1,5 +1,5 @@
 -- Which lines of a script are bad, as far as it is read.
-use Rattle.std.proofs.Common.{◌≡◌, ◌⊎◌, ⊎_elim, inl, inr, ℕ, ◌+◌, ◌<◌, ◌≤◌, List, [], ◌∷◌, length, get_or, Result, Ok, Err, refl, ap, arith}
+use Rattle.std.proofs.Common.{◌≡◌, ◌⊎◌, ⊎_elim, inl, inr, ℕ, ◌+◌, ◌<◌, ◌≤◌, List, [], ◌∷◌, length, get_or, refl, ap, arith}
 use Rattle.std.proofs.Math.Nat.{eq-or-lt_of_le}
 use Rattle.std.proofs.lemmas.Bool.{cases_lt, cases_order}
 use Rattle.std.proofs.lemmas.List.{get_or_past}
@@ -11,8 +11,6 @@ use Rattle.query_script.specs.Statements.{Spells, SpellsEnd, SpellsSearch, Spell
 use Rattle.query_script.specs.declared.line.Line.{Line}
 use Rattle.query_script.specs.declared.line.Line.TheVariants as line
 use Rattle.query_script.specs.declared.statement.Placed.{Placed}
-use Rattle.query_script.specs.declared.statement.ScriptError.{ScriptError}
-use Rattle.query_script.specs.declared.statement.ScriptError.TheVariants as error
 use Rattle.query_script.specs.declared.statement.Statement.{Statement}
 use Rattle.query_script.specs.declared.statement.Statement.TheVariants as statement
 use Rattle.query_script.proofs.FirstWords.{no_word, one_first_word}
@@ -135,15 +133,3 @@ no_other_end line.Together h other = h.2
 no_other_end line.End h other = absurd (other refl)
 no_other_end (line.Statement s) h other = h.3
 no_other_end line.Bad h other = h.2
-
--- an error names one line
-pub same_bad_line : {T : Type 0} {a k : ℕ} → ◌≡◌ {A = Result T ScriptError} (Err (error.BadLine a)) (Err (error.BadLine k)) → a ≡ k
-same_bad_line e = cc
-
--- what is read is no error
-pub no_error : {T E X : Type 0} {x : T} {e : E} → ◌≡◌ {A = Result T E} (Ok x) (Err e) → X
-no_error e = cc
-
--- two results with one error have the same error
-pub same_error : {T E : Type 0} {x y : E} → ◌≡◌ {A = Result T E} (Err x) (Err y) → x ≡ y
-same_error e = cc

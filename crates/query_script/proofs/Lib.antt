@@ -1,13 +1,14 @@
-mod Faults
+mod Errors
 mod FirstWords
-pub mod LineStatements
+mod Faults
+mod TextLines
+mod PlacedLists
+mod ReadOutside
+mod ReadInside
+pub mod Quoted
 pub mod LineWords
 pub mod Numbers
-pub mod PatternWords
-mod PlacedLists
-pub mod Quoted
-mod ReadInside
-mod ReadOutside
-pub mod SearchBodies
 pub mod SearchWords
-mod TextLines
+pub mod PatternWords
+pub mod SearchBodies
+pub mod LineStatements

@@ -1,17 +1,16 @@
 -- What the words of a line spell, and what a line is.
-use Rattle.std.proofs.Common.{◌≡◌, ◌≢◌, ◌⊎◌, ◌++◌, ◌∙◌, ◌↔◌, ℕ, List, [], ◌∷◌, Option, Some, None, Result, Ok, Err, IfOk, IfNone, IsTrue, codes, refl, sym, ap, subst, inl, inr, arith}
+use Rattle.std.proofs.Common.{◌≡◌, ◌≢◌, ◌∙◌, ℕ, List, [], ◌∷◌, Option, Some, None, Result, Ok, Err, IfOk, IfNone, codes, refl, sym, subst, inl, inr, arith}
 use Rattle.pattern_images.specs.declared.query.Query.{Query}
 use Rattle.query_script.specs.declared.line.Line.TheVariants as line
 use Rattle.query_script.specs.declared.statement.Statement.{Statement}
 use Rattle.query_script.specs.declared.statement.Statement.TheVariants as statement
 use Rattle.query_script.specs.declared.word.Word.{Word}
-use Rattle.query_script.specs.declared.word.Word.TheVariants as word
-use Rattle.query_script.specs.Lines.{IsLine, SpellsNone}
+use Rattle.query_script.specs.Lines.{IsLine}
 use Rattle.query_script.specs.Reading.{BeginsWithNoBlank}
 use Rattle.query_script.specs.Script.{IsSearch}
 use Rattle.query_script.specs.Search.{IsBody}
-use Rattle.query_script.specs.Statements.{IsRemark, IsSkipped, IsStatement, Spells, SpellsEnd, SpellsTogether}
-use Rattle.query_script.specs.Words.{AreWords, IsBlank, bare}
+use Rattle.query_script.specs.Statements.{IsRemark, IsSkipped, IsStatement, Spells}
+use Rattle.query_script.specs.Words.{AreWords, bare}
 use Rattle.query_script.proofs.LineWords.{AreWords-once, IsBehindBlanks, behind_blanks-once, remark-begins, skipped_words}
 
 -- ---- the statements that words spell

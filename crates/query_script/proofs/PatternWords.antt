@@ -1,14 +1,14 @@
 -- The word of a pattern: its bytes are ASCII and no letters of an option's name.
-use Rattle.std.proofs.Common.{◌≡◌, ◌<◌, ◌≤◌, ◌∙◌, ℕ, List, [], ◌∷◌, get_or, length, refl, sym, ap, subst, inl, inr, arith}
+use Rattle.std.proofs.Common.{◌≡◌, ◌<◌, ◌≤◌, ◌∙◌, ℕ, List, [], ◌∷◌, get_or, length, sym, subst, inl, inr, arith}
 use Rattle.std.proofs.lemmas.Bool.{cases_lt, ne_eqb}
 use Rattle.std.proofs.lemmas.List.{get_or_past}
 use Rattle.std.proofs.lemmas.Str.{IsUtf8-from_ascii}
-use Rattle.std.specs.Str.{IsAscii, IsUtf8}
+use Rattle.std.specs.Str.{IsUtf8}
 use Rattle.pattern_images.specs.declared.cell.PatternCell.{PatternCell}
 use Rattle.pattern_images.specs.declared.pattern.Pattern.{Pattern}
 use Rattle.pattern_images.specs.Grid.{Grid}
 use Rattle.pattern_images.specs.Pattern.{grid_of}
-use Rattle.pattern_syntax.specs.Faults.{HasFault, IsFirstFault, IsPatternByte}
+use Rattle.pattern_syntax.specs.Faults.{IsFirstFault, IsPatternByte}
 use Rattle.pattern_syntax.specs.Faults.HasFault.{unknown_byte}
 use Rattle.pattern_syntax.specs.Text.{Spells, cell_byte}
 use Rattle.pattern_syntax.proofs.Bytes.{each_cell}

@@ -1,5 +1,5 @@
 -- The options of a search: what their words say, and that they say one thing only.
-use Rattle.std.proofs.Common.{◌≡◌, ◌≢◌, ◌≤◌, ◌<◌, ◌⊎◌, ◌++◌, ◌∙◌, ℕ, List, [], ◌∷◌, Option, Some, None, codes, refl, sym, ap, subst, inl, inr, arith}
+use Rattle.std.proofs.Common.{◌≡◌, ◌≤◌, ◌++◌, ◌∙◌, ℕ, List, [], ◌∷◌, Option, Some, None, codes, refl, sym, ap, subst, arith}
 use Rattle.kb_geometry.specs.declared.shape.Rect.{Rect}
 use Rattle.kb_geometry.specs.declared.shape.Shape.{Shape}
 use Rattle.kb_geometry.specs.Board.{cols_of, rows_of}
@@ -7,7 +7,7 @@ use Rattle.kb_geometry.proofs.Shapes.{shape_same}
 use Rattle.query_script.specs.declared.search_words.Moves.{Moves}
 use Rattle.query_script.specs.declared.word.Word.{Word}
 use Rattle.query_script.specs.Reading.{AreMovesOf, AreParted, BeginsOtherwise, IsPointAt}
-use Rattle.query_script.specs.Search.{AreMoves, IsAt, IsBoard, IsCoordinate, most_moves, rect}
+use Rattle.query_script.specs.Search.{IsAt, IsBoard, most_moves, rect}
 use Rattle.query_script.specs.Search.IsAt.{not_given as no_place, one_point, rectangle}
 use Rattle.query_script.specs.Search.AreMoves.{given, not_given as no_moves}
 use Rattle.query_script.specs.Words.{IsNumber, bare}

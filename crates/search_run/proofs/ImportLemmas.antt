@@ -1,20 +1,22 @@
 -- Reading the files of an import.
-use Rattle.std.proofs.Common.{◌≡◌, ℕ, Bool, true, false, cond, ◌||◌, List, [], ◌∷◌, ◌++◌, Option, Some, None, refl, sym, ◌∙◌, ap, subst, arith, take, map, length, length-append, get_or, ◌<◌, ◌+◌, ◌≤◌, ◌⊎◌, inl, inr}
+use Rattle.std.proofs.Common.{◌≡◌, ℕ, Bool, true, false, cond, ◌||◌, List, [], ◌∷◌, ◌++◌, Option, Some, None, refl, sym, ◌∙◌, ap, subst, arith, take, map, length, length-append, append_assoc, get_or, ◌<◌, ◌+◌, ◌≤◌, ◌⊎◌, ⊎_elim, inl, inr}
 use Rattle.std.specs.Prelude.{All, AllPairs, Contains, IsSome, String, find, string_bytes}
 use Rattle.std.specs.declared.alloc.Global.{Global}
 use Rattle.std.specs.List.{list_any}
 use Rattle.std.specs.Option.{option_map}
-use Rattle.std.proofs.lemmas.Bool.{false≢true}
+use Rattle.std.proofs.lemmas.Bool.{cases_lt, false≢true}
 use Rattle.std.proofs.lemmas.List.{append-nil, get_or-map, length-map, map_more, map_push}
 use Rattle.std.specs.Cmp.Lexicographic.{slice_cmp}
 use Rattle.std.specs.Ordering.{nat_cmp}
 use Rattle.std.specs.declared.cmp.Ordering.TheVariants.{Less}
-use Rattle.std.proofs.lemmas.List.Elements.{Contains-get_or}
+use Rattle.std.proofs.lemmas.List.Elements.{All-append, All-cons, Contains-get_or}
 use Rattle.kb_edges.specs.Files.{File, HasFile, HasPath, IsListing, content_of}
 use Rattle.kb_edges.specs.Told.{IfTold}
 use Rattle.kb_edges.specs.Faults.{Rose, RoseBy}
 use Rattle.game_tree.specs.Tree.{Tree}
-use Rattle.search_run.specs.Course.{AreNames, FileReport, Files, ImportCourse, IsContent, IsImported, losses_of, not_read, nothing, read}
+use Rattle.session_core.specs.Games.{Game, HasItsChanges, game_of, games_of}
+use Rattle.session_core.specs.declared.stored.Stored.{Stored}
+use Rattle.search_run.specs.Course.{AreNames, FileReport, Files, ImportCourse, IsContent, IsImported, games_from, losses_of, not_read, nothing, read, trees_in}
 use Rattle.search_run.specs.Reads.{HasReadAll, IsOneMoreRead, file_reports}
 use Rattle.search_run.specs.declared.import.ImportedFile.{ImportedFile}
 use Rattle.search_run.specs.declared.import.TheConstants.{MAX_NAMES}
@@ -63,14 +65,14 @@ pub reports_push : (all more : List ImportedFile) (f : ImportedFile) (name : Lis
 reports_push all more f name pushed named =
     ap file_reports pushed ∙ map_push _ all f ∙ ap (λ n. file_reports all ++ record { name = n; outcome = f.outcome } ∷ []) named
 
-module _ (files : List File) (path name : List ℕ) (before now : ℕ) (counts : Counts) (reports : List FileReport) (trees : List Tree) (outcome : FileOutcome) (more_trees : List Tree) where
+module _ (files : List File) (path name : List ℕ) (before now : ℕ) (counts : Counts) (reports : List FileReport) (games : List Game) (outcome : FileOutcome) (more_games : List Game) where
   -- a file more is read
-  pub one_more-read : (games : List Tree) → (bytes : List ℕ) × IsContent files path name bytes × IsOutcome bytes counts outcome games → before ≤ now → more_trees ≡ trees ++ games → IsOneMoreRead files path name before now counts reports trees (reports ++ record { name = name; outcome = outcome } ∷ []) more_trees
-  one_more-read games h later pushed = λ base unread is so_far.
-      rw pushed ([], rw append-nil (read name h.0 outcome games so_far h.1 (rw is at h.2)), rose_by_none before now later, names_push reports name outcome)
+  pub one_more-read : (trees : List Tree) → (bytes : List ℕ) × IsContent files path name bytes × IsOutcome bytes counts outcome trees → before ≤ now → more_games ≡ games ++ games_from name 0 trees → IsOneMoreRead files path name before now counts reports games (reports ++ record { name = name; outcome = outcome } ∷ []) more_games
+  one_more-read trees h later pushed = λ base unread is so_far.
+      rw pushed ([], rw append-nil (read name h.0 outcome trees so_far h.1 (rw is at h.2)), rose_by_none before now later, names_push reports name outcome)
 
   -- a file more was not read
-  pub one_more-not_read : Rose before now → outcome ≡ file.Unread → more_trees ≡ trees → IsOneMoreRead files path name before now counts reports trees (reports ++ record { name = name; outcome = outcome } ∷ []) more_trees
+  pub one_more-not_read : Rose before now → outcome ≡ file.Unread → more_games ≡ games → IsOneMoreRead files path name before now counts reports games (reports ++ record { name = name; outcome = outcome } ∷ []) more_games
   one_more-not_read rose is same = λ base unread so_far_is so_far.
       rw (is, same) (name ∷ [], not_read name so_far, rose, names_push reports name file.Unread)
 
@@ -79,8 +81,8 @@ pub HasReadAll-start : (files : List File) (path : List ℕ) (base : Counts) (co
 HasReadAll-start files path base count = record { unread = []; read = nothing; named = refl; lost = omega arith }
 
 -- one file more is read
-pub HasReadAll-more : (files : List File) (path : List ℕ) (base counts : Counts) (names : List (List ℕ)) (name : List ℕ) (before between now : ℕ) (reports more_reports : List FileReport) (trees more_trees : List Tree) → counts ≡ with_games base trees → HasReadAll files path base names before between reports trees → IsOneMoreRead files path name between now counts reports trees more_reports more_trees → HasReadAll files path base (names ++ name ∷ []) before now more_reports more_trees
-HasReadAll-more files path base counts names name before between now reports more_reports trees more_trees is h more =
+pub HasReadAll-more : (files : List File) (path : List ℕ) (base counts : Counts) (names : List (List ℕ)) (name : List ℕ) (before between now : ℕ) (reports more_reports : List FileReport) (games more_games : List Game) → counts ≡ with_games base (trees_in games) → HasReadAll files path base names before between reports games → IsOneMoreRead files path name between now counts reports games more_reports more_games → HasReadAll files path base (names ++ name ∷ []) before now more_reports more_games
+HasReadAll-more files path base counts names name before between now reports more_reports games more_games is h more =
     let next = more base h.unread is h.read in
     record {
       unread = h.unread ++ next.0;
@@ -88,6 +90,35 @@ HasReadAll-more files path base counts names name before between now reports mor
       named = next.3 ∙ ap (λ ns. ns ++ name ∷ []) h.named;
       lost = rw length-append (RoseBy-then (length h.unread) (length next.0) before between now h.lost next.2);
     }
+
+-- the games of a file, and of one tree more
+pub games_from-push : (name : List ℕ) (place : ℕ) (trees : List Tree) (tree : Tree) → games_from name place (trees ++ tree ∷ []) ≡ games_from name place trees ++ record { file = name; place = place + length trees; tree = tree } ∷ []
+games_from-push name place [] tree = ap (λ n. record { file = name; place = n; tree = tree } ∷ []) (omega arith)
+games_from-push name place (first ∷ trees) tree =
+    let placed : place + 1 + length trees ≡ place + length (first ∷ trees) = omega arith in
+    ap (λ gs. record { file = name; place = place; tree = first } ∷ gs)
+    (games_from-push name (place + 1) trees tree ∙ ap (λ n. games_from name (place + 1) trees ++ record { file = name; place = n; tree = tree } ∷ []) placed)
+
+-- a game that is stored under this name and place
+game_of-is : (name : List ℕ) (place : ℕ) (s : Stored) → string_bytes s.file ≡ name → s.place ≡ place → game_of s ≡ record { file = name; place = place; tree = s.tree }
+game_of-is name place s named placed =
+    ap (λ n. record { file = n; place = s.place; tree = s.tree }) named ∙ ap (λ n. record { file = name; place = n; tree = s.tree }) placed
+
+-- one game more is stored
+pub stored_more : (name : List ℕ) (trees : List Tree) (before stored more : List Stored) (s : Stored) → games_of stored ≡ games_of before ++ games_from name 0 trees → more ≡ stored ++ s ∷ [] → string_bytes s.file ≡ name → s.place ≡ length trees → games_of more ≡ games_of before ++ games_from name 0 (trees ++ s.tree ∷ [])
+stored_more name trees before stored more s so_far pushed named placed =
+    let last : List Game = record { file = name; place = length trees; tree = s.tree } ∷ [] in
+    let from_none : 0 + length trees ≡ length trees = omega arith in
+    let pieces : games_from name 0 (trees ++ s.tree ∷ []) ≡ games_from name 0 trees ++ last = games_from-push name 0 trees s.tree ∙ ap (λ n. games_from name 0 trees ++ record { file = name; place = n; tree = s.tree } ∷ []) from_none in
+    ap games_of pushed ∙ map_push game_of stored s
+    ∙ ap (λ gs. gs ++ game_of s ∷ []) so_far
+    ∙ ap (λ g. (games_of before ++ games_from name 0 trees) ++ g ∷ []) (game_of-is name (length trees) s named placed)
+    ∙ append_assoc (games_of before) (games_from name 0 trees) last
+    ∙ ap (λ gs. games_of before ++ gs) (sym pieces)
+
+-- one game more is stored with its changes
+pub changes_more : (stored more : List Stored) (s : Stored) → All HasItsChanges stored → HasItsChanges s → more ≡ stored ++ s ∷ [] → All HasItsChanges more
+changes_more stored more s each last pushed = rw pushed (All-append HasItsChanges stored (s ∷ []) each (All-cons HasItsChanges s [] last (λ k d below. absurd (omega arith))))
 
 -- the name of each place is a file's
 pub name_there : (files : List File) (path : List ℕ) (names : List (String Global)) (i : ℕ) (name : String Global) → All (HasFile files path) (map string_bytes names) → i < length names → name ≡ get_or names i name → HasFile files path (string_bytes name)
@@ -110,6 +141,10 @@ AreNames-from_listing files path listed names h kept none_added ascending = reco
 pub AreNames-there : (files : List File) (path : List ℕ) (names : List (List ℕ)) → AreNames files path names → All (HasFile files path) names
 AreNames-there files path names h k d below = ((h.each (get_or names k d)).0 (Contains-get_or names k d below)).0
 
+-- there are not too many names, as the test says
+pub no_more_names : (are_too_many : Bool) (names : List (String Global)) → (MAX_NAMES < length names → are_too_many ≡ true) → are_too_many ≡ false → length names ≤ MAX_NAMES
+no_more_names are_too_many names test none = ⊎_elim (λ many. absurd (false≢true (sym none ∙ test many))) (λ few. few) (cases_lt MAX_NAMES (length names))
+
 -- the losses of one entry
 one_loss : (n before now : ℕ) → RoseBy n before now → RoseBy (0 + (0 + n)) before now
 one_loss n before now h = omega arith
@@ -119,8 +154,8 @@ RoseBy-earlier : (n before between now : ℕ) → before ≤ between → RoseBy 
 RoseBy-earlier n before between now later rose = omega arith
 
 -- an import of these names, whose files are read
-pub IsImported-read : (files : List File) (path : List ℕ) (base : Counts) (names : List (String Global)) (before between now : ℕ) (reports : List FileReport) (trees : List Tree) → before ≤ between → HasPath files path → AreNames files path (map string_bytes names) → length names ≤ MAX_NAMES → HasReadAll files path base (map string_bytes names) between now reports trees → (entry : ImportCourse) × IsImported files path base entry (Files reports trees) × RoseBy (losses_of (entry ∷ [])) before now
-IsImported-read files path base names before between now reports trees later there are few h =
+pub IsImported-read : (files : List File) (path : List ℕ) (base : Counts) (names : List (String Global)) (before between now : ℕ) (reports : List FileReport) (games : List Game) → before ≤ between → HasPath files path → AreNames files path (map string_bytes names) → length names ≤ MAX_NAMES → HasReadAll files path base (map string_bytes names) between now reports games → (entry : ImportCourse) × IsImported files path base entry (Files reports games) × RoseBy (losses_of (entry ∷ [])) before now
+IsImported-read files path base names before between now reports games later there are few h =
     let counted : length reports ≡ length names = sym (length-map reports (λ (f : FileReport). f.name)) ∙ ap length h.named ∙ length-map names string_bytes in
     (record { unlisted = false; unread = h.unread }, (there, rw h.named are, rw counted few, h.read, refl), one_loss (length h.unread) before now (RoseBy-earlier (length h.unread) before between now later h.lost))
 

@@ -1,10 +1,6 @@
-mod GameLemmas
 mod ImportLemmas
-mod LineLemmas
 mod PrintLemmas
 mod ReadLemmas
+mod RoomLemmas
 mod RunLemmas
 mod ScriptLemmas
-mod SearchLemmas
-mod SimpleLemmas
-mod RoomLemmas

@@ -1,9 +1,7 @@
 -- The counts of a base.
 use Rattle.std.proofs.Common.{◌≡◌, ◌≢◌, ◌⊎◌, inl, inr, suc, ℕ, ◌+◌, ◌<◌, ◌≤◌, List, [], ◌∷◌, ◌++◌, length, length-append, get_or, take, refl, sym, ◌∙◌, ap, arith}
-use Rattle.std.specs.Prelude.{All}
 use Rattle.std.specs.List.{AllZip}
-use Rattle.std.proofs.lemmas.List.{length-map, take_more}
-use Rattle.std.proofs.lemmas.List.Elements.{All-append}
+use Rattle.std.proofs.lemmas.List.{length-map, map-append, take_more}
 use Rattle.std.proofs.lemmas.List.Sums.{sum_by-append}
 use Rattle.game_tree.specs.Tree.{Tree, node_count}
 use Rattle.search_run.specs.declared.outcome.Counts.{Counts}
@@ -15,9 +13,11 @@ use Rattle.sgf_reader.specs.Faults.{IsRead}
 use Rattle.sgf_reader.specs.Grammar.{raw_game}
 use Rattle.sgf_reader.proofs.WithinLimits.{read-within_limits}
 use Rattle.game_tree.specs.Trees.{AreTreesOf, IsTreeOf}
-use Rattle.search_run.specs.Outcome.{HaveGames, IsOutcome, accepted, counts_of, full, games_after, nodes_after, nodes_of, not_yet, refused, with_games}
-use Rattle.search_run.specs.Rooms.{AddsSimple, AreAdded, IsAdded, IsAddedBy}
-use Rattle.search_run.specs.Simple.{IsSimple}
+use Rattle.search_run.specs.Outcome.{HaveGames, IsOutcome, accepted, counts_of, full, games_after, nodes_after, nodes_of, refused, with_games}
+use Rattle.search_run.specs.Rooms.{AddsGames, AreAdded, IsAdded, IsAddedBy}
+use Rattle.search_run.specs.Course.{games_from, trees_in}
+use Rattle.search_run.specs.Stores.{HasFewGames}
+use Rattle.session_core.specs.Games.{Game}
 
 -- the nodes of one game more
 pub nodes_of-more : (trees : List Tree) (i : ℕ) (tree : Tree) → i < length trees → tree ≡ get_or trees i tree → nodes_of (take (i + 1) trees) ≡ nodes_of (take i trees) + node_count tree
@@ -46,32 +46,46 @@ with_games-none before =
 
 -- no game is added
 pub AreAdded-none : (before : Counts) → AreAdded before before []
-AreAdded-none before = (sym (with_games-none before), λ k d below. absurd (omega arith))
+AreAdded-none before = sym (with_games-none before)
+
+trees_in-append : (games more : List Game) → trees_in (games ++ more) ≡ trees_in games ++ trees_in more
+trees_in-append games more = map-append (λ (game : Game). game.tree) games more
 
 -- more games are added
-pub AreAdded-more : (before between after : Counts) (trees more : List Tree) → AreAdded before between trees → AddsSimple between after trees more → AreAdded before after more
-AreAdded-more before between after trees more h adds =
-    rw adds.pushed (adds.counted ∙ ap (λ (c : Counts). with_games c adds.added) h.0 ∙ with_games-append before trees adds.added, All-append IsSimple trees adds.added h.1 adds.simple)
+pub AreAdded-more : (before between after : Counts) (games more : List Game) → AreAdded before between (trees_in games) → AddsGames between after games more → AreAdded before after (trees_in more)
+AreAdded-more before between after games more h adds =
+    rw (adds.pushed, trees_in-append games adds.added)
+    (adds.counted ∙ ap (λ (c : Counts). with_games c (trees_in adds.added)) h ∙ with_games-append before (trees_in games) (trees_in adds.added))
+
+-- the trees of a file's games
+pub trees_in-games_from : (name : List ℕ) (place : ℕ) (trees : List Tree) → trees_in (games_from name place trees) ≡ trees
+trees_in-games_from name place [] = refl
+trees_in-games_from name place (tree ∷ trees) = ap (λ ts. tree ∷ ts) (trees_in-games_from name (place + 1) trees)
 
 -- what an outcome adds
 pub IsAdded-outcome : (bytes : List ℕ) (before : Counts) (outcome : FileOutcome) (trees : List Tree) → IsOutcome bytes before outcome trees → IsAdded before outcome trees
 IsAdded-outcome bytes before (file.Refused _ _) _ (refused h) = refl
-IsAdded-outcome bytes before file.NotYet _ (not_yet trees have simple) = refl
-IsAdded-outcome bytes before (file.Full _ _) _ (full trees have simple room) = refl
-IsAdded-outcome bytes before (file.Accepted _) _ (accepted have simple room) = (refl, room, simple)
+IsAdded-outcome bytes before (file.Full _ _) _ (full trees have room) = refl
+IsAdded-outcome bytes before (file.Accepted _) _ (accepted have room) = (refl, room)
 IsAdded-outcome bytes before file.Unread trees h = elim h [ ]
 
 -- the counts without a game more
 pub with_games-is : (before : Counts) (trees : List Tree) → trees ≡ [] → before ≡ with_games before trees
 with_games-is before trees none = rw none (sym (with_games-none before))
 
--- what is added is simple
-pub All-added : (before : Counts) (outcome : FileOutcome) (trees : List Tree) → IsAdded before outcome trees → All IsSimple trees
-All-added before (file.Accepted games) trees h = h.2
-All-added before (file.Refused of at) trees h = rw h (λ k d below. absurd (omega arith))
-All-added before file.NotYet trees h = rw h (λ k d below. absurd (omega arith))
-All-added before (file.Full games nodes) trees h = rw h (λ k d below. absurd (omega arith))
-All-added before file.Unread trees h = rw h (λ k d below. absurd (omega arith))
+-- a base gets no more games than it may have
+pub HasFewGames-more : (before : Counts) (outcome : FileOutcome) (trees : List Tree) → HasFewGames before → IsAdded before outcome trees → HasFewGames (with_games before trees)
+HasFewGames-more before (file.Accepted games) trees few h = h.1.0
+HasFewGames-more before (file.Refused of at) trees few h = rw h (omega arith)
+HasFewGames-more before (file.Full games nodes) trees few h = rw h (omega arith)
+HasFewGames-more before file.Unread trees few h = rw h (omega arith)
+
+-- a file adds no more games than a base may have
+pub few_added : (before : Counts) (outcome : FileOutcome) (trees : List Tree) → IsAdded before outcome trees → length trees ≤ MAX_BASE_GAMES
+few_added before (file.Accepted games) trees h = omega (arith, h.1.0)
+few_added before (file.Refused of at) trees h = rw h (omega arith)
+few_added before (file.Full games nodes) trees h = rw h (omega arith)
+few_added before file.Unread trees h = rw h (omega arith)
 
 -- an unread file adds nothing
 pub unread_adds_none : (before : Counts) (outcome : FileOutcome) (trees : List Tree) → outcome ≡ file.Unread → IsAdded before outcome trees → trees ≡ []
@@ -80,16 +94,14 @@ unread_adds_none before outcome trees is h = rw is at h
 -- a file that was read isn't unread
 pub read-not_unread : (bytes : List ℕ) (before : Counts) (outcome : FileOutcome) (trees : List Tree) → IsOutcome bytes before outcome trees → outcome ≢ file.Unread
 read-not_unread bytes before (file.Refused _ _) _ (refused h) is = cc
-read-not_unread bytes before file.NotYet _ (not_yet trees have simple) is = cc
-read-not_unread bytes before (file.Full _ _) _ (full trees have simple room) is = cc
-read-not_unread bytes before (file.Accepted _) _ (accepted have simple room) is = cc
+read-not_unread bytes before (file.Full _ _) _ (full trees have room) is = cc
+read-not_unread bytes before (file.Accepted _) _ (accepted have room) is = cc
 read-not_unread bytes before file.Unread trees h is = elim h [ ]
 
 -- a file is unread or not
 pub cases_unread : (outcome : FileOutcome) → (outcome ≡ file.Unread) ⊎ (outcome ≢ file.Unread)
 cases_unread (file.Accepted games) = inr (λ is. cc)
 cases_unread (file.Refused of at) = inr (λ is. cc)
-cases_unread file.NotYet = inr (λ is. cc)
 cases_unread (file.Full games nodes) = inr (λ is. cc)
 cases_unread file.Unread = inl refl
 
@@ -106,10 +118,10 @@ pub accepted_is : (before : Counts) (trees : List Tree) (count games nodes : ℕ
 accepted_is before trees count games nodes count_is games_is nodes_is few small =
     rw count_is (IsAddedBy.accepted (omega (arith, few, games_is), omega (arith, small, nodes_is)))
 
--- what becomes of simple games
-pub IsOutcome-in_room : (bytes : List ℕ) (before : Counts) (trees : List Tree) (outcome : FileOutcome) (added : List Tree) → HaveGames bytes trees → All IsSimple trees → IsAddedBy before trees outcome added → IsOutcome bytes before outcome added
-IsOutcome-in_room bytes before trees _ _ have simple (IsAddedBy.full room) = full trees have simple room
-IsOutcome-in_room bytes before trees _ _ have simple (IsAddedBy.accepted room) = accepted have simple room
+-- what becomes of games without a fault
+pub IsOutcome-in_room : (bytes : List ℕ) (before : Counts) (trees : List Tree) (outcome : FileOutcome) (added : List Tree) → HaveGames bytes trees → IsAddedBy before trees outcome added → IsOutcome bytes before outcome added
+IsOutcome-in_room bytes before trees _ _ have (IsAddedBy.full room) = full trees have room
+IsOutcome-in_room bytes before trees _ _ have (IsAddedBy.accepted room) = accepted have room
 
 -- lists that fit each other are of one length
 length-AllZip : {A B : Type 0} (R : A → B → Type 0) (xs : List A) (ys : List B) → AllZip R xs ys → length xs ≡ length ys
@@ -133,7 +145,8 @@ counts_of-append trees more =
     let nodes : nodes_of trees + nodes_of more ≡ nodes_of (trees ++ more) = sym (nodes_of-append trees more) in
     cc
 
--- a base of simple games whose counts are known gets more of them
-pub counts_of-more : (before after : Counts) (trees found more : List Tree) → (before ≡ counts_of trees) × All IsSimple trees → AreAdded before after found → more ≡ trees ++ found → (after ≡ counts_of more) × All IsSimple more
-counts_of-more before after trees found more h added pushed =
-    rw pushed (added.0 ∙ ap (λ (c : Counts). with_games c found) h.0 ∙ counts_of-append trees found, All-append IsSimple trees found h.1 added.1)
+-- a base whose counts are known gets more games
+pub counts_of-more : (before after : Counts) (games found more : List Game) → before ≡ counts_of (trees_in games) → AreAdded before after (trees_in found) → more ≡ games ++ found → after ≡ counts_of (trees_in more)
+counts_of-more before after games found more h added pushed =
+    rw (pushed, trees_in-append games found)
+    (added ∙ ap (λ (c : Counts). with_games c (trees_in found)) h ∙ counts_of-append (trees_in games) (trees_in found))

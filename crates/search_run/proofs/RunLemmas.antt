@@ -8,9 +8,11 @@ use Rattle.kb_edges.specs.Faults.{RoseBy}
 use Rattle.kb_edges.specs.Files.{File}
 use Rattle.search_run.specs.Course.{ImportCourse, losses_of}
 use Rattle.search_run.specs.Run.{HasRun, WritesBegun, WritesLawful}
-use Rattle.search_run.specs.Session.{IsNextPrefix, State, at_start, nothing, one_more}
+use Rattle.search_run.specs.Lawful.{AreSearchTexts, IsNextPrefix, State, at_start, nothing, one_more}
 use Rattle.search_run.specs.Steps.{PassesStatement}
-use Rattle.search_run.specs.declared.statement.Placed.{Placed}
+use Rattle.session_core.specs.Answers.{IsSearchText}
+use Rattle.query_script.specs.declared.statement.Placed.{Placed}
+use Rattle.query_script.specs.declared.statement.PlacedSearch.{PlacedSearch}
 use Rattle.search_run.proofs.ImportLemmas.{RoseBy-then, rose_by_none}
 
 -- nothing is run yet
@@ -66,10 +68,16 @@ pub after_error : {T E : Type 0} (result : Result T E) (P : Type 0) → P → On
 after_error (Ok x) P h = tt
 after_error (Err e) P h = h
 
+-- the texts of the searches of a block, and of one search more
+pub AreSearchTexts-more : (s : State) (searches : List PlacedSearch) (p : PlacedSearch) (text more : List ℕ) → AreSearchTexts s searches text → IsSearchText p.line s.version s.games p.query more → AreSearchTexts s (searches ++ p ∷ []) (text ++ more)
+AreSearchTexts-more s [] p text more none is = (more, [], is, refl, ap (λ t. t ++ more) none ∙ sym (append-nil more))
+AreSearchTexts-more s (q ∷ searches) p text more h is =
+    (h.0, h.1 ++ more, h.2, AreSearchTexts-more s searches p h.1 more h.3 is, ap (λ t. t ++ more) h.4 ∙ append_assoc h.0 h.1 more)
+
 -- the statements before one, it, and those behind it
 pub split_here : (placed : List Placed) (i : ℕ) (p : Placed) → i < length placed → p ≡ get_or placed i p → placed ≡ take i placed ++ p ∷ drop (suc i) placed
 split_here placed i p below is = split_at placed i p below ∙ ap (λ (q : Placed). take i placed ++ q ∷ drop (suc i) placed) (sym is)
 
--- the statements up to one, and it
-pub taken_more : (placed : List Placed) (i : ℕ) (p : Placed) → i < length placed → p ≡ get_or placed i p → take (i + 1) placed ≡ take i placed ++ p ∷ []
-taken_more placed i p below is = take_more placed i p below ∙ ap (λ (q : Placed). take i placed ++ q ∷ []) (sym is)
+-- the elements up to one, and it
+pub taken_more : {A : Type 0} (xs : List A) (i : ℕ) (x : A) → i < length xs → x ≡ get_or xs i x → take (i + 1) xs ≡ take i xs ++ x ∷ []
+taken_more {A} xs i x below is = take_more xs i x below ∙ ap (λ (y : A). take i xs ++ y ∷ []) (sym is)

@@ -9,4 +9,5 @@ pub mod RunErrors
 pub mod Script
 pub mod Serial
 pub mod Steps
+pub mod Stores
 pub mod Texts

@@ -1,5 +1,5 @@
 -- The script of a run: one in the grammar that isn't too long, or its least bad line.
-use Rattle.std.specs.Prelude.{◌≡◌, ◌⊎◌, ◌+◌, ◌<◌, ◌≤◌, ℕ, List, ◌++◌, length, slice_index}
+use Rattle.std.specs.Prelude.{◌≡◌, ◌+◌, ◌<◌, ◌≤◌, ℕ, List, ◌++◌, length, slice_index}
 use Rattle.bstr.specs.Text.{lines_of}
 use Rattle.query_script.specs.declared.statement.Placed.{Placed}
 use Rattle.query_script.specs.declared.statement.TheConstants.{MAX_SCRIPT}

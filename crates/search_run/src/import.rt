@@ -1,25 +1,36 @@
 // The import of a folder: which files it has, and what becomes of each.
-ghost use Rattle.std.specs.Prelude.{◌≡◌, ◌≢◌, ◌⊎◌, ◌≤◌, ◌∷◌, [], map, All, IfOk, OnOk, Some, string_bytes, List, ℕ};
+ghost use Rattle.std.specs.Prelude.{◌≡◌, ◌≢◌, ◌⊎◌, ◌↔◌, ◌+◌, ◌<◌, ◌≤◌, ◌∷◌, ◌++◌, [], length, map, vec_len, All, IfOk, IsTrue, OnOk, Some, string_bytes, List, ℕ};
 ghost use Rattle.kb_edges.specs.Faults.{Rose, RoseBy};
 ghost use Rattle.kb_edges.specs.Files.{File, HasFile};
 ghost use Rattle.kb_edges.specs.Told.{IfTold};
 ghost use Rattle.search_run.specs.declared.outcome.FileOutcome.TheVariants.{Unread};
-ghost use Rattle.search_run.specs.Course.{ImportCourse, IsContent, IsImported, losses_of};
+ghost use Rattle.search_run.specs.Course.{ImportCourse, IsContent, IsImported, games_from, losses_of, trees_in};
 ghost use Rattle.search_run.specs.Imported.{found_of};
+ghost use Rattle.search_run.specs.Lawful.{games_in, versions_of};
 ghost use Rattle.search_run.specs.Outcome.{IsOutcome};
 ghost use Rattle.search_run.specs.Reads.{file_reports, HasReadAll, IsOneMoreRead};
-ghost use Rattle.search_run.specs.Rooms.{AddsSimple, AreAdded, IsAdded};
-ghost use Rattle.search_run.specs.Session.{trees_of};
+ghost use Rattle.search_run.specs.Rooms.{AddsGames, AreAdded, IsAdded};
+ghost use Rattle.search_run.specs.Stores.{HaveTheirChanges, HasFewGames};
+ghost use Rattle.session_core.specs.Games.{HasItsChanges, games_of};
+ghost use Rattle.search_run.specs.declared.outcome.TheConstants.{MAX_BASE_GAMES};
 
 use crate::outcome::{Counts, FileOutcome, outcome_of, with_added};
 use game_tree::{GameTree, Setup};
 use kb_edges::{Folder, FolderError, sort_names};
 use kb_geometry::NoMemory;
+use node_position::deltas;
+use session_core::Stored;
 use sgf_reader::{MAX_FILE, Pair, RawNode};
 use std::alloc::Global;
 
 /// The most names that an import may have.
-pub(crate) const MAX_NAMES: usize = 64;
+pub(crate) const MAX_NAMES: usize = 100_000;
+
+/// How many files make one version.
+const BATCH: usize = 64;
+
+/// The most versions that an import adds.
+pub(crate) const MAX_VERSIONS: u64 = ((MAX_NAMES + BATCH - 1) / BATCH) as u64;
 
 // While a file is imported this is held of each node, each value and each setup, beside its bytes and its trees' nodes.
 const _: () = prove!(size_of::<RawNode>() == 32);
@@ -50,10 +61,7 @@ impl ImportedFile {
     pub fn is_refused(&self) -> bool
         ensures { result ≡ is_refused (file_report self.now) }
     {
-        matches!(
-            self.outcome,
-            FileOutcome::Refused { .. } | FileOutcome::NotYet
-        )
+        matches!(self.outcome, FileOutcome::Refused { .. })
     }
 
     /// Whether there was no room for it.
@@ -83,23 +91,30 @@ pub(crate) enum Imported {
     /// The files in order of their names, and the games of the accepted ones.
     Files {
         files: Vec<ImportedFile>,
-        trees: Vec<GameTree>,
+        games: Vec<Stored>,
     },
 }
 
 impl Imported {
-    ghost use Rattle.search_run.specs.Session.{versions_of};
+    ghost use Rattle.std.specs.Prelude.{◌+◌};
 
-    /// How many versions it adds: one where there is a name.
+    /// How many versions it adds: one for each whole batch of files, and one for what is left.
     pub fn versions(&self) -> u64
-        ensures value { result ≡ versions_of (found_of self.now) }
-        ensures most { result ≤ 1 }
+        requires { versions_of (found_of self.now) ≤ MAX_VERSIONS }
+        ensures { result ≡ versions_of (found_of self.now) }
     {
         match self {
-            Imported::Files { files, .. } if !files.is_empty() => 1,
+            Imported::Files { files, .. } => files.len().div_ceil(BATCH) as u64,
             _ => 0,
         }
     }
+}
+
+// Whether these are more names than an import may have.
+fn are_too_many(names: &[String]) -> bool
+    ensures { IsTrue result ↔ (MAX_NAMES < length names.now) }
+{
+    names.len() > MAX_NAMES
 }
 
 /// Imports the files of a path whose names end in `.sgf`, in a base with these counts. Hands back what was found,
@@ -113,7 +128,10 @@ pub(crate) fn import<F: Folder>(
     ensures found { IfTold (F.files folder.old) (λ files. IfOk result (λ r.
         (course : ImportCourse) × IsImported files path.now before course (found_of r.0)
         × RoseBy (losses_of (course ∷ [])) (F.faults folder.old) (F.faults folder.new))) }
-    ensures added { IfOk result (λ r. AreAdded before r.1 (trees_of (found_of r.0))) }
+    ensures added { IfOk result (λ r. AreAdded before r.1 (trees_in (games_in (found_of r.0)))) }
+    ensures room { HasFewGames before → IfOk result (λ r. HasFewGames r.1) }
+    ensures changes { IfOk result (λ r. HaveTheirChanges r.0) }
+    ensures versions { IfOk result (λ r. versions_of (found_of r.0) ≤ MAX_VERSIONS) }
     ensures same { F.files folder.new ≡ F.files folder.old }
     ensures later { F.faults folder.old ≤ F.faults folder.new }
 {
@@ -124,12 +142,12 @@ pub(crate) fn import<F: Folder>(
         Err(FolderError::Missing) => return Ok((Imported::Unlisted, before)),
     };
     sort_names(&mut names);
-    if names.len() > MAX_NAMES {
+    if are_too_many(&names) {
         let listed = names.len();
         return Ok((Imported::TooMany { listed }, before));
     }
-    let (files, trees, counts) = read_files(alloc, folder, path, &names, before)?;
-    Ok((Imported::Files { files, trees }, counts))
+    let (files, games, counts) = read_files(alloc, folder, path, &names, before)?;
+    Ok((Imported::Files { files, games }, counts))
 }
 
 /// What becomes of one file of a folder in a base with these counts, and the games that it adds.
@@ -160,6 +178,32 @@ pub fn import_one<F: Folder>(
     Ok((outcome, games))
 }
 
+// Adds the trees of a file of this name, each with its place in the file and with its changes.
+fn store(
+    alloc: Global,
+    name: &str,
+    trees: Vec<GameTree>,
+    games: &mut Vec<Stored>,
+) -> Result<(), NoMemory>
+    requires { length trees.items ≤ MAX_BASE_GAMES }
+    ensures added { OnOk result (games_of games.new.items ≡ games_of games.old.items ++ games_from name.now 0 trees.items) }
+    ensures changes { All HasItsChanges games.old.items → OnOk result (All HasItsChanges games.new.items) }
+{
+    let mut place = 0;
+    for tree in trees {
+        let deltas = deltas(alloc, &tree)?;
+        let file = String::from_str(alloc, name)?;
+        games.push(Stored {
+            file,
+            place,
+            tree,
+            deltas,
+        })?;
+        place += 1;
+    }
+    Ok(())
+}
+
 // Imports one file after others, and adds what became of it.
 fn read_next<F: Folder>(
     alloc: Global,
@@ -168,19 +212,22 @@ fn read_next<F: Folder>(
     name: &str,
     counts: &mut Counts,
     files: &mut Vec<ImportedFile>,
-    trees: &mut Vec<GameTree>,
+    games: &mut Vec<Stored>,
 ) -> Result<(), NoMemory>
     ensures found { IfTold (F.files folder.old) (λ all. HasFile all path.now name.now → OnOk result
         (IsOneMoreRead all path.now name.now (F.faults folder.old) (F.faults folder.new) counts.old
-        (file_reports files.old.items) trees.old.items (file_reports files.new.items) trees.new.items)) }
-    ensures added { OnOk result (AddsSimple counts.old counts.new trees.old.items trees.new.items) }
+        (file_reports files.old.items) (games_of games.old.items) (file_reports files.new.items) (games_of games.new.items))) }
+    ensures added { OnOk result (AddsGames counts.old counts.new (games_of games.old.items) (games_of games.new.items)) }
+    ensures room { HasFewGames counts.old → OnOk result (HasFewGames counts.new) }
+    ensures changes { All HasItsChanges games.old.items → OnOk result (All HasItsChanges games.new.items) }
+    ensures count { OnOk result (vec_len files.new ≡ vec_len files.old + 1) }
     ensures same { F.files folder.new ≡ F.files folder.old }
     ensures later { F.faults folder.old ≤ F.faults folder.new }
 {
     let own_name = String::from_str(alloc, name)?;
-    let (outcome, mut games) = import_one(alloc, folder, path, name, *counts)?;
-    *counts = with_added(*counts, outcome, &games);
-    trees.append(&mut games)?;
+    let (outcome, trees) = import_one(alloc, folder, path, name, *counts)?;
+    *counts = with_added(*counts, outcome, &trees);
+    store(alloc, name, trees, games)?;
     files.push(ImportedFile {
         name: own_name,
         outcome,
@@ -195,16 +242,19 @@ fn read_files<F: Folder>(
     path: &str,
     names: &[String],
     before: Counts,
-) -> Result<(Vec<ImportedFile>, Vec<GameTree>, Counts), NoMemory>
+) -> Result<(Vec<ImportedFile>, Vec<Stored>, Counts), NoMemory>
     ensures found { IfTold (F.files folder.old) (λ all. All (HasFile all path.now) (map string_bytes names.now) →
         IfOk result (λ read. HasReadAll all path.now before (map string_bytes names.now)
-        (F.faults folder.old) (F.faults folder.new) (file_reports read.0.items) read.1.items)) }
-    ensures added { IfOk result (λ read. AreAdded before read.2 read.1.items) }
+        (F.faults folder.old) (F.faults folder.new) (file_reports read.0.items) (games_of read.1.items))) }
+    ensures added { IfOk result (λ read. AreAdded before read.2 (trees_in (games_of read.1.items))) }
+    ensures room { HasFewGames before → IfOk result (λ read. HasFewGames read.2) }
+    ensures changes { IfOk result (λ read. All HasItsChanges read.1.items) }
+    ensures count { IfOk result (λ read. vec_len read.0 ≡ length names.now) }
     ensures same { F.files folder.new ≡ F.files folder.old }
     ensures later { F.faults folder.old ≤ F.faults folder.new }
 {
     let mut files = Vec::new(alloc);
-    let mut trees = Vec::new(alloc);
+    let mut games = Vec::new(alloc);
     let mut counts = before;
     for name in names {
         read_next(
@@ -214,8 +264,8 @@ fn read_files<F: Folder>(
             name.as_str(),
             &mut counts,
             &mut files,
-            &mut trees,
+            &mut games,
         )?;
     }
-    Ok((files, trees, counts))
+    Ok((files, games, counts))
 }

@@ -1,22 +1,18 @@
 //! The top call: a script, a folder of games and a sink become a status and the printed answers.
 //!
-//! Stands on kb_geometry, kb_edges, sgf_reader, game_tree, capture_board and node_position. In `specs/` are the words of the script, the hits,
-//! the printed texts, the course of an import and the lawful outputs. The program uses that
-//! [`run_serial`] writes a lawful output, and tells each other end by its cause.
+//! Stands on session_core, query_script, node_position, game_tree, sgf_reader, kb_edges, kb_geometry and the library bstr. In
+//! `specs/` are the script that is too long, the files of an import and their report, the course of imports, and the lawful
+//! outputs. The program uses that [`run_serial`] writes a lawful output, and tells each other end by its cause.
 #![tactic(auto)]
 
-mod hit;
 mod import;
 mod outcome;
 mod print;
 mod read;
 mod run;
 mod script;
-mod search;
 mod serial;
-mod session;
-mod simple;
-mod statement;
+mod standing;
 mod status;
 mod write;
 

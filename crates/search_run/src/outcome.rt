@@ -3,14 +3,14 @@ ghost use Rattle.std.specs.Prelude.{◌≡◌, ◌<◌, IfOk, length};
 ghost use Rattle.search_run.specs.Outcome.{HasRoom, IsOutcome, nodes_of, with_games};
 ghost use Rattle.search_run.specs.Rooms.{IsAdded, IsAddedBy};
 
-use crate::simple::are_simple;
 use game_tree::{BuildError, GameTree, build};
 use kb_geometry::NoMemory;
+use session_core::MAX_GAMES;
 use sgf_reader::{FaultKind, ReadError, read};
 use std::alloc::Global;
 
 /// The most games that a base may have.
-pub const MAX_BASE_GAMES: u32 = 400_000;
+pub const MAX_BASE_GAMES: u32 = MAX_GAMES;
 
 /// The most nodes that a base may have.
 pub const MAX_BASE_NODES: u32 = 67_108_864;
@@ -29,8 +29,6 @@ pub enum FileOutcome {
     Accepted { games: u32 },
     /// Its text has this fault, at this byte offset.
     Refused { kind: FaultKind, at: u32 },
-    /// One of its games isn't simple, so this stage doesn't search it.
-    NotYet,
     /// The base would have had so many games and nodes, more than it may have.
     Full { games: u64, nodes: u64 },
     /// The folder did not give its bytes.
@@ -67,9 +65,6 @@ pub(crate) fn outcome_of(
         }
         Err(BuildError::NoMemory) => return Err(NoMemory),
     };
-    if !are_simple(&trees) {
-        return Ok((FileOutcome::NotYet, Vec::new(alloc)));
-    }
     Ok(in_room(alloc, trees, before))
 }
 
@@ -111,7 +106,6 @@ pub(crate) fn with_added(before: Counts, outcome: FileOutcome, games: &[GameTree
             kind: _kind,
             at: _at,
         } => before,
-        FileOutcome::NotYet => before,
         FileOutcome::Full {
             games: _games,
             nodes: _nodes,

@@ -1,32 +1,15 @@
-// The printed texts.
-ghost use Rattle.std.specs.Prelude.{◌≡◌, ◌++◌, OnOk, codes, count_by, string_bytes};
+// The printed report of an import.
+ghost use Rattle.std.specs.Prelude.{◌≡◌, ◌++◌, OnOk, count_by, string_bytes};
 ghost use Rattle.search_run.specs.Imported.{found_of};
 ghost use Rattle.search_run.specs.Reads.{file_report, file_reports};
-ghost use Rattle.search_run.specs.Texts.{counts_head, counts_of, counts_tail, counts_text, file_text, black_wins, hit_text, other_games, search_head, search_text, totals_line, totals_text, white_wins, import_text, full_text, is_accepted, is_full, is_refused, is_unread, kind_word, listed_text, refused_text, report_text, too_many_text, unlisted_text, unread_text, wait_text};
+ghost use Rattle.search_run.specs.Texts.{counts_head, counts_of, counts_tail, counts_text, file_text, full_text, is_accepted, is_full, is_refused, is_unread, kind_word, listed_text, refused_text, report_text, too_many_text, unlisted_text, unread_text};
 ghost use Rattle.std.specs.List.{flat_map};
 
-use crate::hit::Hit;
 use crate::import::{Imported, ImportedFile};
 use crate::outcome::FileOutcome;
 use kb_geometry::NoMemory;
 use sgf_reader::FaultKind;
 use std::fmt::Write;
-
-/// Prints the line of an import.
-pub(crate) fn print_import(out: &mut String, line: u32, path: &str) -> Result<(), NoMemory>
-    ensures { OnOk result (string_bytes out.new ≡ string_bytes out.old ++ import_text line path.now) }
-{
-    writeln!(out, "{line} import {path}")?;
-    Ok(())
-}
-
-/// Prints the line of a wait.
-pub(crate) fn print_wait(out: &mut String, line: u32, version: u64) -> Result<(), NoMemory>
-    ensures { OnOk result (string_bytes out.new ≡ string_bytes out.old ++ wait_text line version) }
-{
-    writeln!(out, "{line} wait version {version}")?;
-    Ok(())
-}
 
 // How many files an import has, and how many were accepted, refused, not added for want of room, and not read.
 #[derive(Clone, Copy, Debug, PartialEq, Eq)]
@@ -101,13 +84,6 @@ fn print_refused(out: &mut String, word: &str, at: u32, name: &str) -> Result<()
     Ok(())
 }
 
-// Prints the line of a file of which not all games are simple.
-fn print_not_yet(out: &mut String, name: &str) -> Result<(), NoMemory>
-    ensures { OnOk result (string_bytes out.new ≡ string_bytes out.old ++ refused_text (codes "NotYet") 0 name.now) }
-{
-    print_refused(out, "NotYet", 0, name)
-}
-
 // Prints the line of a file for which there was no room.
 fn print_full(out: &mut String, games: u64, nodes: u64, name: &str) -> Result<(), NoMemory>
     ensures { OnOk result (string_bytes out.new ≡ string_bytes out.old ++ full_text games nodes name.now) }
@@ -132,7 +108,6 @@ fn print_file(out: &mut String, file: &ImportedFile) -> Result<(), NoMemory>
     match file.outcome {
         FileOutcome::Accepted { games: _games } => {}
         FileOutcome::Refused { kind, at } => print_refused(out, kind_word(kind), at, name)?,
-        FileOutcome::NotYet => print_not_yet(out, name)?,
         FileOutcome::Full { games, nodes } => print_full(out, games, nodes, name)?,
         FileOutcome::Unread => print_unread(out, name)?,
     }
@@ -241,109 +216,9 @@ pub(crate) fn print_report(
     match imported {
         Imported::Unlisted => print_unlisted(out, line)?,
         Imported::TooMany { listed } => print_too_many(out, line, *listed)?,
-        Imported::Files { files, trees } => {
-            print_listed(out, line, files, trees.len(), version)?;
+        Imported::Files { files, games } => {
+            print_listed(out, line, files, games.len(), version)?;
         }
     }
-    Ok(())
-}
-
-// Prints the head of a search.
-fn print_search_head(
-    out: &mut String,
-    line: u32,
-    version: u64,
-    games: usize,
-    hits: usize,
-) -> Result<(), NoMemory>
-    ensures { OnOk result (string_bytes out.new ≡ string_bytes out.old ++ search_head line version games hits) }
-{
-    writeln!(
-        out,
-        "{line} search version {version} games {games} hits {hits}"
-    )?;
-    Ok(())
-}
-
-// Prints a hit.
-fn print_hit(out: &mut String, hit: &Hit) -> Result<(), NoMemory>
-    ensures { OnOk result (string_bytes out.new ≡ string_bytes out.old ++ hit_text hit.now) }
-{
-    let game = hit.game;
-    let node = hit.node;
-    let x = hit.point.x;
-    let y = hit.point.y;
-    writeln!(out, "hit {game} {node} {x} {y} 0 -")?;
-    Ok(())
-}
-
-// Prints hits, in order.
-fn print_hits(out: &mut String, hits: &[Hit]) -> Result<(), NoMemory>
-    ensures { OnOk result (string_bytes out.new ≡ string_bytes out.old ++ flat_map hit_text hits.now) }
-{
-    for hit in hits {
-        print_hit(out, hit)?;
-    }
-    Ok(())
-}
-
-// How many hits are in games that Black won, that White won, and in others.
-fn black_wins(hits: &[Hit]) -> usize
-    ensures { result ≡ black_wins hits.now }
-{
-    hits.iter().filter(|hit| hit.is_black_win()).count()
-}
-
-fn white_wins(hits: &[Hit]) -> usize
-    ensures { result ≡ white_wins hits.now }
-{
-    hits.iter().filter(|hit| hit.is_white_win()).count()
-}
-
-fn other_games(hits: &[Hit]) -> usize
-    ensures { result ≡ other_games hits.now }
-{
-    hits.iter()
-        .filter(|hit| !hit.is_black_win() && !hit.is_white_win())
-        .count()
-}
-
-// Prints the line of totals.
-fn print_totals_line(
-    out: &mut String,
-    count: usize,
-    black: usize,
-    white: usize,
-    other: usize,
-) -> Result<(), NoMemory>
-    ensures { OnOk result (string_bytes out.new ≡ string_bytes out.old ++ totals_line count black white other) }
-{
-    writeln!(out, "total {count} 0 0 {black} {white} {other}")?;
-    Ok(())
-}
-
-// Prints the totals of hits.
-fn print_totals(out: &mut String, hits: &[Hit]) -> Result<(), NoMemory>
-    ensures { OnOk result (string_bytes out.new ≡ string_bytes out.old ++ totals_text hits.now) }
-{
-    let black = black_wins(hits);
-    let white = white_wins(hits);
-    let other = other_games(hits);
-    print_totals_line(out, hits.len(), black, white, other)
-}
-
-/// Prints a search: its head, the hits, the totals.
-pub(crate) fn print_search(
-    out: &mut String,
-    line: u32,
-    version: u64,
-    games: usize,
-    hits: &[Hit],
-) -> Result<(), NoMemory>
-    ensures { OnOk result (string_bytes out.new ≡ string_bytes out.old ++ search_text line version games hits.now) }
-{
-    print_search_head(out, line, version, games, hits.len())?;
-    print_hits(out, hits)?;
-    print_totals(out, hits)?;
     Ok(())
 }

@@ -4,8 +4,8 @@ ghost use Rattle.kb_edges.specs.Faults.{Rose};
 ghost use Rattle.kb_edges.specs.Told.{IfTold};
 ghost use Rattle.search_run.specs.declared.read.ReadScriptError.TheVariants.{NoMemory, Unread};
 
-use crate::statement::MAX_SCRIPT;
 use kb_edges::{ReadFailed, Source};
+use query_script::MAX_SCRIPT;
 use std::alloc::{AllocError, Global};
 
 /// Why a script was not read.

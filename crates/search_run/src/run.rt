@@ -1,15 +1,17 @@
 // Running the statements of a script, one after another.
-ghost use Rattle.std.specs.Prelude.{◌≡◌, ◌≤◌, ◌<◌, ◌+◌, ◌-◌, ◌^◌, IsErrOf, OnErr, OnOk};
+ghost use Rattle.std.specs.Prelude.{◌≡◌, ◌≤◌, ◌<◌, ◌+◌, ◌^◌, IsErrOf, OnErr, OnOk, length};
 ghost use Rattle.kb_edges.specs.Faults.{Rose};
 ghost use Rattle.kb_edges.specs.Told.{IfTold};
 ghost use Rattle.search_run.specs.Run.{WritesBegun, WritesLawful};
 ghost use Rattle.search_run.specs.Steps.{PassesStatement, StopsInStatement};
 
-use crate::session::Session;
-use crate::statement::Placed;
+use crate::import::MAX_VERSIONS;
+use crate::standing::Standing;
 use crate::write::write_all;
 use kb_edges::{Folder, Sink, SinkError};
 use kb_geometry::NoMemory;
+use query_script::{MAX_SCRIPT, Placed};
+use session_core::Session;
 use std::alloc::Global;
 
 /// Why a run stopped.
@@ -51,6 +53,7 @@ pub(crate) fn run_statements<F: Folder, K: Sink>(
     folder: &mut F,
     out: &mut K,
 ) -> Result<(), Stopped>
+    requires { length placed.now ≤ MAX_SCRIPT }
     ensures lawful { IfTold (F.files folder.old) (λ files. IfTold (K.written out.old) (λ before. OnOk result
         (WritesLawful files placed.now before (K.written out.new) (F.faults folder.old) (F.faults folder.new)))) }
     ensures begun { IfTold (F.files folder.old) (λ files. IfTold (K.written out.old) (λ before. OnErr result
@@ -60,11 +63,12 @@ pub(crate) fn run_statements<F: Folder, K: Sink>(
     ensures later { F.faults folder.old ≤ F.faults folder.new }
     ensures sink_later { K.faults out.old ≤ K.faults out.new }
 {
-    let mut session = Session::new(alloc);
+    let mut session = Session::new();
+    let mut standing = Standing::new(alloc);
     for statement in placed {
-        run_statement(alloc, &mut session, statement, folder, out)?;
+        run_statement(alloc, &mut session, &mut standing, statement, folder, out)?;
     }
-    write_all(out, session.unjoined())?;
+    write_all(out, standing.unjoined())?;
     Ok(())
 }
 
@@ -72,22 +76,23 @@ pub(crate) fn run_statements<F: Folder, K: Sink>(
 fn run_statement<F: Folder, K: Sink>(
     alloc: Global,
     session: &mut Session,
+    standing: &mut Standing,
     placed: &Placed,
     folder: &mut F,
     out: &mut K,
 ) -> Result<(), Stopped>
-    requires { session.old.version < 2 ^ 64 - 1 }
+    requires { standing.old.version + MAX_VERSIONS < 2 ^ 64 }
     ensures passed { IfTold (F.files folder.old) (λ files. IfTold (K.written out.old) (λ before. OnOk result
-        (PassesStatement files session.old placed.now session.new before (K.written out.new) (F.faults folder.old) (F.faults folder.new)))) }
-    ensures stopped { IfTold (K.written out.old) (λ before. OnErr result (StopsInStatement session.old placed.now before (K.written out.new))) }
+        (PassesStatement files standing.old placed.now standing.new before (K.written out.new) (F.faults folder.old) (F.faults folder.new)))) }
+    ensures stopped { IfTold (K.written out.old) (λ before. OnErr result (StopsInStatement standing.old placed.now before (K.written out.new))) }
     ensures sink_fault { IsErrOf result Stopped.SinkFault → Rose (K.faults out.old) (K.faults out.new) }
-    ensures version { OnOk result (session.new.version ≤ session.old.version + 1) }
+    ensures version { OnOk result (standing.new.version ≤ standing.old.version + MAX_VERSIONS) }
     ensures same { F.files folder.new ≡ F.files folder.old }
     ensures later { F.faults folder.old ≤ F.faults folder.new }
     ensures sink_later { K.faults out.old ≤ K.faults out.new }
 {
-    let text = session.text_of(alloc, placed)?;
-    write_all(out, text.as_bytes())?;
-    session.pass(alloc, folder, placed)?;
+    let text = standing.text_of(alloc, session, placed)?;
+    write_all(out, &text)?;
+    standing.pass(alloc, folder, placed)?;
     Ok(())
 }

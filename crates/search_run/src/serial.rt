@@ -2,20 +2,20 @@
 ghost use Rattle.std.specs.Prelude.{◌≡◌, ◌≢◌, ◌≤◌, ◌<◌, ◌↔◌, ◌⊎◌, ℕ, List, [], Some, length};
 ghost use Rattle.kb_edges.specs.Faults.{Rose, RoseBy};
 ghost use Rattle.kb_edges.specs.Files.{File};
-ghost use Rattle.search_run.specs.Script.{IsInGrammar, IsLeastBadLine};
+ghost use Rattle.search_run.specs.Script.{IsBad, IsInGrammar};
 ghost use Rattle.search_run.specs.Serial.{Begins, IsEarly, Prints};
-ghost use Rattle.search_run.specs.declared.statement.TheConstants.{MAX_SCRIPT};
+ghost use Rattle.query_script.specs.declared.statement.TheConstants.{MAX_SCRIPT};
 ghost use Rattle.search_run.specs.declared.status.Status.{Status};
 
 use crate::read::{ReadScriptError, read_text};
 use crate::run::{Stopped, run_statements};
-use crate::script::read_script;
-use crate::statement::ScriptError;
+use crate::script::read_whole;
 use crate::status::Status;
 use kb_edges::{Folder, Sink, Source};
+use query_script::ScriptError;
 use std::alloc::Global;
 
-/// Reads a script, imports its folder, and writes its answers, on one thread. How that ended is told
+/// Reads a script, imports its folders, and writes its answers, on one thread. How that ended is told
 /// by the [`Status`].
 ///
 /// The words are those of the command line without the program's name. In this stage the only lawful
@@ -33,9 +33,9 @@ pub fn run_serial<F: Folder, S: Source, K: Sink>(
     // Then the script is read.
     ensures script_unread { result.0 ≡ Status.ScriptUnread → Rose (S.faults script.old) (S.faults script.new) }
 
-    // Then its grammar: where the source tells its bytes, a bad script is told by its least bad line, and no
+    // Then its grammar: where the source tells its bytes, a bad script is told by its bad line, and no
     // other script is told so or run.
-    ensures bad_script { (bytes : List ℕ) → S.left script.old ≡ Some bytes → (k : ℕ) → result.0 ≡ Status.BadScript k → IsLeastBadLine bytes k }
+    ensures bad_script { (bytes : List ℕ) → S.left script.old ≡ Some bytes → (k : ℕ) → result.0 ≡ Status.BadScript k → IsBad bytes k }
     ensures in_grammar { (bytes : List ℕ) → S.left script.old ≡ Some bytes → (result.0 ≡ Status.Done) ⊎ (result.0 ≡ Status.SinkFault) → IsInGrammar bytes }
 
     // A script that was read to its end leaves nothing.
@@ -70,7 +70,7 @@ pub fn run_serial<F: Folder, S: Source, K: Sink>(
         Err(ReadScriptError::Unread) => return (Status::ScriptUnread, folder),
         Err(ReadScriptError::NoMemory) => return (Status::NoMemory, folder),
     };
-    let placed = match read_script(alloc, &text) {
+    let placed = match read_whole(alloc, &text) {
         Ok(placed) => placed,
         Err(ScriptError::BadLine { line }) => return (Status::BadScript { line }, folder),
         Err(ScriptError::NoMemory) => return (Status::NoMemory, folder),

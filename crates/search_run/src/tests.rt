@@ -10,6 +10,7 @@ mod damaged;
 mod imports;
 mod occurrences;
 mod positions;
+mod searches;
 
 /// A file: its path, its name and its text.
 type File = (&'static str, &'static str, &'static str);
@@ -168,8 +169,77 @@ fn imports_waits_and_searches(rt: HostRuntime) -> Result<(), Fail> {
         ),
         // No file has the path.
         ("import e\n", "1 import e\n1 imported unlisted\n"),
+        (
+            "import \"d e/\u{e9}\"\nimport D\n",
+            "1 import d e/\u{e9}\n1 imported unlisted\n2 import D\n2 imported unlisted\n",
+        ),
+        // Lines that are empty, blank or a comment, blanks around words, and a carriage return before the end of a line
+        ("\n", ""),
+        ("wait\n\n", "1 wait version 0\n"),
+        ("wait\n\nwait\n", "1 wait version 0\n3 wait version 0\n"),
+        (
+            "# wait\n \t\n wait\r\nwait\t",
+            "3 wait version 0\n4 wait version 0\n",
+        ),
+        ("import  e\n", "1 import e\n1 imported unlisted\n"),
     ];
     expect_outputs(&rt, rt.alloc(), &ONE_GAME, &cases)
+}
+
+#[test]
+fn several_imports(rt: HostRuntime) -> Result<(), Fail> {
+    let files = [
+        ("d", "a.sgf", GAME),
+        ("e", "b.sgf", GAME),
+        ("e", "c.sgf", "(;SZ[5])(;SZ[3])"),
+    ];
+    let cases = [
+        // The second import waits for the first one, whose report is printed before its line.
+        (
+            "import d\nimport e\nwait\nsearch same fixed X\n",
+            "1 import d\n\
+             1 imported files 1 accepted 1 refused 0 full 0 unread 0 games 1 version 1\n\
+             2 import e\n\
+             2 imported files 2 accepted 2 refused 0 full 0 unread 0 games 3 version 2\n\
+             3 wait version 2\n\
+             4 search version 2 games 4 hits 4\n\
+             hit 0 1 2 2 0 -\nhit 0 3 2 1 0 -\nhit 1 1 2 2 0 -\nhit 1 3 2 1 0 -\ntotal 4 0 0 0 0 4\n",
+        ),
+        // The last report comes at the end, and that of an import without a listing is printed like others.
+        (
+            "import d\nimport f\nimport d\n",
+            "1 import d\n\
+             1 imported files 1 accepted 1 refused 0 full 0 unread 0 games 1 version 1\n\
+             2 import f\n\
+             2 imported unlisted\n\
+             3 import d\n\
+             3 imported files 1 accepted 1 refused 0 full 0 unread 0 games 1 version 2\n",
+        ),
+        // A version's number is told whether the import is joined or not.
+        (
+            "until 1\nimport d\nuntil 1\nwait\nuntil 1\n",
+            "1 until 1 version 0\n\
+             2 import d\n\
+             3 until 1 version 1\n\
+             2 imported files 1 accepted 1 refused 0 full 0 unread 0 games 1 version 1\n\
+             4 wait version 1\n\
+             5 until 1 version 1\n",
+        ),
+        // A game's place is that in its file.
+        (
+            "import d\ngame 0\nimport e\ngame 3\ngame 4\n",
+            "1 import d\n\
+             2 game 0 version 1 place 0 file a.sgf\n\
+             (;GM[1]FF[4]SZ[5];B[cc];W[bc];B[cb])\n\
+             1 imported files 1 accepted 1 refused 0 full 0 unread 0 games 1 version 1\n\
+             3 import e\n\
+             4 game 3 version 2 place 1 file c.sgf\n\
+             (;GM[1]FF[4]SZ[3])\n\
+             5 game 4 version 2 none\n\
+             3 imported files 2 accepted 2 refused 0 full 0 unread 0 games 3 version 2\n",
+        ),
+    ];
+    expect_outputs(&rt, rt.alloc(), &files, &cases)
 }
 
 #[test]
@@ -197,13 +267,13 @@ fn games_in_order_of_their_names(rt: HostRuntime) -> Result<(), Fail> {
     expect_outputs(&rt, rt.alloc(), &files, &cases)
 }
 
-/// Files of the path `d` with the names `100.sgf`, `101.sgf` and so on, and notes. All are games but the one of the
-/// name `163.sgf`.
+/// Files of the path `d` with the names `100000.sgf`, `100001.sgf` and so on, and notes. All are games but the one of
+/// the name `100063.sgf`.
 fn numbered_files(alloc: Global, count: u32) -> Result<Vec<FileEntry>, Fail> {
     let mut files = entries(alloc, &[("d", "notes.txt", "hello")])?;
     for number in 0..count {
         let text = if number == 63 { "hello" } else { GAME };
-        let number = number.saturating_add(100);
+        let number = number.saturating_add(100_000);
         files.push(FileEntry {
             path: String::from_str(alloc, "d")?,
             name: format!(in alloc; "{number}.sgf")?,
@@ -214,20 +284,27 @@ fn numbered_files(alloc: Global, count: u32) -> Result<Vec<FileEntry>, Fail> {
 }
 
 #[test]
-fn at_most_64_names(rt: HostRuntime) -> Result<(), Fail> {
+fn imports_of_many_names(rt: HostRuntime) -> Result<(), Fail> {
     let alloc = rt.alloc();
     let cases = [
         (
             64,
             "1 import d\n\
              1 imported files 64 accepted 63 refused 1 full 0 unread 0 games 63 version 1\n\
-             refused NoGame 5 163.sgf\n\
+             refused NoGame 5 100063.sgf\n\
              2 wait version 1\n",
         ),
         (
             65,
             "1 import d\n\
-             1 imported too many files 65\n\
+             1 imported files 65 accepted 64 refused 1 full 0 unread 0 games 64 version 2\n\
+             refused NoGame 5 100063.sgf\n\
+             2 wait version 2\n",
+        ),
+        (
+            100_001,
+            "1 import d\n\
+             1 imported too many files 100001\n\
              2 wait version 0\n",
         ),
     ];
@@ -382,36 +459,24 @@ fn faults_of_the_script_and_the_sink(rt: HostRuntime) -> Result<(), Fail> {
 
 #[test]
 fn scripts_that_are_bad(rt: HostRuntime) -> Result<(), Fail> {
-    // A script and its least bad line.
+    // A script and its bad line.
     let cases = [
-        ("\n", 1),
-        ("wait\n\n", 2),
-        ("wait\n\nwait\n", 2),
-        ("wait \n", 1),
-        (" wait\n", 1),
         ("Wait\n", 1),
         ("waits\n", 1),
-        ("wait\r\n", 1),
-        ("wait\nwait\r", 2),
+        ("wait\rwait\n", 1),
         ("import\n", 1),
-        ("import \n", 1),
-        ("import  d\n", 1),
-        ("import D\n", 1),
-        ("import d1\n", 1),
         ("import d e\n", 1),
-        ("import \u{e9}\n", 1),
-        ("import d/e\n", 1),
-        ("search same fixed O\n", 1),
-        ("search same fixed XX\n", 1),
-        ("search same X\n", 1),
-        ("# wait\n", 1),
+        ("import \"\"\n", 1),
+        ("search X?\n", 1),
+        ("until 4294967296\n", 1),
+        ("game -1\n", 1),
+        ("end\n", 1),
+        ("together\n", 1),
         ("import d\nserch X\n", 2),
-        ("import d\nwait\nuntil 1\nwait", 3),
-        // a second import
-        ("import d\nimport d\n", 2),
-        ("import d\nwait\nimport e", 3),
-        ("import d\nwait\nimport d\n\n", 3),
-        ("import d\n\nimport d\n", 2),
+        ("import d\nwait\nuntil x\nwait", 3),
+        ("together\nsearch X\nwait\nend\n", 3),
+        ("together\nend\n", 2),
+        ("wait x\nend\n", 1),
     ];
     for (script, line) in cases {
         let ended = run(rt.alloc(), &ONE_GAME, script, NO_FAULTS)?;
@@ -426,8 +491,15 @@ fn long_scripts(rt: HostRuntime) -> Result<(), Fail> {
     // A first line, how often another follows it, the status, and how many bytes are left. A script may have
     // 1,048,576 bytes, and one more is read.
     let cases = [
-        // 1,048,577 bytes, in bad lines alone
-        ("", "\n", 1_048_577, Status::BadScript { line: 1 }, 0),
+        // 1,048,577 bytes, in lines that are skipped
+        (
+            "",
+            "\n",
+            1_048_577,
+            Status::BadScript { line: 1_048_577 },
+            0,
+        ),
+        // in one line, which is bad for its length and not for its word
         ("", "w", 1_048_577, Status::BadScript { line: 1 }, 0),
         // 1,048,575 bytes are in the lines before the last one
         (
@@ -449,11 +521,19 @@ fn long_scripts(rt: HostRuntime) -> Result<(), Fail> {
         ("import abc\n", "wait\n", 209_713, Status::Done, 0),
         // a bad line before the one that is too long
         (
-            "wait \n",
+            "waits\n",
             "wait\n",
             300_000,
             Status::BadScript { line: 1 },
             451_429,
+        ),
+        // a block that isn't ended before the line that is too long
+        (
+            "together\n",
+            "#ab\n",
+            300_000,
+            Status::BadScript { line: 1 },
+            151_432,
         ),
     ];
     for (first, line, count, status, left) in cases {
@@ -475,7 +555,7 @@ fn words_come_first(rt: HostRuntime) -> Result<(), Fail> {
     for word in ["", "--help", "d"] {
         let words = vec![in alloc; String::from_str(alloc, word)?]?;
         let files = entries(alloc, &ONE_GAME)?;
-        let ended = run_words(alloc, &words, files, b"wait \n".to_vec(alloc)?, faults)?;
+        let ended = run_words(alloc, &words, files, b"waits\n".to_vec(alloc)?, faults)?;
         expect_end(&rt, &ended, Status::BadWords, "", word);
         assert_eq!(rt; ended.left, 6, "{word}");
     }

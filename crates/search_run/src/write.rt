@@ -2,7 +2,7 @@
 ghost use Rattle.std.specs.Prelude.{◌≡◌, ◌≤◌, ◌++◌, ℕ, List, Some, IsErrOf, OnErr, OnOk};
 ghost use Rattle.kb_edges.specs.Faults.{Rose};
 ghost use Rattle.kb_edges.specs.Told.{IfTold};
-ghost use Rattle.search_run.specs.Session.{IsPrefix};
+ghost use Rattle.search_run.specs.Lawful.{IsPrefix};
 
 use kb_edges::{Sink, SinkError};
 

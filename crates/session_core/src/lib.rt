@@ -10,3 +10,6 @@ mod stored;
 
 pub use session::Session;
 pub use stored::{MAX_GAMES, Stored};
+
+#[cfg(test)]
+mod tests;

@@ -46,13 +46,6 @@ fn refused_texts(rt: HostRuntime) -> Result<(), Fail> {
         ("(;B[aa]W[bb])", "TwoMoves 8"),
         // the second game is bad, and the first isn't added
         ("(;SZ[5])(;SZ[0])", "BadSize 12"),
-        // games that aren't simple: a setup, a variation, a point that is played twice, a result
-        ("(;SZ[5]AB[aa])", "NotYet 0"),
-        ("(;SZ[5];B[aa](;W[bb])(;W[cc]))", "NotYet 0"),
-        ("(;SZ[5];B[aa];W[aa])", "NotYet 0"),
-        ("(;SZ[5]RE[B+R];B[aa])", "NotYet 0"),
-        // the second game isn't simple
-        ("(;SZ[5])(;SZ[5]AW[bb])", "NotYet 0"),
     ];
     for (text, fault) in cases {
         let report = refused_report(alloc, fault)?;
@@ -115,9 +108,14 @@ fn accepted_texts(rt: HostRuntime) -> Result<(), Fail> {
         ),
         // brackets behind a game that open and close nothing
         ("(;SZ[5];B[aa])\r\n-- :-) ] [ ( \\", 1),
-        // two passes of one side are no two moves at one point, and an empty value is no setup
+        // passes, and an empty value, which is no setup
         ("(;W[];B[];B[tt])", 1),
         ("(;AB[][ ];B[aa])", 1),
+        // a setup, a variation, a point that is played twice, a result
+        ("(;SZ[5]AB[aa])(;SZ[5]AW[bb])", 2),
+        ("(;SZ[5];B[aa](;W[bb])(;W[cc]))", 1),
+        ("(;SZ[5];B[aa];W[aa])", 1),
+        ("(;SZ[5]RE[B+R];B[aa])", 1),
     ];
     for (text, games) in cases {
         let report = format!(in alloc;

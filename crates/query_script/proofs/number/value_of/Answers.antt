@@ -1,4 +1,3 @@
-use Rattle.std.proofs.Common.{rules, arith, refl}
 use Rattle.query_script.proofs.Numbers.{AreDigitsTo-more, AreDigitsTo-start}
 use Rattle.query_script.proofs.number.value_of.Goals as goal
 

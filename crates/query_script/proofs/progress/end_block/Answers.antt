@@ -2,7 +2,7 @@ use Rattle.std.proofs.Common.{◌≡◌, ◌≤◌, length, subst, arith}
 use Rattle.std.proofs.lemmas.Bool.Decides.{nat_tests}
 use Rattle.std.proofs.lemmas.List.{nil_from_length}
 use Rattle.query_script.specs.Script.{IsLeastBadLine}
-use Rattle.query_script.proofs.Faults.{same_bad_line}
+use Rattle.query_script.proofs.Errors.{same_bad_line}
 use Rattle.query_script.proofs.ReadInside.{end_inside, end_too_early}
 use Rattle.query_script.proofs.progress.end_block.Goals as goal
 

@@ -1,7 +1,8 @@
 use Rattle.std.proofs.Common.{subst}
 use Rattle.query_script.specs.Script.{IsLeastBadLine}
 use Rattle.query_script.proofs.ReadInside.{end_broken, still_broken}
-use Rattle.query_script.proofs.Faults.{no_error, no_other_end, same_bad_line}
+use Rattle.query_script.proofs.Errors.{no_error, same_bad_line}
+use Rattle.query_script.proofs.Faults.{no_other_end}
 use Rattle.query_script.proofs.progress.read_broken.Goals.{in-End, in_default}
 use Rattle.query_script.proofs.progress.read_broken.Goals as goal
 

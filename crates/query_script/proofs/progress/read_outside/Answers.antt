@@ -1,6 +1,6 @@
 use Rattle.std.proofs.Common.{subst}
 use Rattle.query_script.specs.Script.{IsLeastBadLine}
-use Rattle.query_script.proofs.Faults.{same_bad_line}
+use Rattle.query_script.proofs.Errors.{same_bad_line}
 use Rattle.query_script.proofs.ReadOutside.{bad_outside, ends_outside, read-skipped, read-statement}
 use Rattle.query_script.proofs.progress.read_outside.Goals as goal
 

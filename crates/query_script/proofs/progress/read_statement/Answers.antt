@@ -1,4 +1,4 @@
-use Rattle.query_script.proofs.Faults.{no_error}
+use Rattle.query_script.proofs.Errors.{no_error}
 use Rattle.query_script.proofs.ReadInside.{other_statement}
 use Rattle.query_script.proofs.progress.read_statement.Goals as goal
 

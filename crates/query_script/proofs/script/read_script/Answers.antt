@@ -3,7 +3,7 @@ use Rattle.std.proofs.lemmas.Result.{err_from_is_err_and}
 use Rattle.bstr.specs.Text.{lines_of}
 use Rattle.bstr.proofs.lemmas.LengthLemmas.{length-lines_of}
 use Rattle.query_script.specs.Script.{IsLeastBadLine, script_lines}
-use Rattle.query_script.proofs.Faults.{same_bad_line, same_error}
+use Rattle.query_script.proofs.Errors.{same_bad_line, same_error}
 use Rattle.query_script.proofs.ReadInside.{never_ends}
 use Rattle.query_script.proofs.ReadOutside.{read-all, read-none}
 use Rattle.query_script.proofs.TextLines.{all_read, line_is_at, next_line}

@@ -1,4 +1,4 @@
-use Rattle.std.proofs.Common.{refl, Some, sym, subst, ap}
+use Rattle.std.proofs.Common.{refl, Some, sym, subst}
 use Rattle.query_script.specs.Reading.{AreParted}
 use Rattle.query_script.specs.Search.{IsAt}
 use Rattle.query_script.proofs.SearchWords.{at-absent, at-no_last, at-no_point, at-one_point, at-rectangle}

@@ -8,8 +8,11 @@ pub loop-name-init : goal.loop-name-init
 loop-name-init g c = record {
   same = refl;
   later = omega arith;
-  added = rw c.new-trees.ensures.items (AreAdded-none c.args.before);
-  read = λ files told there. rw (c.new-files.ensures.items, c.new-trees.ensures.items) (HasReadAll-start files _ _ _);
+  added = rw c.new-games.ensures.items (AreAdded-none c.args.before);
+  room = λ few. few;
+  changes = rw c.new-games.ensures.items (λ k d below. absurd (omega arith));
+  count = omega arith;
+  read = λ files told there. rw (c.new-files.ensures.items, c.new-games.ensures.items) (HasReadAll-start files _ _ _);
 }
 
 pub loop-name-preserved : goal.loop-name-preserved
@@ -17,13 +20,16 @@ loop-name-preserved g c = record {
   same = c.read_next.ensures.same ∙ c.loop-name.invariant.same;
   later = omega (arith, c.loop-name.invariant.later, c.read_next.ensures.later);
   added = AreAdded-more c.args.before _ _ _ _ c.loop-name.invariant.added c.in_ok-read_next.ensures.added;
+  room = λ few. c.in_ok-read_next.ensures.room (c.loop-name.invariant.room few);
+  changes = c.in_ok-read_next.ensures.changes c.loop-name.invariant.changes;
+  count = omega (arith, c.loop-name.invariant.count, c.in_ok-read_next.ensures.count);
   read = λ files told there.
       let name = c.name-item.result in
       let here = name_there files c.args.path.now c.args.names.now c.loop-name.name-index name there c.loop-name-test.true c.name-item.is in
       let told_now : g.F.Folder.files c.loop-name.folder ≡ Some files = c.loop-name.invariant.same ∙ told in
       let more = c.in_ok-read_next.ensures.found files told_now (rw c.as_str.ensures.value here) in
       rw (names_more c.args.names.now c.loop-name.name-index name c.loop-name-test.true c.name-item.is)
-      (HasReadAll-more files c.args.path.now c.args.before _ _ _ _ _ _ _ _ _ _ c.loop-name.invariant.added.0 (c.loop-name.invariant.read files told there) (rw c.as_str.ensures.value at more));
+      (HasReadAll-more files c.args.path.now c.args.before _ _ _ _ _ _ _ _ _ _ c.loop-name.invariant.added (c.loop-name.invariant.read files told there) (rw c.as_str.ensures.value at more));
 }
 
 pub returns-clause-found : goal.returns-clause-found

@@ -1,6 +1,5 @@
-use Rattle.std.proofs.Common.{◌∙◌, Err, ap, arith, inl, inr, sym}
-use Rattle.std.proofs.lemmas.Bool.{false≢true}
-use Rattle.search_run.specs.Outcome.{HaveGames, not_yet, refused}
+use Rattle.std.proofs.Common.{Err, ap, arith, inl, inr}
+use Rattle.search_run.specs.Outcome.{HaveGames, refused}
 use Rattle.search_run.proofs.RoomLemmas.{IsOutcome-in_room, few_trees}
 use Rattle.search_run.proofs.outcome.outcome_of.Goals as goal
 
@@ -14,11 +13,6 @@ returns-in-Err-Fault-build c =
     let first = c.in-Err-Fault-build.ensures.fault c.in-Err-Fault-build.fault (ap Err c.in-Err-Fault-build.field-0-is) in
     rw (c.in-Err-Fault-build.field-0-is, c.new-in-Err-Fault-build.ensures.items) (refused (inr (c.in-Ok.collection, c.in-Ok.ensures.ok, first)))
 
-pub returns-then-not-are_simple : goal.returns-then-not-are_simple
-returns-then-not-are_simple c =
-    let have : HaveGames c.args.bytes.now c.in-Ok-build.trees.items = (c.in-Ok.collection, c.in-Ok.ensures.ok, c.in-Ok-build.ensures.no_fault, c.in-Ok-build.ensures.ok) in
-    rw c.new-then-not-are_simple.ensures.items (not_yet c.in-Ok-build.trees.items have (λ simple. false≢true (sym c.if-not-are_simple.true ∙ c.are_simple.ensures.1 (rw c.deref.ensures.value simple))))
-
 pub in_room-requires : goal.in_room-requires
 in_room-requires c =
     let few = few_trees c.args.bytes.now c.in-Ok.collection c.in-Ok-build.trees.items c.in-Ok.ensures.ok c.in-Ok-build.ensures.ok in
@@ -27,5 +21,4 @@ in_room-requires c =
 pub returns : goal.returns
 returns c =
     let have : HaveGames c.args.bytes.now c.in-Ok-build.trees.items = (c.in-Ok.collection, c.in-Ok.ensures.ok, c.in-Ok-build.ensures.no_fault, c.in-Ok-build.ensures.ok) in
-    let simple = rw c.deref.ensures.value at (c.are_simple.ensures.0 c.if-not-are_simple.false) in
-    IsOutcome-in_room c.args.bytes.now c.args.before c.in-Ok-build.trees.items c.in_room.result.0 c.in_room.result.1.items have simple c.in_room.ensures
+    IsOutcome-in_room c.args.bytes.now c.args.before c.in-Ok-build.trees.items c.in_room.result.0 c.in_room.result.1.items have c.in_room.ensures

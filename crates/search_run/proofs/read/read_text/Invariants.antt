@@ -1,6 +1,6 @@
 use Rattle.std.proofs.Common.{◌≡◌, ◌≤◌, ◌++◌, ◌-◌, ◌+◌, List, ℕ, Some, length, vec_len}
 use Rattle.kb_edges.specs.Told.{IfTold}
-use Rattle.search_run.specs.declared.statement.TheConstants.{MAX_SCRIPT}
+use Rattle.query_script.specs.declared.statement.TheConstants.{MAX_SCRIPT}
 use Rattle.search_run.proofs.read.read_text.Given as goal
 
 abbrev pub invariant-loop-buffer : goal.invariant-loop-buffer

@@ -10,15 +10,15 @@ returns-in_err-run_statement-clause-begun g c = λ files told before written.
     let p = c.statement-item.result in
     let h = c.loop-statement.invariant.run files told before written in
     let stop = c.in_err-run_statement.ensures.stopped (before ++ h.text) h.written_is in
-    after_error _ _ (WritesBegun-stopped files placed (take i placed) (p ∷ drop (suc i) placed) c.loop-statement.session before stop.more _ _ _ _ _ h (split_here placed i p c.loop-statement-test.true c.statement-item.is) stop.prefix stop.written_is c.in_err-run_statement.ensures.later)
+    after_error _ _ (WritesBegun-stopped files placed (take i placed) (p ∷ drop (suc i) placed) c.loop-statement.standing before stop.more _ _ _ _ _ h (split_here placed i p c.loop-statement-test.true c.statement-item.is) stop.prefix stop.written_is c.in_err-run_statement.ensures.later)
 
 pub loop-statement-init : goal.loop-statement-init
 loop-statement-init g c = record {
   same = refl;
   later = omega arith;
   sink_later = omega arith;
-  version = rw c.new-session.ensures (omega arith);
-  run = λ files told before written. rw c.new-session.ensures (HasRun-start files before (g.K.Sink.written c.args.out.now) (g.F.Folder.faults c.args.folder.now) written);
+  version = rw c.new-standing.ensures (omega arith);
+  run = λ files told before written. rw c.new-standing.ensures (HasRun-start files before (g.K.Sink.written c.args.out.now) (g.F.Folder.faults c.args.folder.now) written);
 }
 
 pub loop-statement-preserved : goal.loop-statement-preserved
@@ -33,7 +33,7 @@ loop-statement-preserved g c = record {
       let p = c.statement-item.result in
       let h = c.loop-statement.invariant.run files told before written in
       rw (taken_more placed i p c.loop-statement-test.true c.statement-item.is)
-      (HasRun-more files (take i placed) p c.loop-statement.session c.run_statement.new.session before _ _ _ _ _ h (c.in_ok-run_statement.ensures.passed files (c.loop-statement.invariant.same ∙ told) (before ++ h.text) h.written_is));
+      (HasRun-more files (take i placed) p c.loop-statement.standing c.run_statement.new.standing before _ _ _ _ _ h (c.in_ok-run_statement.ensures.passed files (c.loop-statement.invariant.same ∙ told) (before ++ h.text) h.written_is));
 }
 
 pub returns-in_err-write_all-clause-begun : goal.returns-in_err-write_all-clause-begun
@@ -43,7 +43,7 @@ returns-in_err-write_all-clause-begun g c = λ files told before written.
     let h = c.loop-statement.invariant.run files told before written in
     let part = c.in_err-write_all.ensures.part (before ++ h.text) h.written_is in
     let all : take i placed ≡ placed = take_all i placed (omega arith) in
-    after_error _ _ (WritesBegun-stopped files placed (take i placed) [] c.loop-statement.session before part.0 _ _ _ _ _ h (sym (append-nil (take i placed) ∙ all)) (rw c.unjoined.ensures at part.1) part.2 (omega arith))
+    after_error _ _ (WritesBegun-stopped files placed (take i placed) [] c.loop-statement.standing before part.0 _ _ _ _ _ h (sym (append-nil (take i placed) ∙ all)) (rw c.unjoined.ensures at part.1) part.2 (omega arith))
 
 pub returns-clause-lawful : goal.returns-clause-lawful
 returns-clause-lawful g c = λ files told before written.
@@ -52,4 +52,4 @@ returns-clause-lawful g c = λ files told before written.
     let h = c.loop-statement.invariant.run files told before written in
     let all : take i placed ≡ placed = take_all i placed (omega arith) in
     let whole = c.in_ok-write_all.ensures.whole (before ++ h.text) h.written_is in
-    rw (← all) (WritesLawful-end files (take i placed) c.loop-statement.session before _ _ _ _ h (rw c.unjoined.ensures at whole))
+    rw (← all) (WritesLawful-end files (take i placed) c.loop-statement.standing before _ _ _ _ h (rw c.unjoined.ensures at whole))

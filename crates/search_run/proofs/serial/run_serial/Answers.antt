@@ -1,13 +1,13 @@
 use Rattle.std.proofs.Common.{◌≡◌, ◌∙◌, Err, Some, ap, inr, subst}
-use Rattle.search_run.specs.Script.{IsLeastBadLine}
-use Rattle.search_run.proofs.ScriptLemmas.{in_grammar-short, least_bad_line_of_read, nothing_left, script_of_read}
+use Rattle.search_run.specs.Script.{IsBad}
+use Rattle.search_run.proofs.ScriptLemmas.{IsBad-read, IsScript-few, IsScript-in_grammar, IsScript-read, good_not_bad, nothing_left}
 use Rattle.search_run.proofs.serial.run_serial.Goals as goal
 
 pub returns-in-Err-BadLine-clause-bad_script : goal.returns-in-Err-BadLine-clause-bad_script
 returns-in-Err-BadLine-clause-bad_script g c = λ bytes told k is.
-    let least = least_bad_line_of_read bytes c.deref.result.now c.in-Err-BadLine.line (c.deref.ensures.value ∙ c.in-Ok.ensures.text bytes told) (c.in-Err-BadLine.ensures.bad_line c.in-Err-BadLine.line (ap Err c.in-Err-BadLine.field-0-is)) in
+    let bad = IsBad-read bytes c.deref.result.now c.in-Err-BadLine.line (c.deref.ensures.value ∙ c.in-Ok.ensures.text bytes told) (c.in-Err-BadLine.ensures.bad_line c.in-Err-BadLine.line (ap Err c.in-Err-BadLine.field-0-is)) in
     let same : c.in-Err-BadLine.line ≡ k = cc in
-    subst (IsLeastBadLine bytes) same least
+    subst (IsBad bytes) same bad
 
 pub returns-in-Err-BadLine-clause-bad_script_left : goal.returns-in-Err-BadLine-clause-bad_script_left
 returns-in-Err-BadLine-clause-bad_script_left g c = λ bytes told short k is.
@@ -15,39 +15,42 @@ returns-in-Err-BadLine-clause-bad_script_left g c = λ bytes told short k is.
 
 pub returns-in-Err-BadLine-clause-complete : goal.returns-in-Err-BadLine-clause-complete
 returns-in-Err-BadLine-clause-complete g c = λ bytes told none good source sink.
-    let least = least_bad_line_of_read bytes c.deref.result.now c.in-Err-BadLine.line (c.deref.ensures.value ∙ c.in-Ok.ensures.text bytes told) (c.in-Err-BadLine.ensures.bad_line c.in-Err-BadLine.line (ap Err c.in-Err-BadLine.field-0-is)) in
-    absurd (good c.in-Err-BadLine.line least.bad)
+    let bad = IsBad-read bytes c.deref.result.now c.in-Err-BadLine.line (c.deref.ensures.value ∙ c.in-Ok.ensures.text bytes told) (c.in-Err-BadLine.ensures.bad_line c.in-Err-BadLine.line (ap Err c.in-Err-BadLine.field-0-is)) in
+    absurd (good_not_bad bytes c.in-Err-BadLine.line good bad)
+
+pub run_statements-requires : goal.run_statements-requires
+run_statements-requires g c = rw c.deref-2.ensures.value (IsScript-few c.deref.result.now c.in-Ok-read_whole.placed.items c.in-Ok-read_whole.ensures.script)
 
 pub returns-in-Ok-run_statements-clause-in_grammar : goal.returns-in-Ok-run_statements-clause-in_grammar
 returns-in-Ok-run_statements-clause-in_grammar g c = λ bytes told ends.
-    (script_of_read bytes c.deref.result.now c.in-Ok-read_script.placed.items (c.deref.ensures.value ∙ c.in-Ok.ensures.text bytes told) c.in-Ok-read_script.ensures.script).in_grammar
+    IsScript-in_grammar bytes c.in-Ok-read_whole.placed.items (IsScript-read bytes c.deref.result.now c.in-Ok-read_whole.placed.items (c.deref.ensures.value ∙ c.in-Ok.ensures.text bytes told) c.in-Ok-read_whole.ensures.script)
 
 pub returns-in-Ok-run_statements-clause-done_left : goal.returns-in-Ok-run_statements-clause-done_left
 returns-in-Ok-run_statements-clause-done_left g c = λ bytes told is.
-    let script = script_of_read bytes c.deref.result.now c.in-Ok-read_script.placed.items (c.deref.ensures.value ∙ c.in-Ok.ensures.text bytes told) c.in-Ok-read_script.ensures.script in
-    c.in-Ok.ensures.left bytes told ∙ ap Some (nothing_left bytes (in_grammar-short bytes script.in_grammar))
+    let script = IsScript-read bytes c.deref.result.now c.in-Ok-read_whole.placed.items (c.deref.ensures.value ∙ c.in-Ok.ensures.text bytes told) c.in-Ok-read_whole.ensures.script in
+    c.in-Ok.ensures.left bytes told ∙ ap Some (nothing_left bytes script.0)
 
 pub returns-in-Ok-run_statements-clause-done : goal.returns-in-Ok-run_statements-clause-done
 returns-in-Ok-run_statements-clause-done g c = λ bytes files before told files_told written is. record {
-  placed = c.in-Ok-read_script.placed.items;
-  spelled = script_of_read bytes c.deref.result.now c.in-Ok-read_script.placed.items (c.deref.ensures.value ∙ c.in-Ok.ensures.text bytes told) c.in-Ok-read_script.ensures.script;
+  placed = c.in-Ok-read_whole.placed.items;
+  spelled = IsScript-read bytes c.deref.result.now c.in-Ok-read_whole.placed.items (c.deref.ensures.value ∙ c.in-Ok.ensures.text bytes told) c.in-Ok-read_whole.ensures.script;
   lawful = rw c.deref-2.ensures.value at (c.in-Ok-run_statements.ensures.lawful files files_told before written);
 }
 
 pub returns-in-Err-SinkFault-clause-in_grammar : goal.returns-in-Err-SinkFault-clause-in_grammar
 returns-in-Err-SinkFault-clause-in_grammar g c = λ bytes told ends.
-    (script_of_read bytes c.deref.result.now c.in-Ok-read_script.placed.items (c.deref.ensures.value ∙ c.in-Ok.ensures.text bytes told) c.in-Ok-read_script.ensures.script).in_grammar
+    IsScript-in_grammar bytes c.in-Ok-read_whole.placed.items (IsScript-read bytes c.deref.result.now c.in-Ok-read_whole.placed.items (c.deref.ensures.value ∙ c.in-Ok.ensures.text bytes told) c.in-Ok-read_whole.ensures.script)
 
 pub returns-in-Err-SinkFault-clause-stopped : goal.returns-in-Err-SinkFault-clause-stopped
 returns-in-Err-SinkFault-clause-stopped g c = λ bytes files before told files_told written is. record {
-  placed = c.in-Ok-read_script.placed.items;
-  spelled = script_of_read bytes c.deref.result.now c.in-Ok-read_script.placed.items (c.deref.ensures.value ∙ c.in-Ok.ensures.text bytes told) c.in-Ok-read_script.ensures.script;
+  placed = c.in-Ok-read_whole.placed.items;
+  spelled = IsScript-read bytes c.deref.result.now c.in-Ok-read_whole.placed.items (c.deref.ensures.value ∙ c.in-Ok.ensures.text bytes told) c.in-Ok-read_whole.ensures.script;
   begun = rw c.deref-2.ensures.value at (c.in-Err-SinkFault.ensures.begun files files_told before written);
 }
 
 pub returns-clause-no_memory : goal.returns-clause-no_memory
 returns-clause-no_memory g c = λ bytes files before told files_told written is. inr (record {
-  placed = c.in-Ok-read_script.placed.items;
-  spelled = script_of_read bytes c.deref.result.now c.in-Ok-read_script.placed.items (c.deref.ensures.value ∙ c.in-Ok.ensures.text bytes told) c.in-Ok-read_script.ensures.script;
+  placed = c.in-Ok-read_whole.placed.items;
+  spelled = IsScript-read bytes c.deref.result.now c.in-Ok-read_whole.placed.items (c.deref.ensures.value ∙ c.in-Ok.ensures.text bytes told) c.in-Ok-read_whole.ensures.script;
   begun = rw c.deref-2.ensures.value at (c.in-Err-NoMemory-run_statements.ensures.begun files files_told before written);
 })

@@ -1,4 +1,0 @@
-use Rattle.search_run.proofs.search.search_game.Given as goal
-
-abbrev pub ghosts-search_counted : goal.ghosts-search_counted
-ghosts-search_counted a = record { name = a.blank.name; parts = a.blank.parts }

@@ -1,0 +1,148 @@
+// Games, queries and answers for the tests, from texts.
+ghost use Rattle.std.specs.Prelude.{All, IfOk, OnOk};
+ghost use Rattle.session_core.specs.Games.{HasItsChanges};
+
+use crate::{MAX_GAMES, Session, Stored};
+use game_tree::{GameTree, build};
+use kb_geometry::{Rect, Shape};
+use node_position::deltas;
+use pattern_images::Query;
+use pattern_syntax::read_pattern;
+use query_script::Statement;
+use sgf_reader::read;
+use std::alloc::Global;
+use std::process::Abort;
+use std::test::Fail;
+
+/// Files: the name of each, and its text.
+pub(crate) type Files = &'static [(&'static str, &'static str)];
+
+/// A search: its options and its pattern.
+#[derive(Clone, Copy)]
+pub(crate) struct Asked {
+    pub same: bool,
+    pub fixed: bool,
+    pub main: bool,
+    pub board: Option<(u8, u8)>,
+    pub moves: (u32, u32),
+    /// The one base place.
+    pub at: Option<(u8, u8)>,
+    pub pattern: &'static str,
+}
+
+/// The line and the version that the answers tell.
+const LINE: u32 = 3;
+
+const VERSION: u64 = 1;
+
+fn one_point(at: (u8, u8)) -> Rect {
+    let (x, y) = at;
+    Rect {
+        x0: x,
+        y0: y,
+        x1: x,
+        y1: y,
+    }
+}
+
+fn query_of(alloc: Global, asked: Asked) -> Result<Query, Fail> {
+    let (from_move, to_move) = asked.moves;
+    Ok(Query {
+        pattern: read_pattern(alloc, asked.pattern)?,
+        same: asked.same,
+        fixed: asked.fixed,
+        main: asked.main,
+        board: asked.board.and_then(|(cols, rows)| Shape::new(cols, rows)),
+        from_move,
+        to_move,
+        at: asked.at.map(one_point),
+    })
+}
+
+/// The game with its changes.
+fn stored(alloc: Global, file: &str, place: u32, tree: GameTree) -> Result<Stored, Fail>
+    ensures { IfOk result (λ stored. HasItsChanges stored) }
+{
+    let deltas = deltas(alloc, &tree)?;
+    Ok(Stored {
+        file: String::from_str(alloc, file)?,
+        place,
+        tree,
+        deltas,
+    })
+}
+
+/// Adds the games of a file.
+fn add_file(alloc: Global, file: &str, text: &[u8], games: &mut Vec<Stored>) -> Result<(), Fail>
+    requires { All HasItsChanges games.old.items }
+    ensures { OnOk result (All HasItsChanges games.new.items) }
+{
+    let collection = read(alloc, text)?;
+    let mut place = 0;
+    for tree in build(alloc, text, &collection)? {
+        games.push(stored(alloc, file, place, tree)?)?;
+        place = place.saturating_add(1);
+    }
+    Ok(())
+}
+
+/// The games of files.
+fn games_of(alloc: Global, files: Files) -> Result<Vec<Stored>, Fail>
+    ensures { IfOk result (λ games. All HasItsChanges games.items) }
+{
+    let mut games = Vec::new(alloc);
+    for (file, text) in files {
+        add_file(alloc, file, text.as_bytes(), &mut games)?;
+    }
+    Ok(games)
+}
+
+/// The text of a search over the games of files.
+pub(crate) fn search_text(
+    rt: &impl Abort,
+    alloc: Global,
+    files: Files,
+    asked: Asked,
+) -> Result<String, Fail> {
+    let query = query_of(alloc, asked)?;
+    let games = games_of(alloc, files)?;
+    assert!(rt; games.len() <= MAX_GAMES as usize);
+    let mut out = Vec::new(alloc);
+    let statement = Statement::Search { query };
+    Session::new().answer(alloc, LINE, &statement, VERSION, &games, &mut out)?;
+    Ok(String::from_utf8(out)?)
+}
+
+/// The text of the game with a number among the games of files.
+pub(crate) fn game_text(
+    rt: &impl Abort,
+    alloc: Global,
+    files: Files,
+    number: u32,
+) -> Result<String, Fail> {
+    let games = games_of(alloc, files)?;
+    assert!(rt; games.len() <= MAX_GAMES as usize);
+    let mut out = Vec::new(alloc);
+    let statement = Statement::Game { number };
+    Session::new().answer(alloc, LINE, &statement, VERSION, &games, &mut out)?;
+    Ok(String::from_utf8(out)?)
+}
+
+/// The text of the game with a number, and behind it that of a search in a block, over the games of files.
+pub(crate) fn two_texts(
+    rt: &impl Abort,
+    alloc: Global,
+    files: Files,
+    number: u32,
+    asked: Asked,
+) -> Result<String, Fail> {
+    let query = query_of(alloc, asked)?;
+    let games = games_of(alloc, files)?;
+    assert!(rt; games.len() <= MAX_GAMES as usize);
+    let mut out = Vec::new(alloc);
+    let mut session = Session::new();
+    let statement = Statement::Game { number };
+    session.answer(alloc, LINE, &statement, VERSION, &games, &mut out)?;
+    session.answer_search(alloc, LINE, &query, VERSION, &games, &mut out)?;
+    Ok(String::from_utf8(out)?)
+}
