@@ -4,10 +4,12 @@ use Rattle.std.specs.Prelude.{OnErr, Result, cond}
 use Rattle.std.proofs.lemmas.List.Sums.{sum_by-append}
 use Rattle.std.proofs.Math.Seq.{split_at}
 use Rattle.std.proofs.lemmas.List.{append-nil, take_more}
-use Rattle.kb_edges.specs.Faults.{RoseBy}
+use Rattle.kb_edges.specs.Faults.{Rose, RoseBy}
 use Rattle.kb_edges.specs.Files.{File}
 use Rattle.search_run.specs.Course.{ImportCourse, losses_of}
 use Rattle.search_run.specs.Run.{HasRun, WritesBegun, WritesLawful}
+use Rattle.search_run.specs.Script.{IsScript}
+use Rattle.search_run.specs.Serial.{PrintsAll}
 use Rattle.search_run.specs.Lawful.{AreSearchTexts, IsNextPrefix, State, at_start, nothing, one_more}
 use Rattle.search_run.specs.Steps.{PassesStatement}
 use Rattle.session_core.specs.Answers.{IsSearchText}
@@ -81,3 +83,19 @@ split_here placed i p below is = split_at placed i p below ∙ ap (λ (q : Place
 -- the elements up to one, and it
 pub taken_more : {A : Type 0} (xs : List A) (i : ℕ) (x : A) → i < length xs → x ≡ get_or xs i x → take (i + 1) xs ≡ take i xs ++ x ∷ []
 taken_more {A} xs i x below is = take_more xs i x below ∙ ap (λ (y : A). take i xs ++ y ∷ []) (sym is)
+
+-- where the folder's count of faults didn't rise, nothing was lost
+pub no_loss : (n before now : ℕ) → RoseBy n before now → ¬ Rose before now → n ≡ 0
+no_loss n before now rose still = omega arith
+
+pub PrintsAll-still : (script : List ℕ) (files : List File) (before : List ℕ) (written : Option (List ℕ)) (faults_before faults_now : ℕ) (placed : List Placed) →
+    IsScript script placed → WritesLawful files placed before written faults_before faults_now → ¬ Rose faults_before faults_now → PrintsAll script files before written
+PrintsAll-still script files before written faults_before faults_now placed spelled h still = record {
+  placed = placed;
+  spelled = spelled;
+  course = h.course;
+  text = h.text;
+  lawful = h.lawful;
+  written_is = h.written_is;
+  nothing_lost = no_loss (losses_of h.course) faults_before faults_now h.paid still;
+}

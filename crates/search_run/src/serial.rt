@@ -1,9 +1,9 @@
 // The top call on one thread.
 ghost use Rattle.std.specs.Prelude.{◌≡◌, ◌≢◌, ◌≤◌, ◌<◌, ◌↔◌, ◌⊎◌, ℕ, List, [], Some, length};
-ghost use Rattle.kb_edges.specs.Faults.{Rose, RoseBy};
+ghost use Rattle.kb_edges.specs.Faults.{Rose};
 ghost use Rattle.kb_edges.specs.Files.{File};
 ghost use Rattle.search_run.specs.Script.{IsBad, IsInGrammar};
-ghost use Rattle.search_run.specs.Serial.{Begins, IsEarly, Prints};
+ghost use Rattle.search_run.specs.Serial.{Begins, IsEarly, Prints, PrintsAll};
 ghost use Rattle.query_script.specs.declared.statement.TheConstants.{MAX_SCRIPT};
 ghost use Rattle.search_run.specs.declared.status.Status.{Status};
 
@@ -56,7 +56,8 @@ pub fn run_serial<F: Folder, S: Source, K: Sink>(
     // Where nothing fails, the run is done, or memory was wanted. Where the folder doesn't fail, nothing is lost.
     ensures complete { (bytes : List ℕ) → S.left script.old ≡ Some bytes → words.now ≡ [] → IsInGrammar bytes →
         ¬ Rose (S.faults script.old) (S.faults script.new) → ¬ Rose (K.faults out.old) (K.faults out.new) → (result.0 ≡ Status.Done) ⊎ (result.0 ≡ Status.NoMemory) }
-    ensures no_loss { (n : ℕ) → RoseBy n (F.faults folder) (F.faults result.1) → ¬ Rose (F.faults folder) (F.faults result.1) → n ≡ 0 }
+    ensures no_loss { (bytes : List ℕ) (files : List File) (before : List ℕ) → S.left script.old ≡ Some bytes → F.files folder ≡ Some files → K.written out.old ≡ Some before →
+        result.0 ≡ Status.Done → ¬ Rose (F.faults folder) (F.faults result.1) → PrintsAll bytes files before (K.written out.new) }
 
     // Before the first statement nothing is written, and the folder isn't asked.
     ensures nothing_written { IsEarly result.0 → K.written out.new ≡ K.written out.old }

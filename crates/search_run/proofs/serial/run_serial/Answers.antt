@@ -1,6 +1,7 @@
 use Rattle.std.proofs.Common.{◌≡◌, ◌∙◌, Err, Some, ap, inr, subst}
 use Rattle.search_run.specs.Script.{IsBad}
 use Rattle.search_run.proofs.ScriptLemmas.{IsBad-read, IsScript-few, IsScript-in_grammar, IsScript-read, good_not_bad, nothing_left}
+use Rattle.search_run.proofs.RunLemmas.{PrintsAll-still}
 use Rattle.search_run.proofs.serial.run_serial.Goals as goal
 
 pub returns-in-Err-BadLine-clause-bad_script : goal.returns-in-Err-BadLine-clause-bad_script
@@ -36,6 +37,13 @@ returns-in-Ok-run_statements-clause-done g c = λ bytes files before told files_
   spelled = IsScript-read bytes c.deref.result.now c.in-Ok-read_whole.placed.items (c.deref.ensures.value ∙ c.in-Ok.ensures.text bytes told) c.in-Ok-read_whole.ensures.script;
   lawful = rw c.deref-2.ensures.value at (c.in-Ok-run_statements.ensures.lawful files files_told before written);
 }
+
+pub returns-in-Ok-run_statements-clause-no_loss : goal.returns-in-Ok-run_statements-clause-no_loss
+returns-in-Ok-run_statements-clause-no_loss g c = λ bytes files before told files_told written is still.
+    let ran = rw c.deref-2.ensures.value at (c.in-Ok-run_statements.ensures.lawful files files_told before written) in
+    PrintsAll-still bytes files before _ _ _ c.in-Ok-read_whole.placed.items
+    (IsScript-read bytes c.deref.result.now c.in-Ok-read_whole.placed.items (c.deref.ensures.value ∙ c.in-Ok.ensures.text bytes told) c.in-Ok-read_whole.ensures.script)
+    ran still
 
 pub returns-in-Err-SinkFault-clause-in_grammar : goal.returns-in-Err-SinkFault-clause-in_grammar
 returns-in-Err-SinkFault-clause-in_grammar g c = λ bytes told ends.
