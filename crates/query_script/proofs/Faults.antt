@@ -1,32 +1,32 @@
 -- Which lines of a script are bad, as far as it is read.
-use Rattle.std.proofs.Common.{◌≡◌, ◌⊎◌, ⊎_elim, inl, inr, ℕ, ◌+◌, ◌<◌, ◌≤◌, List, [], ◌∷◌, length, get_or, refl, ap, arith}
+use Rattle.std.proofs.Common.{◌≡◌, ◌⊎◌, ⊎_elim, inl, inr, ℕ, ◌+◌, ◌<◌, ◌≤◌, List, [], ◌∷◌, length, refl, arith}
 use Rattle.std.proofs.Math.Nat.{eq-or-lt_of_le}
 use Rattle.std.proofs.lemmas.Bool.{cases_lt, cases_order}
 use Rattle.std.proofs.lemmas.List.{get_or_past}
-use Rattle.pattern_images.specs.declared.query.Query.{Query}
+use Rattle.std.proofs.lemmas.List.Elements.{All-nil}
 use Rattle.query_script.specs.Lines.{IsLine}
 use Rattle.query_script.specs.Progress.{IsBegun}
-use Rattle.query_script.specs.Script.{IsBadLine, IsFaulty, IsLeastBadLine, IsSearch, IsWithin, block_inside_block, ends_empty_block, ends_no_block, line_at, never_ended, one_search_too_many, spells_nothing, statement_inside_block}
-use Rattle.query_script.specs.Statements.{Spells, SpellsEnd, SpellsSearch, SpellsTogether}
+use Rattle.query_script.specs.Script.{IsBadLine, IsFaulty, IsLeastBadLine, IsWithin, block_inside_block, ends_empty_block, ends_no_block, line_at, never_ended, one_search_too_many, spells_nothing, statement_inside_block}
+use Rattle.query_script.specs.Statements.{SpellsEnd, SpellsTogether}
+use Rattle.query_script.specs.Words as words
+use Rattle.query_script.specs.Words.{AreWords, IsBlank}
 use Rattle.query_script.specs.declared.line.Line.{Line}
 use Rattle.query_script.specs.declared.line.Line.TheVariants as line
 use Rattle.query_script.specs.declared.statement.Placed.{Placed}
 use Rattle.query_script.specs.declared.statement.Statement.{Statement}
 use Rattle.query_script.specs.declared.statement.Statement.TheVariants as statement
-use Rattle.query_script.proofs.FirstWords.{no_word, one_first_word}
+use Rattle.query_script.specs.declared.word.Word.{Word}
+use Rattle.query_script.proofs.LineWords.{AreWords-once}
 
 -- a number below the next one
 pub lt_or_same : (m k : ℕ) → m < k + 1 → (m < k) ⊎ (m ≡ k)
 lt_or_same m k h = ⊎_elim (λ same. inr same) (λ below. inl below) (eq-or-lt_of_le (omega arith))
 
--- a line that spells a search spells no other statement
-pub search_only : {text : List ℕ} {query : Query} (s : Statement) → SpellsSearch text query → Spells text s → IsSearch s
-search_only (statement.Import path) h other = absurd (omega (arith, ap (λ bytes. get_or bytes 0 0) (one_first_word (rw h.2.1 at h.1) (rw other.2.1 at other.1))))
-search_only statement.Wait h other = absurd (omega (arith, ap (λ bytes. get_or bytes 0 0) (one_first_word (rw h.2.1 at h.1) (rw other.2 at other.1))))
-search_only (statement.Until number) h other = absurd (omega (arith, ap (λ bytes. get_or bytes 0 0) (one_first_word (rw h.2.1 at h.1) (rw other.2.1 at other.1))))
-search_only (statement.Search query) h other = (query, refl)
-search_only (statement.Together searches) h other = absurd other.2
-search_only (statement.Game number) h other = absurd (omega (arith, ap (λ bytes. get_or bytes 0 0) (one_first_word (rw h.2.1 at h.1) (rw other.2.1 at other.1))))
+-- an empty line has no word
+no_word : {w : Word} {more : List Word} → ¬ AreWords [] (w ∷ more)
+no_word {w} {more} h =
+    let same : w ∷ more ≡ [] = AreWords-once [] (w ∷ more) [] h (words.none (All-nil IsBlank)) in
+    cc
 
 module _ (lines : List (List ℕ)) where
   -- no line behind the last one ends a block

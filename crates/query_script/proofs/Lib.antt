@@ -1,5 +1,4 @@
 mod Errors
-mod FirstWords
 mod Faults
 mod TextLines
 mod PlacedLists

@@ -1,5 +1,5 @@
 -- Reading a block of a script: what each kind of line does inside it, and what is known at the end.
-use Rattle.std.proofs.Common.{◌≡◌, ⊎_elim, inl, inr, ℕ, ◌+◌, ◌<◌, ◌≤◌, List, [], ◌∷◌, ◌++◌, length, get_or, map, ap, sym, arith}
+use Rattle.std.proofs.Common.{◌≡◌, ⊎_elim, inl, inr, ℕ, ◌+◌, ◌<◌, ◌≤◌, List, [], ◌∷◌, ◌++◌, length, get_or, map, refl, ap, sym, arith}
 use Rattle.std.proofs.lemmas.Bool.{cases_order}
 use Rattle.std.proofs.lemmas.List.{length-map, length_push}
 use Rattle.std.proofs.lemmas.List.Elements.{All-map, All-nil, All-push, All-weaker}
@@ -17,7 +17,8 @@ use Rattle.query_script.specs.declared.statement.Placed.{Placed}
 use Rattle.query_script.specs.declared.statement.PlacedSearch.{PlacedSearch}
 use Rattle.query_script.specs.declared.statement.Statement.{Statement}
 use Rattle.query_script.specs.declared.statement.Statement.TheVariants as statement
-use Rattle.query_script.proofs.Faults.{begun_after, good_before, least_bad, least_first, lt_or_same, no_end_past, one_block, search_only, skipped_fine, within_begun}
+use Rattle.query_script.proofs.Faults.{begun_after, good_before, least_bad, least_first, lt_or_same, no_end_past, one_block, skipped_fine, within_begun}
+use Rattle.query_script.proofs.LineStatements.{Spells-search}
 use Rattle.query_script.proofs.PlacedLists.{Any-kept, as_many, lines_ascend, one_of, placed_before, placed_in_order, searches_before, searches_in_order}
 use Rattle.query_script.proofs.ReadOutside.{stands_cases}
 
@@ -81,7 +82,7 @@ module _ (lines : List (List ℕ)) where
         let most = no_more most_searches (rw same at many) in
         omega arith
     search_fine query room is (block_inside_block j begins _) = is.2 begins
-    search_fine query room is (statement_inside_block j s spelled other _) = other (search_only s is.0 spelled)
+    search_fine query room is (statement_inside_block j s spelled other _) = other (Spells-search (line_at lines k) s (statement.Search query) spelled is.0 (query, refl))
     search_fine query room is (never_ended begins _) = is.2 begins
 
     -- the next line is a search

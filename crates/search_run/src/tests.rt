@@ -486,6 +486,9 @@ fn scripts_that_are_bad(rt: HostRuntime) -> Result<(), Fail> {
     Ok(())
 }
 
+/// A comment of 64 bytes with its line feed, of which 16,384 are as long as a script may be.
+const COMMENT: &str = "# The longest script has 16,384 lines that are as long as this.\n";
+
 #[test]
 fn long_scripts(rt: HostRuntime) -> Result<(), Fail> {
     // A first line, how often another follows it, the status, and how many bytes are left. A script may have
@@ -501,39 +504,27 @@ fn long_scripts(rt: HostRuntime) -> Result<(), Fail> {
         ),
         // in one line, which is bad for its length and not for its word
         ("", "w", 1_048_577, Status::BadScript { line: 1 }, 0),
-        // 1,048,575 bytes are in the lines before the last one
-        (
-            "",
-            "wait\n",
-            209_716,
-            Status::BadScript { line: 209_716 },
-            3,
-        ),
-        // the line feed of the last line is one byte too much
-        (
-            "import abcd\n",
-            "wait\n",
-            209_713,
-            Status::BadScript { line: 209_714 },
-            0,
-        ),
         // 1,048,576 bytes
-        ("import abc\n", "wait\n", 209_713, Status::Done, 0),
+        ("", COMMENT, 16_384, Status::Done, 0),
+        // 1,048,576 bytes are in the lines before the last one
+        ("", COMMENT, 16_385, Status::BadScript { line: 16_385 }, 63),
+        // the line feed of the last line is one byte too much
+        ("\n", COMMENT, 16_384, Status::BadScript { line: 16_385 }, 0),
         // a bad line before the one that is too long
         (
             "waits\n",
-            "wait\n",
-            300_000,
+            COMMENT,
+            20_000,
             Status::BadScript { line: 1 },
-            451_429,
+            231_429,
         ),
         // a block that isn't ended before the line that is too long
         (
             "together\n",
-            "#ab\n",
-            300_000,
+            COMMENT,
+            20_000,
             Status::BadScript { line: 1 },
-            151_432,
+            231_432,
         ),
     ];
     for (first, line, count, status, left) in cases {
@@ -541,6 +532,17 @@ fn long_scripts(rt: HostRuntime) -> Result<(), Fail> {
         assert_eq!(rt; ended.status, status, "{count} times {line} after {first}");
         assert_eq!(rt; ended.left, left, "{count} times {line} after {first}");
     }
+    Ok(())
+}
+
+#[test]
+fn many_statements(rt: HostRuntime) -> Result<(), Fail> {
+    // 1,048,576 bytes, in 209,714 statements
+    let ended = run_repeated(rt.alloc(), "import abc\n", "wait\n", 209_713)?;
+    assert_eq!(rt; ended.status, Status::Done);
+    assert_eq!(rt; ended.left, 0);
+    let last = "209714 wait version 0\n";
+    assert!(rt; ended.written.as_slice().ends_with(last.as_bytes()));
     Ok(())
 }
 

@@ -1,12 +1,10 @@
 // The hits of a query in games.
-ghost use Rattle.std.specs.Prelude.{◌≡◌, ◌↔◌, ◌<◌, ◌≤◌, ℕ, All, IfOk, IsTrue, OnOk, length, slice_index_or, take};
+ghost use Rattle.std.specs.Prelude.{◌≡◌, ◌↔◌, ◌<◌, ◌≤◌, All, IfOk, IsTrue, OnOk, length, take};
 ghost use Rattle.game_tree.specs.Tree.{node_count};
-ghost use Rattle.pattern_images.specs.ImageList.{IsPlaceOf, placement_at};
 ghost use Rattle.pattern_images.specs.Placements.{ArePlacements};
 ghost use Rattle.line_matcher.specs.Occurrences.{AreFound, occurrences_in};
-ghost use Rattle.continuation_table.specs.Continuation.{HoldsAt};
 ghost use Rattle.session_core.specs.Games.{HasItsChanges, games_of};
-ghost use Rattle.session_core.specs.Hits.{AreHits, AreHitsIn, AreHitsOf, IsHit, LooksAt};
+ghost use Rattle.session_core.specs.Hits.{AreHits, AreHitsIn, AreHitsOf, LooksAt};
 ghost use Rattle.session_core.specs.Searching.{AreHitsAdded, IsHitOf, IsPlacedAt, IsRun};
 
 use crate::stored::{MAX_GAMES, Stored};

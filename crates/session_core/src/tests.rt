@@ -69,397 +69,403 @@ fn have_texts(rt: &impl Abort, alloc: Global, cases: &[(Files, Asked, &str)]) ->
     Ok(())
 }
 
+const OCCURRENCES: [(Files, Asked, &str); 15] = [
+    (
+        THREE_STONES,
+        SAME_FIXED,
+        "3 search version 1 games 1 hits 2\nhit 0 1 2 2 0 -\nhit 0 3 2 1 0 -\ntotal 2 0 0 0 0 2\n",
+    ),
+    (
+        THREE_STONES,
+        SAME,
+        "3 search version 1 games 1 hits 2\nhit 0 1 2 2 0 -\nhit 0 3 2 1 0 -\ntotal 2 0 0 0 0 2\n",
+    ),
+    // Under an exchange of the colours.
+    (
+        THREE_STONES,
+        ANY,
+        "3 search version 1 games 1 hits 3\nhit 0 1 2 2 0 -\nhit 0 2 1 2 8 -\nhit 0 3 2 1 0 -\ntotal 3 0 0 0 0 3\n",
+    ),
+    // Made by a capture.
+    (
+        CAPTURE,
+        Asked {
+            pattern: ".X/X.",
+            ..SAME
+        },
+        "3 search version 1 games 1 hits 1\nhit 0 4 0 0 0 -\ntotal 1 0 0 0 0 1\n",
+    ),
+    (
+        CAPTURE,
+        Asked {
+            pattern: "O",
+            at: CORNER,
+            ..SAME
+        },
+        "3 search version 1 games 1 hits 2\nhit 0 1 0 0 0 -\nhit 0 3 2 2 3 -\ntotal 2 0 0 0 0 2\n",
+    ),
+    (
+        CAPTURE,
+        Asked {
+            pattern: "O",
+            at: CORNER,
+            ..SAME_FIXED
+        },
+        "3 search version 1 games 1 hits 1\nhit 0 1 0 0 0 -\ntotal 1 0 0 0 0 1\n",
+    ),
+    // A suicide leaves nothing.
+    (
+        &[("a.sgf", "(;SZ[2];B[aa];B[bb];W[ab])")],
+        Asked {
+            pattern: "O",
+            ..SAME
+        },
+        NONE,
+    ),
+    // A stone that stands in no last position.
+    (
+        GONE_AT_THE_END,
+        Asked {
+            pattern: "O",
+            ..SAME
+        },
+        "3 search version 1 games 1 hits 1\nhit 0 3 0 0 0 -\ntotal 1 0 0 0 0 1\n",
+    ),
+    // No place twice.
+    (
+        BLACK_AND_WHITE,
+        Asked {
+            pattern: "XO",
+            ..ANY
+        },
+        "3 search version 1 games 1 hits 1\nhit 0 2 0 0 0 -\ntotal 1 0 0 0 0 1\n",
+    ),
+    (
+        BLACK_AND_WHITE,
+        Asked {
+            pattern: "XO",
+            at: CORNER,
+            ..ANY
+        },
+        "3 search version 1 games 1 hits 1\nhit 0 2 0 0 0 -\ntotal 1 0 0 0 0 1\n",
+    ),
+    // The least board.
+    (
+        &[("a.sgf", "(;SZ[1])")],
+        Asked {
+            pattern: ".",
+            ..SAME
+        },
+        "3 search version 1 games 1 hits 1\nhit 0 0 0 0 0 -\ntotal 1 0 0 0 0 1\n",
+    ),
+    // Boards that aren't square.
+    (
+        WIDE_AND_HIGH,
+        Asked {
+            pattern: "XX",
+            board: Some((5, 3)),
+            ..SAME
+        },
+        "3 search version 1 games 2 hits 1\nhit 0 0 0 0 0 -\ntotal 1 0 0 0 0 1\n",
+    ),
+    (
+        WIDE_AND_HIGH,
+        Asked {
+            pattern: "XX",
+            ..SAME
+        },
+        "3 search version 1 games 2 hits 2\nhit 0 0 0 0 0 -\nhit 1 0 0 0 0 -\ntotal 2 0 0 0 0 2\n",
+    ),
+    (
+        WIDE_AND_HIGH,
+        Asked {
+            pattern: "X/X",
+            ..SAME
+        },
+        "3 search version 1 games 2 hits 0\ntotal 0 0 0 0 0 0\n",
+    ),
+    // A game as players keep it, in its second variation.
+    (
+        AS_PLAYERS_KEEP_IT,
+        Asked {
+            pattern: CORNER_SHAPE,
+            at: CORNER,
+            ..ANY
+        },
+        "3 search version 1 games 1 hits 1\nhit 0 6 0 0 0 -\ntotal 1 0 0 0 1 0\n",
+    ),
+];
+
 #[test]
 fn where_a_pattern_occurs(rt: HostRuntime) -> Result<(), Fail> {
-    let cases: [(Files, Asked, &str); 15] = [
-        (
-            THREE_STONES,
-            SAME_FIXED,
-            "3 search version 1 games 1 hits 2\nhit 0 1 2 2 0 -\nhit 0 3 2 1 0 -\ntotal 2 0 0 0 0 2\n",
-        ),
-        (
-            THREE_STONES,
-            SAME,
-            "3 search version 1 games 1 hits 2\nhit 0 1 2 2 0 -\nhit 0 3 2 1 0 -\ntotal 2 0 0 0 0 2\n",
-        ),
-        // Under an exchange of the colours.
-        (
-            THREE_STONES,
-            ANY,
-            "3 search version 1 games 1 hits 3\nhit 0 1 2 2 0 -\nhit 0 2 1 2 8 -\nhit 0 3 2 1 0 -\ntotal 3 0 0 0 0 3\n",
-        ),
-        // Made by a capture.
-        (
-            CAPTURE,
-            Asked {
-                pattern: ".X/X.",
-                ..SAME
-            },
-            "3 search version 1 games 1 hits 1\nhit 0 4 0 0 0 -\ntotal 1 0 0 0 0 1\n",
-        ),
-        (
-            CAPTURE,
-            Asked {
-                pattern: "O",
-                at: CORNER,
-                ..SAME
-            },
-            "3 search version 1 games 1 hits 2\nhit 0 1 0 0 0 -\nhit 0 3 2 2 3 -\ntotal 2 0 0 0 0 2\n",
-        ),
-        (
-            CAPTURE,
-            Asked {
-                pattern: "O",
-                at: CORNER,
-                ..SAME_FIXED
-            },
-            "3 search version 1 games 1 hits 1\nhit 0 1 0 0 0 -\ntotal 1 0 0 0 0 1\n",
-        ),
-        // A suicide leaves nothing.
-        (
-            &[("a.sgf", "(;SZ[2];B[aa];B[bb];W[ab])")],
-            Asked {
-                pattern: "O",
-                ..SAME
-            },
-            NONE,
-        ),
-        // A stone that stands in no last position.
-        (
-            GONE_AT_THE_END,
-            Asked {
-                pattern: "O",
-                ..SAME
-            },
-            "3 search version 1 games 1 hits 1\nhit 0 3 0 0 0 -\ntotal 1 0 0 0 0 1\n",
-        ),
-        // No place twice.
-        (
-            BLACK_AND_WHITE,
-            Asked {
-                pattern: "XO",
-                ..ANY
-            },
-            "3 search version 1 games 1 hits 1\nhit 0 2 0 0 0 -\ntotal 1 0 0 0 0 1\n",
-        ),
-        (
-            BLACK_AND_WHITE,
-            Asked {
-                pattern: "XO",
-                at: CORNER,
-                ..ANY
-            },
-            "3 search version 1 games 1 hits 1\nhit 0 2 0 0 0 -\ntotal 1 0 0 0 0 1\n",
-        ),
-        // The least board.
-        (
-            &[("a.sgf", "(;SZ[1])")],
-            Asked {
-                pattern: ".",
-                ..SAME
-            },
-            "3 search version 1 games 1 hits 1\nhit 0 0 0 0 0 -\ntotal 1 0 0 0 0 1\n",
-        ),
-        // Boards that aren't square.
-        (
-            WIDE_AND_HIGH,
-            Asked {
-                pattern: "XX",
-                board: Some((5, 3)),
-                ..SAME
-            },
-            "3 search version 1 games 2 hits 1\nhit 0 0 0 0 0 -\ntotal 1 0 0 0 0 1\n",
-        ),
-        (
-            WIDE_AND_HIGH,
-            Asked {
-                pattern: "XX",
-                ..SAME
-            },
-            "3 search version 1 games 2 hits 2\nhit 0 0 0 0 0 -\nhit 1 0 0 0 0 -\ntotal 2 0 0 0 0 2\n",
-        ),
-        (
-            WIDE_AND_HIGH,
-            Asked {
-                pattern: "X/X",
-                ..SAME
-            },
-            "3 search version 1 games 2 hits 0\ntotal 0 0 0 0 0 0\n",
-        ),
-        // A game as players keep it, in its second variation.
-        (
-            AS_PLAYERS_KEEP_IT,
-            Asked {
-                pattern: CORNER_SHAPE,
-                at: CORNER,
-                ..ANY
-            },
-            "3 search version 1 games 1 hits 1\nhit 0 6 0 0 0 -\ntotal 1 0 0 0 1 0\n",
-        ),
-    ];
-    have_texts(&rt, rt.alloc(), &cases)
+    have_texts(&rt, rt.alloc(), &OCCURRENCES)
 }
+
+const CONTINUATIONS: [(Files, Asked, &str); 10] = [
+    // A move on a stone.
+    (
+        &[("a.sgf", "(;SZ[3];B[bb];W[bb])")],
+        Asked {
+            pattern: "O",
+            ..SAME
+        },
+        "3 search version 1 games 1 hits 1\nhit 0 2 1 1 0 -\ntotal 1 0 0 0 0 1\n",
+    ),
+    (
+        &[("a.sgf", "(;SZ[3];B[bb];W[bb])")],
+        SAME,
+        "3 search version 1 games 1 hits 1\nhit 0 1 1 1 0 W 0 0 now\nrow W 0 0 1 1 0 0 0 1\ntotal 1 1 0 0 0 1\n",
+    ),
+    // A ko that is fought twice.
+    (
+        &[(
+            "a.sgf",
+            "(;SZ[4:3]AB[ba][ab][bc]AW[ca][bb][db][cc];B[cb];W[bb];B[cb];W[bb])",
+        )],
+        Asked {
+            pattern: ".X",
+            at: Some((1, 1)),
+            ..SAME_FIXED
+        },
+        "3 search version 1 games 1 hits 2\nhit 0 1 1 1 0 W 0 0 now\nhit 0 3 1 1 0 W 0 0 now\nrow W 0 0 2 2 0 0 0 2\ntotal 2 2 0 0 0 2\n",
+    ),
+    // Wildcards alone.
+    (
+        &[("a.sgf", "(;SZ[2];B[aa])")],
+        Asked {
+            pattern: "*",
+            ..ANY
+        },
+        "3 search version 1 games 1 hits 4\nhit 0 0 0 0 0 B 0 0 now\nhit 0 0 1 0 0 -\nhit 0 0 0 1 0 -\nhit 0 0 1 1 0 -\nrow B 0 0 1 1 0 0 0 1\ntotal 4 1 0 0 0 4\n",
+    ),
+    // Passes between.
+    (
+        &[("a.sgf", "(;SZ[9];B[aa];W[tt];B[];W[ba])")],
+        Asked {
+            pattern: "X.",
+            at: CORNER,
+            ..SAME_FIXED
+        },
+        "3 search version 1 games 1 hits 1\nhit 0 1 0 0 0 W 1 0 later\nrow W 1 0 1 0 1 0 0 1\ntotal 1 0 1 0 0 1\n",
+    ),
+    // A capture between: of the stone that was looked for, and of one beside it.
+    (
+        &[("a.sgf", "(;SZ[3];W[aa];B[ba];W[cc];B[ab];B[aa])")],
+        Asked {
+            pattern: "O",
+            at: CORNER,
+            ..SAME_FIXED
+        },
+        "3 search version 1 games 1 hits 1\nhit 0 1 0 0 0 -\ntotal 1 0 0 0 0 1\n",
+    ),
+    (
+        &[("a.sgf", "(;SZ[3];B[aa];W[ba];B[bb];W[cc];B[ca];B[ba])")],
+        Asked {
+            pattern: "X.",
+            at: CORNER,
+            ..SAME_FIXED
+        },
+        "3 search version 1 games 1 hits 2\nhit 0 1 0 0 0 W 1 0 now\nhit 0 5 0 0 0 B 1 0 now\nrow B 1 0 1 1 0 0 0 1\nrow W 1 0 1 1 0 0 0 1\ntotal 2 2 0 0 0 2\n",
+    ),
+    // Turned back and exchanged back.
+    (
+        &[("a.sgf", "(;SZ[3]RE[W+R];W[aa];B[ab])")],
+        Asked {
+            pattern: "X.",
+            at: CORNER,
+            ..ANY
+        },
+        "3 search version 1 games 1 hits 2\nhit 0 1 0 0 8 -\nhit 0 1 0 0 12 W 1 0 now\nrow W 1 0 1 1 0 1 0 0\ntotal 2 1 0 2 0 0\n",
+    ),
+    // Exchanged alone.
+    (
+        &[("a.sgf", "(;SZ[3]RE[B+1];W[aa];B[ba])")],
+        Asked {
+            pattern: "X.",
+            at: CORNER,
+            fixed: true,
+            ..ANY
+        },
+        "3 search version 1 games 1 hits 1\nhit 0 1 0 0 8 W 1 0 now\nrow W 1 0 1 1 0 0 1 0\ntotal 1 1 0 0 1 0\n",
+    ),
+    // Two games that ended otherwise.
+    (
+        &[(
+            "a.sgf",
+            "(;SZ[3]RE[B+R];B[aa];W[ba])(;SZ[3]RE[W+2];B[aa];B[ba])",
+        )],
+        Asked {
+            pattern: "X.",
+            at: CORNER,
+            ..SAME_FIXED
+        },
+        "3 search version 1 games 2 hits 2\nhit 0 1 0 0 0 W 1 0 now\nhit 1 1 0 0 0 B 1 0 now\nrow B 1 0 1 1 0 0 1 0\nrow W 1 0 1 1 0 1 0 0\ntotal 2 2 0 1 1 0\n",
+    ),
+];
 
 #[test]
 fn how_games_go_on(rt: HostRuntime) -> Result<(), Fail> {
-    let cases: [(Files, Asked, &str); 10] = [
-        // A move on a stone.
-        (
-            &[("a.sgf", "(;SZ[3];B[bb];W[bb])")],
-            Asked {
-                pattern: "O",
-                ..SAME
-            },
-            "3 search version 1 games 1 hits 1\nhit 0 2 1 1 0 -\ntotal 1 0 0 0 0 1\n",
-        ),
-        (
-            &[("a.sgf", "(;SZ[3];B[bb];W[bb])")],
-            SAME,
-            "3 search version 1 games 1 hits 1\nhit 0 1 1 1 0 W 0 0 now\nrow W 0 0 1 1 0 0 0 1\ntotal 1 1 0 0 0 1\n",
-        ),
-        // A ko that is fought twice.
-        (
-            &[(
-                "a.sgf",
-                "(;SZ[4:3]AB[ba][ab][bc]AW[ca][bb][db][cc];B[cb];W[bb];B[cb];W[bb])",
-            )],
-            Asked {
-                pattern: ".X",
-                at: Some((1, 1)),
-                ..SAME_FIXED
-            },
-            "3 search version 1 games 1 hits 2\nhit 0 1 1 1 0 W 0 0 now\nhit 0 3 1 1 0 W 0 0 now\nrow W 0 0 2 2 0 0 0 2\ntotal 2 2 0 0 0 2\n",
-        ),
-        // Wildcards alone.
-        (
-            &[("a.sgf", "(;SZ[2];B[aa])")],
-            Asked {
-                pattern: "*",
-                ..ANY
-            },
-            "3 search version 1 games 1 hits 4\nhit 0 0 0 0 0 B 0 0 now\nhit 0 0 1 0 0 -\nhit 0 0 0 1 0 -\nhit 0 0 1 1 0 -\nrow B 0 0 1 1 0 0 0 1\ntotal 4 1 0 0 0 4\n",
-        ),
-        // Passes between.
-        (
-            &[("a.sgf", "(;SZ[9];B[aa];W[tt];B[];W[ba])")],
-            Asked {
-                pattern: "X.",
-                at: CORNER,
-                ..SAME_FIXED
-            },
-            "3 search version 1 games 1 hits 1\nhit 0 1 0 0 0 W 1 0 later\nrow W 1 0 1 0 1 0 0 1\ntotal 1 0 1 0 0 1\n",
-        ),
-        // A capture between: of the stone that was looked for, and of one beside it.
-        (
-            &[("a.sgf", "(;SZ[3];W[aa];B[ba];W[cc];B[ab];B[aa])")],
-            Asked {
-                pattern: "O",
-                at: CORNER,
-                ..SAME_FIXED
-            },
-            "3 search version 1 games 1 hits 1\nhit 0 1 0 0 0 -\ntotal 1 0 0 0 0 1\n",
-        ),
-        (
-            &[("a.sgf", "(;SZ[3];B[aa];W[ba];B[bb];W[cc];B[ca];B[ba])")],
-            Asked {
-                pattern: "X.",
-                at: CORNER,
-                ..SAME_FIXED
-            },
-            "3 search version 1 games 1 hits 2\nhit 0 1 0 0 0 W 1 0 now\nhit 0 5 0 0 0 B 1 0 now\nrow B 1 0 1 1 0 0 0 1\nrow W 1 0 1 1 0 0 0 1\ntotal 2 2 0 0 0 2\n",
-        ),
-        // Turned back and exchanged back.
-        (
-            &[("a.sgf", "(;SZ[3]RE[W+R];W[aa];B[ab])")],
-            Asked {
-                pattern: "X.",
-                at: CORNER,
-                ..ANY
-            },
-            "3 search version 1 games 1 hits 2\nhit 0 1 0 0 8 -\nhit 0 1 0 0 12 W 1 0 now\nrow W 1 0 1 1 0 1 0 0\ntotal 2 1 0 2 0 0\n",
-        ),
-        // Exchanged alone.
-        (
-            &[("a.sgf", "(;SZ[3]RE[B+1];W[aa];B[ba])")],
-            Asked {
-                pattern: "X.",
-                at: CORNER,
-                fixed: true,
-                ..ANY
-            },
-            "3 search version 1 games 1 hits 1\nhit 0 1 0 0 8 W 1 0 now\nrow W 1 0 1 1 0 0 1 0\ntotal 1 1 0 0 1 0\n",
-        ),
-        // Two games that ended otherwise.
-        (
-            &[(
-                "a.sgf",
-                "(;SZ[3]RE[B+R];B[aa];W[ba])(;SZ[3]RE[W+2];B[aa];B[ba])",
-            )],
-            Asked {
-                pattern: "X.",
-                at: CORNER,
-                ..SAME_FIXED
-            },
-            "3 search version 1 games 2 hits 2\nhit 0 1 0 0 0 W 1 0 now\nhit 1 1 0 0 0 B 1 0 now\nrow B 1 0 1 1 0 0 1 0\nrow W 1 0 1 1 0 1 0 0\ntotal 2 2 0 1 1 0\n",
-        ),
-    ];
-    have_texts(&rt, rt.alloc(), &cases)
+    have_texts(&rt, rt.alloc(), &CONTINUATIONS)
 }
+
+const AT_MOVE_1: &str = "3 search version 1 games 1 hits 1\nhit 0 1 0 0 0 -\ntotal 1 0 0 0 0 1\n";
+
+const AT_MOVE_3: &str =
+    "3 search version 1 games 1 hits 2\nhit 0 3 2 2 0 -\nhit 0 4 2 0 0 -\ntotal 2 0 0 0 0 2\n";
+
+const NODES: [(Files, Asked, &str); 12] = [
+    // The main line.
+    (
+        GONE_AT_THE_END,
+        Asked {
+            pattern: "O",
+            main: true,
+            ..SAME
+        },
+        NONE,
+    ),
+    (
+        VARIATION,
+        Asked {
+            main: true,
+            ..SAME_FIXED
+        },
+        "3 search version 1 games 1 hits 2\nhit 0 1 0 0 0 -\nhit 0 3 2 2 0 -\ntotal 2 0 0 0 0 2\n",
+    ),
+    (
+        AS_PLAYERS_KEEP_IT,
+        Asked {
+            pattern: CORNER_SHAPE,
+            at: CORNER,
+            main: true,
+            ..ANY
+        },
+        NONE,
+    ),
+    // Bounds on moves, at their edges.
+    (
+        VARIATION,
+        Asked {
+            moves: (0, 0),
+            ..SAME_FIXED
+        },
+        NONE,
+    ),
+    (
+        VARIATION,
+        Asked {
+            moves: (0, 1),
+            ..SAME_FIXED
+        },
+        AT_MOVE_1,
+    ),
+    (
+        VARIATION,
+        Asked {
+            moves: (1, 2),
+            ..SAME_FIXED
+        },
+        AT_MOVE_1,
+    ),
+    (
+        VARIATION,
+        Asked {
+            moves: (2, 2),
+            ..SAME_FIXED
+        },
+        NONE,
+    ),
+    (
+        VARIATION,
+        Asked {
+            moves: (2, 3),
+            ..SAME_FIXED
+        },
+        AT_MOVE_3,
+    ),
+    (
+        VARIATION,
+        Asked {
+            moves: (3, 65_536),
+            ..SAME_FIXED
+        },
+        AT_MOVE_3,
+    ),
+    (
+        VARIATION,
+        Asked {
+            moves: (4, 65_536),
+            ..SAME_FIXED
+        },
+        NONE,
+    ),
+    // A setup is no move, and a pass is one.
+    (
+        &[("a.sgf", "(;SZ[3];AB[aa];B[];B[bb])")],
+        Asked {
+            moves: (0, 0),
+            ..SAME_FIXED
+        },
+        AT_MOVE_1,
+    ),
+    (
+        &[("a.sgf", "(;SZ[3];AB[aa];B[];B[bb])")],
+        Asked {
+            moves: (2, 2),
+            ..SAME_FIXED
+        },
+        "3 search version 1 games 1 hits 1\nhit 0 3 1 1 0 -\ntotal 1 0 0 0 0 1\n",
+    ),
+];
 
 #[test]
 fn at_which_nodes_a_search_looks(rt: HostRuntime) -> Result<(), Fail> {
-    let first = "3 search version 1 games 1 hits 1\nhit 0 1 0 0 0 -\ntotal 1 0 0 0 0 1\n";
-    let last =
-        "3 search version 1 games 1 hits 2\nhit 0 3 2 2 0 -\nhit 0 4 2 0 0 -\ntotal 2 0 0 0 0 2\n";
-    let cases: [(Files, Asked, &str); 12] = [
-        // The main line.
-        (
-            GONE_AT_THE_END,
-            Asked {
-                pattern: "O",
-                main: true,
-                ..SAME
-            },
-            NONE,
-        ),
-        (
-            VARIATION,
-            Asked {
-                main: true,
-                ..SAME_FIXED
-            },
-            "3 search version 1 games 1 hits 2\nhit 0 1 0 0 0 -\nhit 0 3 2 2 0 -\ntotal 2 0 0 0 0 2\n",
-        ),
-        (
-            AS_PLAYERS_KEEP_IT,
-            Asked {
-                pattern: CORNER_SHAPE,
-                at: CORNER,
-                main: true,
-                ..ANY
-            },
-            NONE,
-        ),
-        // Bounds on moves, at their edges.
-        (
-            VARIATION,
-            Asked {
-                moves: (0, 0),
-                ..SAME_FIXED
-            },
-            NONE,
-        ),
-        (
-            VARIATION,
-            Asked {
-                moves: (0, 1),
-                ..SAME_FIXED
-            },
-            first,
-        ),
-        (
-            VARIATION,
-            Asked {
-                moves: (1, 2),
-                ..SAME_FIXED
-            },
-            first,
-        ),
-        (
-            VARIATION,
-            Asked {
-                moves: (2, 2),
-                ..SAME_FIXED
-            },
-            NONE,
-        ),
-        (
-            VARIATION,
-            Asked {
-                moves: (2, 3),
-                ..SAME_FIXED
-            },
-            last,
-        ),
-        (
-            VARIATION,
-            Asked {
-                moves: (3, 65_536),
-                ..SAME_FIXED
-            },
-            last,
-        ),
-        (
-            VARIATION,
-            Asked {
-                moves: (4, 65_536),
-                ..SAME_FIXED
-            },
-            NONE,
-        ),
-        // A setup is no move, and a pass is one.
-        (
-            &[("a.sgf", "(;SZ[3];AB[aa];B[];B[bb])")],
-            Asked {
-                moves: (0, 0),
-                ..SAME_FIXED
-            },
-            first,
-        ),
-        (
-            &[("a.sgf", "(;SZ[3];AB[aa];B[];B[bb])")],
-            Asked {
-                moves: (2, 2),
-                ..SAME_FIXED
-            },
-            "3 search version 1 games 1 hits 1\nhit 0 3 1 1 0 -\ntotal 1 0 0 0 0 1\n",
-        ),
-    ];
-    have_texts(&rt, rt.alloc(), &cases)
+    have_texts(&rt, rt.alloc(), &NODES)
 }
+
+const MANY_GAMES: [(Files, Asked, &str); 5] = [
+    // Boards of several shapes, in turn.
+    (
+        MANY,
+        Asked { at: CORNER, ..SAME },
+        "3 search version 1 games 6 hits 5\nhit 0 1 0 0 0 -\nhit 1 1 2 2 3 -\nhit 2 1 0 0 0 -\nhit 4 1 4 2 3 -\nhit 5 2 3 0 1 -\ntotal 5 0 0 0 0 5\n",
+    ),
+    (
+        MANY,
+        Asked {
+            board: Some((3, 3)),
+            ..SAME_FIXED
+        },
+        "3 search version 1 games 6 hits 3\nhit 0 1 0 0 0 -\nhit 1 1 2 2 0 -\nhit 3 1 1 1 0 -\ntotal 3 0 0 0 0 3\n",
+    ),
+    (
+        MANY,
+        Asked {
+            board: Some((5, 3)),
+            ..SAME_FIXED
+        },
+        "3 search version 1 games 6 hits 2\nhit 2 1 0 0 0 -\nhit 4 1 4 2 0 -\ntotal 2 0 0 0 0 2\n",
+    ),
+    // Wider than most of the boards.
+    (
+        MANY,
+        Asked {
+            pattern: "O..X",
+            ..SAME_FIXED
+        },
+        "3 search version 1 games 6 hits 1\nhit 5 2 0 0 0 -\ntotal 1 0 0 0 0 1\n",
+    ),
+    // A version without a game.
+    (
+        &[],
+        ANY,
+        "3 search version 1 games 0 hits 0\ntotal 0 0 0 0 0 0\n",
+    ),
+];
 
 #[test]
 fn searches_over_many_games(rt: HostRuntime) -> Result<(), Fail> {
-    let cases: [(Files, Asked, &str); 5] = [
-        // Boards of several shapes, in turn.
-        (
-            MANY,
-            Asked { at: CORNER, ..SAME },
-            "3 search version 1 games 6 hits 5\nhit 0 1 0 0 0 -\nhit 1 1 2 2 3 -\nhit 2 1 0 0 0 -\nhit 4 1 4 2 3 -\nhit 5 2 3 0 1 -\ntotal 5 0 0 0 0 5\n",
-        ),
-        (
-            MANY,
-            Asked {
-                board: Some((3, 3)),
-                ..SAME_FIXED
-            },
-            "3 search version 1 games 6 hits 3\nhit 0 1 0 0 0 -\nhit 1 1 2 2 0 -\nhit 3 1 1 1 0 -\ntotal 3 0 0 0 0 3\n",
-        ),
-        (
-            MANY,
-            Asked {
-                board: Some((5, 3)),
-                ..SAME_FIXED
-            },
-            "3 search version 1 games 6 hits 2\nhit 2 1 0 0 0 -\nhit 4 1 4 2 0 -\ntotal 2 0 0 0 0 2\n",
-        ),
-        // Wider than most of the boards.
-        (
-            MANY,
-            Asked {
-                pattern: "O..X",
-                ..SAME_FIXED
-            },
-            "3 search version 1 games 6 hits 1\nhit 5 2 0 0 0 -\ntotal 1 0 0 0 0 1\n",
-        ),
-        // A version without a game.
-        (
-            &[],
-            ANY,
-            "3 search version 1 games 0 hits 0\ntotal 0 0 0 0 0 0\n",
-        ),
-    ];
-    have_texts(&rt, rt.alloc(), &cases)
+    have_texts(&rt, rt.alloc(), &MANY_GAMES)
 }
 
 #[test]

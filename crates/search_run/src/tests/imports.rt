@@ -1,5 +1,7 @@
 // Imports of whole texts: what becomes of a file by its bytes. The offsets were counted by hand.
 use super::{Ended, File, NO_FAULTS, expect_end, expect_outputs, run, run_words};
+use crate::import::import;
+use crate::print::print_report;
 use crate::{Counts, FileOutcome, MAX_BASE_GAMES, MAX_BASE_NODES, Status, import_one};
 use kb_edges::{FileEntry, MemoryFolder};
 use std::alloc::Global;
@@ -146,19 +148,27 @@ fn files_of_games(alloc: Global, counts: &[u32]) -> Result<Vec<FileEntry>, Fail>
 #[test]
 fn files_that_fill_the_base(rt: HostRuntime) -> Result<(), Fail> {
     let alloc = rt.alloc();
-    // Six files of 65,536 games are 393,216 games, and 6,784 more are 400,000.
-    let counts = [
-        65_536, 65_536, 65_536, 65_536, 65_536, 65_536, 65_536, 6_784, 1,
-    ];
-    let written = "1 import d\n\
-        1 imported files 9 accepted 7 refused 0 full 2 unread 0 games 400000 version 1\n\
-        full 458752 458752 6.sgf\n\
-        full 400001 400001 8.sgf\n\
-        2 wait version 1\n";
-    let files = files_of_games(alloc, &counts)?;
-    let script = b"import d\nwait\n".to_vec(alloc)?;
-    let ended = run_words(alloc, &[], files, script, NO_FAULTS)?;
-    expect_end(&rt, &ended, Status::Done, written, "a full base");
+    // 20 games fit.
+    let before = Counts {
+        games: MAX_BASE_GAMES - 20,
+        nodes: 5_000_000,
+    };
+    let written = "7 imported files 5 accepted 3 refused 0 full 2 unread 0 games 20 version 9\n\
+        full 400001 5000021 1.sgf\n\
+        full 400001 5000021 4.sgf\n";
+    let files = files_of_games(alloc, &[8, 13, 11, 1, 1])?;
+    let mut folder = MemoryFolder::new(files, Vec::new(alloc));
+    let (imported, after) = import(alloc, &mut folder, "d", before)?;
+    assert_eq!(rt;
+        after,
+        Counts {
+            games: 400_000,
+            nodes: 5_000_020
+        }
+    );
+    let mut report = String::new(alloc);
+    print_report(&mut report, 7, &imported, 9)?;
+    assert_eq!(rt; report.as_str(), written);
     Ok(())
 }
 

@@ -13,7 +13,7 @@ pub add_game-requires-clause-placements : goal.add_game-requires-clause-placemen
 add_game-requires-clause-placements c =
     placements_on_run c.args.games.now c.loop-number.number c.index-games-number.result (omega (arith, c.loop-number-test.true, c.requires.in_range)) c.index-games-number.is
     c.args.query.now c.in_ok-matcher.matcher.images.now.placements c.shape.result c.args.from c.args.to c.index-games-from.result c.requires.changes
-    (omega (arith, c.loop-number.auto.number)) c.loop-number-test.true c.requires.run c.index-games-from.is (c.shape.ensures.value ∙ ap (λ (s : Stored). s.deltas.shape) (sym c.index-games-from.is))
+    (omega (arith, c.loop-number.auto.number)) (omega (arith, c.loop-number-test.true)) c.requires.run c.index-games-from.is (c.shape.ensures.value ∙ ap (λ (s : Stored). s.deltas.shape) (sym c.index-games-from.is))
     (subst (λ (images : ImageList). ArePlacements c.args.query.now c.shape.result images.placements) (sym c.in_ok-matcher.ensures) c.in_ok-images.ensures.placements)
 
 pub loop-number-preserved : goal.loop-number-preserved
