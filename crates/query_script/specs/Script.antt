@@ -1,5 +1,5 @@
 -- The script: its lines, its blocks of searches, the statements that it spells, and the least line that is bad.
-use Rattle.std.specs.Prelude.{◌≡◌, ◌⊎◌, ◌==◌, ◌&&◌, ℕ, ◌+◌, ◌-◌, ◌<◌, ◌≤◌, nat_lt, List, [], ◌∷◌, length, map, take, slice_index_or, All, AllPairs, Any, if◌then◌else◌}
+use Rattle.std.specs.Prelude.{◌≡◌, ◌==◌, ◌&&◌, ℕ, ◌-◌, ◌<◌, ◌≤◌, nat_lt, List, [], ◌∷◌, length, map, take, slice_index_or, All, AllPairs, Any, if◌then◌else◌}
 use Rattle.bstr.specs.Text.{lines_of}
 use Rattle.pattern_images.specs.declared.query.Query.{Query}
 use Rattle.query_script.specs.declared.statement.Placed.{Placed}
