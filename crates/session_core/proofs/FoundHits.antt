@@ -1,14 +1,12 @@
 -- What was found in a game, and the placements that it has.
-use Rattle.std.proofs.Common.{◌≡◌, ℕ, ◌+◌, ◌<◌, List, [], ◌∷◌, ◌++◌, length, take, get_or, refl, ap, sym, subst, ◌∙◌, arith}
-use Rattle.std.specs.Prelude.{All}
-use Rattle.std.specs.List.{flat_map, range_with_len}
+use Rattle.std.proofs.Common.{◌≡◌, ℕ, ◌+◌, ◌<◌, List, [], ◌∷◌, ◌++◌, length, take, get_or, sym, subst, arith}
 use Rattle.game_tree.specs.Tree as tree
 use Rattle.capture_board.specs.Deltas as deltas
 use Rattle.pattern_images.specs.declared.hit.Found.{Found}
 use Rattle.pattern_images.specs.ImageList.{placement_at}
 use Rattle.pattern_images.specs.Placements.{Placement}
 use Rattle.continuation_table.specs.Continuation.{HoldsAt}
-use Rattle.line_matcher.specs.Occurrences.{AreFound, IsOccurrence, Occurrence, occurrences_at, occurrences_in}
+use Rattle.line_matcher.specs.Occurrences.{AreFound, IsOccurrence, Occurrence, occurrences_in}
 use Rattle.session_core.specs.Games.{AreChangesOf}
 use Rattle.pattern_images.specs.declared.hit.Hit.{Hit}
 use Rattle.pattern_images.specs.declared.query.Query.{Query}

@@ -1,5 +1,5 @@
 -- Searching one game after another.
-use Rattle.std.proofs.Common.{◌≡◌, ℕ, ◌+◌, ◌<◌, ◌≤◌, inl, inr, List, [], ◌∷◌, ◌++◌, length, get_or, take, map, refl, sym, ap, ◌∙◌, subst, arith}
+use Rattle.std.proofs.Common.{◌≡◌, ℕ, ◌+◌, ◌<◌, ◌≤◌, inl, inr, List, [], ◌∷◌, ◌++◌, length, get_or, take, sym, ap, ◌∙◌, subst, arith}
 use Rattle.std.specs.Prelude.{◌==◌, ◌&&◌, All}
 use Rattle.std.specs.Bool.{Decides}
 use Rattle.std.proofs.lemmas.Bool.{and_from, and_parts, cases_lt, eq-eqb, eqb-true}
@@ -10,7 +10,7 @@ use Rattle.pattern_images.specs.declared.hit.Hit.{Hit}
 use Rattle.pattern_images.specs.declared.query.Query.{Query}
 use Rattle.session_core.specs.declared.stored.Stored.{Stored}
 use Rattle.pattern_images.specs.Placements.{ArePlacements, Placement}
-use Rattle.session_core.specs.Games.{Game, HasItsChanges, game_of, games_of}
+use Rattle.session_core.specs.Games.{HasItsChanges, game_of, games_of}
 use Rattle.session_core.specs.Hits.{AreHits, AreHitsIn}
 use Rattle.session_core.specs.Searching.{AreHitsAdded, IsRun}
 

@@ -1,7 +1,6 @@
 -- The hits of a query in games: each game, node and placement where the placement holds and did not hold at the node's parent,
 -- if the query looks at the node.
 use Rattle.std.specs.Prelude.{◌≡◌, ℕ, ◌≤◌, IsTrue, List, [], ◌∷◌, ◌++◌, length, Option, Some, None}
-use Rattle.kb_geometry.specs.declared.shape.Shape.{Shape}
 use Rattle.game_tree.specs.MainLine.{IsOnMainLine}
 use Rattle.game_tree.specs.Result.{outcome_of}
 use Rattle.game_tree.specs.Tree.{Tree, move_number_of}

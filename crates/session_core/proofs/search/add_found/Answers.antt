@@ -1,5 +1,5 @@
 use Rattle.std.proofs.Common.{◌≡◌, [], true, false, ap, sym, ◌∙◌}
-use Rattle.session_core.specs.Hits.{AreHitsOf, LooksAt}
+use Rattle.session_core.specs.Hits.{AreHitsOf}
 use Rattle.session_core.proofs.AddedHits.{AreHitsAdded-none}
 use Rattle.session_core.proofs.FoundHits.{found-hit, found-left_out, is_placed, node_in_tree}
 use Rattle.session_core.proofs.search.add_found.Goals as goal

@@ -1,4 +1,4 @@
-use Rattle.std.proofs.Common.{◌≡◌, ◌<◌, ◌≤◌, length, ap, sym, ◌∙◌, subst, arith}
+use Rattle.std.proofs.Common.{ap, sym, ◌∙◌, subst, arith}
 use Rattle.pattern_images.specs.ImageList.{ImageList}
 use Rattle.pattern_images.specs.Placements.{ArePlacements}
 use Rattle.session_core.specs.declared.stored.Stored.{Stored}

@@ -1,5 +1,4 @@
-use Rattle.std.proofs.Common.{◌≡◌, ◌∙◌, ap, sym}
-use Rattle.std.specs.Prelude.{IsTrue}
+use Rattle.std.proofs.Common.{◌∙◌, sym}
 use Rattle.session_core.proofs.GamesSearched.{same_shape}
 use Rattle.session_core.proofs.search.have_one_shape.Goals as goal
 
