@@ -3,7 +3,7 @@
 PROGRAM := build/gobase
 SCRIPT := scripts/joseki.script
 
-# What the trial run looks at, since it is slow: three games, and one search.
+# What the trial run looks at, since it is slow: three files, and one search.
 TRIAL := import games\nwait\nsearch main *OX*/OX.X/*OX*\n
 TRIAL_GAMES := games/capture-5x5.sgf games/club-evening-9x9.sgf games/fight-9x9.sgf
 

@@ -27,7 +27,7 @@ pub(crate) enum Line {
     Bad,
 }
 
-/// What a line is, which may end with its line feed. The only error is `NoMemory`.
+/// What a line is. It may still have its line feed. The only error is `NoMemory`.
 pub(crate) fn read_line(alloc: Global, line: &[u8]) -> Result<Line, NoMemory>
     ensures { IfOk result (IsLine (without_end line.now)) }
 {

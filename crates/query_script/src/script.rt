@@ -12,8 +12,8 @@ use std::alloc::Global;
 ///
 /// Lines end with a line feed, the last one perhaps with the text; a carriage return before that is dropped. The answer has the
 /// statements in order of their lines; a block of searches is one statement. The error names the least bad line: one that spells
-/// nothing, the end of no block or of one without a search, the ninth search of a block, another statement inside a block, or the
-/// beginning of a block that has no end. The only other error is `NoMemory`.
+/// nothing, the end of no block or of one without a search, the ninth search of a block, another statement or another block inside
+/// a block, or the beginning of a block that has no end. The only other error is `NoMemory`.
 pub fn read_script(alloc: Global, text: &[u8]) -> Result<Vec<Placed>, ScriptError>
     requires { length text.now ≤ MAX_SCRIPT }
     ensures statements { IfOk result (λ placed. AreStatements (script_lines text.now) placed.items) }

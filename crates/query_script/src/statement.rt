@@ -21,7 +21,7 @@ pub enum Statement {
     Until { number: u64 },
     /// `search ..`: where a pattern occurs.
     Search { query: Query },
-    /// `together`, one to eight lines of searches, `end`: searches that are made at the same time.
+    /// `together`, one to eight lines of searches, `end`: searches that are asked together.
     Together { searches: SearchList },
     /// `game N`: a game as SGF text.
     Game { number: u32 },

@@ -96,11 +96,8 @@ pub(crate) enum Imported {
 }
 
 impl Imported {
-    ghost use Rattle.std.specs.Prelude.{◌+◌};
-
     /// How many versions it adds: one for each whole batch of files, and one for what is left.
     pub fn versions(&self) -> u64
-        requires { versions_of (found_of self.now) ≤ MAX_VERSIONS }
         ensures { result ≡ versions_of (found_of self.now) }
     {
         match self {

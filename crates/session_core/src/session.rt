@@ -14,7 +14,7 @@ use query_script::{Statement, print_game, print_hits, print_no_game};
 use sgf_writer::write;
 use std::alloc::Global;
 
-/// Answers statements, one after another.
+/// Answers statements over the games that each call is given. It keeps nothing from one to the next.
 #[derive(Debug, Drop)]
 pub struct Session {}
 
@@ -49,7 +49,7 @@ impl Session {
             Statement::Import { .. }
             | Statement::Wait
             | Statement::Until { .. }
-            | Statement::Together { .. } => unreachable!(),
+            | Statement::Together { .. } => unreachable!(), // The condition `answered` excludes these.
         }
     }
 
