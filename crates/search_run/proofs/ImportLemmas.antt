@@ -5,6 +5,9 @@ use Rattle.std.specs.declared.alloc.Global.{Global}
 use Rattle.std.specs.List.{list_any}
 use Rattle.std.specs.Option.{option_map}
 use Rattle.std.proofs.lemmas.Bool.{cases_lt, false≢true}
+use Rattle.std.proofs.lemmas.List.Folds.{Any-from_list_any, list_any-from_Any}
+use Rattle.std.proofs.lemmas.Slice.Eq.{bytes_eq-Decides}
+use Rattle.std.specs.Str.{bytes_eq}
 use Rattle.std.proofs.lemmas.List.{append-nil, get_or-map, length-map, map_more, map_push}
 use Rattle.std.specs.Cmp.Lexicographic.{slice_cmp}
 use Rattle.std.specs.Ordering.{nat_cmp}
@@ -16,7 +19,7 @@ use Rattle.kb_edges.specs.Faults.{Rose, RoseBy}
 use Rattle.game_tree.specs.Tree.{Tree}
 use Rattle.session_core.specs.Games.{Game, HasItsChanges, game_of, games_of}
 use Rattle.session_core.specs.declared.stored.Stored.{Stored}
-use Rattle.search_run.specs.Course.{AreNames, FileReport, Files, ImportCourse, IsContent, IsImported, games_from, losses_of, not_read, nothing, read, trees_in}
+use Rattle.search_run.specs.Course.{AreNames, FileReport, Files, ImportCourse, IsContent, IsImported, Unlisted, games_from, losses_of, not_read, nothing, nothing_lost, read, trees_in}
 use Rattle.search_run.specs.Reads.{HasReadAll, IsOneMoreRead, file_reports}
 use Rattle.search_run.specs.declared.import.ImportedFile.{ImportedFile}
 use Rattle.search_run.specs.declared.import.TheConstants.{MAX_NAMES}
@@ -24,7 +27,7 @@ use Rattle.search_run.specs.declared.outcome.Counts.{Counts}
 use Rattle.search_run.specs.declared.outcome.FileOutcome.{FileOutcome}
 use Rattle.search_run.specs.declared.outcome.FileOutcome.TheVariants as file
 use Rattle.search_run.specs.Outcome.{IsOutcome, with_games}
-use Rattle.kb_edges.proofs.Places.{HasFile-any, has_place}
+use Rattle.kb_edges.proofs.Places.{Any-weaker, HasFile-any, has_place}
 
 -- what passes a test is found
 find-some : {X Y : Type 0} (f : X → Y) (test : X → Bool) (xs : List X) → list_any test xs ≡ true → option_map f (find test xs) ≡ None → ⊥
@@ -171,3 +174,23 @@ rose_there before now path name files told is (inr (all, also, gone)) there =
     let both : Some files ≡ Some all = sym is ∙ also in
     let same : files ≡ all = cc in
     absurd (gone (subst (λ fs. HasFile fs path name) same there))
+
+-- a file has the path, or none has
+has_path_by : (files : List File) (path : List ℕ) (r : Bool) → r ≡ list_any (λ (file : File). bytes_eq file.path path) files → HasPath files path ⊎ (¬ HasPath files path)
+has_path_by files path true is =
+    inl (Any-weaker _ _ (λ file h. (bytes_eq-Decides file.path path).0 h) files (Any-from_list_any (λ (file : File). bytes_eq file.path path) files (sym is)))
+has_path_by files path false is =
+    inr (λ has. false≢true (is ∙ list_any-from_Any (λ (file : File). bytes_eq file.path path) files (Any-weaker _ _ (λ file h. (bytes_eq-Decides file.path path).1 h) files has)))
+
+-- a count that rose by one rose by none
+none_lost : (before now : ℕ) → Rose before now → RoseBy (losses_of (nothing_lost ∷ [])) before now
+none_lost before now rose = omega arith
+
+-- A listing that failed is a loss where a file has the path, and none where none has.
+pub unlisted_by : (files : List File) (path : List ℕ) (counts : Counts) (before now : ℕ) → Rose before now →
+    (course : ImportCourse) × IsImported files path counts course Unlisted × RoseBy (losses_of (course ∷ [])) before now
+unlisted_by files path counts before now rose =
+    elim (has_path_by files path (list_any (λ (file : File). bytes_eq file.path path) files) refl) [
+      | inl has ↦ (record { unlisted = true; unread = [] }, (inl (refl, has), refl), rose)
+      | inr none ↦ (nothing_lost, (inr (refl, none), refl), none_lost before now rose)
+    ]

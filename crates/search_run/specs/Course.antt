@@ -66,6 +66,6 @@ pub data AreRead (files : List File) (path : List ℕ) (before : Counts) : List 
 
 -- what an import of this path, in a base with these counts, finds in these files, by this entry of the course
 abbrev pub IsImported : List File → List ℕ → Counts → ImportCourse → Found → Type 0
-IsImported files path before entry Unlisted = ((entry.unlisted ≡ true) ⊎ ((entry.unlisted ≡ false) × (¬ HasPath files path))) × (entry.unread ≡ [])
+IsImported files path before entry Unlisted = (((entry.unlisted ≡ true) × HasPath files path) ⊎ ((entry.unlisted ≡ false) × (¬ HasPath files path))) × (entry.unread ≡ [])
 IsImported files path before entry (TooMany count) = (names : List (List ℕ)) × HasPath files path × AreNames files path names × (count ≡ length names) × (MAX_NAMES < count) × (entry ≡ nothing_lost)
 IsImported files path before entry (Files reports games) = HasPath files path × AreNames files path (map (λ (f : FileReport). f.name) reports) × (length reports ≤ MAX_NAMES) × AreRead files path before reports games entry.unread × (entry.unlisted ≡ false)

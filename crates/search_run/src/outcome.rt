@@ -1,12 +1,13 @@
 // What becomes of a file by its bytes.
-ghost use Rattle.std.specs.Prelude.{◌≡◌, ◌<◌, IfOk, length};
+ghost use Rattle.std.specs.Prelude.{◌≡◌, ◌<◌, [], IfOk, length};
+ghost use Rattle.search_run.specs.declared.outcome.FileOutcome.TheVariants.{Refused};
 ghost use Rattle.search_run.specs.Outcome.{HasRoom, IsOutcome, nodes_of, with_games};
 ghost use Rattle.search_run.specs.Rooms.{IsAdded, IsAddedBy};
 
 use game_tree::{BuildError, GameTree, build};
 use kb_geometry::NoMemory;
 use session_core::MAX_GAMES;
-use sgf_reader::{FaultKind, ReadError, read};
+use sgf_reader::{FaultKind, ReadError, SgfFault, read};
 use std::alloc::Global;
 
 /// The most games that a base may have.
@@ -45,27 +46,24 @@ pub(crate) fn outcome_of(
 {
     let collection = match read(alloc, bytes) {
         Ok(collection) => collection,
-        Err(ReadError::Fault(fault)) => {
-            let refused = FileOutcome::Refused {
-                kind: fault.kind,
-                at: fault.at,
-            };
-            return Ok((refused, Vec::new(alloc)));
-        }
+        Err(ReadError::Fault(fault)) => return Ok(refused(alloc, fault)),
         Err(ReadError::NoMemory) => return Err(NoMemory),
     };
     let trees = match build(alloc, bytes, &collection) {
         Ok(trees) => trees,
-        Err(BuildError::Fault(fault)) => {
-            let refused = FileOutcome::Refused {
-                kind: fault.kind,
-                at: fault.at,
-            };
-            return Ok((refused, Vec::new(alloc)));
-        }
+        Err(BuildError::Fault(fault)) => return Ok(refused(alloc, fault)),
         Err(BuildError::NoMemory) => return Err(NoMemory),
     };
     Ok(in_room(alloc, trees, before))
+}
+
+// What becomes of a file with this fault: it adds no game.
+fn refused(alloc: Global, fault: SgfFault) -> (FileOutcome, Vec<GameTree>)
+    ensures outcome { result.0 ≡ Refused fault.kind fault.at }
+    ensures none { result.1.items ≡ [] }
+{
+    let SgfFault { kind, at } = fault;
+    (FileOutcome::Refused { kind, at }, Vec::new(alloc))
 }
 
 // These games, where there is room for them.

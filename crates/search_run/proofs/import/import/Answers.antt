@@ -1,14 +1,14 @@
-use Rattle.std.proofs.Common.{◌≡◌, ◌<◌, ◌≤◌, ◌∙◌, [], Err, true, ap, arith, inl, inr, length, map, refl, sym}
+use Rattle.std.proofs.Common.{◌≡◌, ◌<◌, ◌≤◌, ◌∙◌, Err, ap, arith, inr, length, map, refl, sym}
 use Rattle.std.specs.Prelude.{string_bytes}
 use Rattle.std.proofs.lemmas.List.{length-map}
 use Rattle.search_run.specs.Course.{nothing_lost}
 use Rattle.search_run.specs.declared.import.TheConstants.{MAX_NAMES}
-use Rattle.search_run.proofs.ImportLemmas.{AreNames-from_listing, AreNames-there, IsImported-read, no_more_names}
+use Rattle.search_run.proofs.ImportLemmas.{AreNames-from_listing, AreNames-there, IsImported-read, no_more_names, unlisted_by}
 use Rattle.search_run.proofs.import.import.Goals as goal
 
 pub returns-in-Err-Failed-clause-found : goal.returns-in-Err-Failed-clause-found
 returns-in-Err-Failed-clause-found g c = λ files told.
-    (record { unlisted = true; unread = [] }, (inl refl, refl), c.in-Err-Failed.ensures.failed (ap Err c.in-Err-Failed.field-0-is))
+    unlisted_by files c.args.path.now c.args.before _ _ (c.in-Err-Failed.ensures.failed (ap Err c.in-Err-Failed.field-0-is))
 
 pub returns-in-Err-Missing-clause-found : goal.returns-in-Err-Missing-clause-found
 returns-in-Err-Missing-clause-found g c = λ files told.

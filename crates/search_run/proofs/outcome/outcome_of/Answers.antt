@@ -6,12 +6,12 @@ use Rattle.search_run.proofs.outcome.outcome_of.Goals as goal
 pub returns-in-Err-Fault : goal.returns-in-Err-Fault
 returns-in-Err-Fault c =
     let first = c.in-Err-Fault.ensures.fault c.in-Err-Fault.fault (ap Err c.in-Err-Fault.field-0-is) in
-    rw (c.in-Err-Fault.field-0-is, c.new.ensures.items) (refused (inl first))
+    rw (c.refused.ensures.outcome, c.refused.ensures.none, c.in-Err-Fault.field-0-is) (refused (inl first))
 
 pub returns-in-Err-Fault-build : goal.returns-in-Err-Fault-build
 returns-in-Err-Fault-build c =
     let first = c.in-Err-Fault-build.ensures.fault c.in-Err-Fault-build.fault (ap Err c.in-Err-Fault-build.field-0-is) in
-    rw (c.in-Err-Fault-build.field-0-is, c.new-in-Err-Fault-build.ensures.items) (refused (inr (c.in-Ok.collection, c.in-Ok.ensures.ok, first)))
+    rw (c.refused-in-Err-Fault-build.ensures.outcome, c.refused-in-Err-Fault-build.ensures.none, c.in-Err-Fault-build.field-0-is) (refused (inr (c.in-Ok.collection, c.in-Ok.ensures.ok, first)))
 
 pub in_room-requires : goal.in_room-requires
 in_room-requires c =
