@@ -1,5 +1,5 @@
 // The top call on one thread.
-ghost use Rattle.std.specs.Prelude.{◌≡◌, ◌≢◌, ◌≤◌, ◌<◌, ◌↔◌, ◌⊎◌, ℕ, List, [], Some, length};
+ghost use Rattle.std.specs.Prelude.{◌≡◌, ◌≢◌, ◌+◌, ◌↔◌, ◌⊎◌, ℕ, List, [], Some, drop};
 ghost use Rattle.kb_edges.specs.Faults.{Rose};
 ghost use Rattle.kb_edges.specs.Files.{File};
 ghost use Rattle.search_run.specs.Script.{IsBad, IsInGrammar};
@@ -29,6 +29,7 @@ pub fn run_serial<F: Folder, S: Source, K: Sink>(
 ) -> (Status, F)
     // The words come first.
     ensures bad_words { (result.0 ≡ Status.BadWords) ↔ (words.now ≢ []) }
+    ensures nothing_read { result.0 ≡ Status.BadWords → script.new ≡ script.old }
 
     // Then the script is read.
     ensures script_unread { result.0 ≡ Status.ScriptUnread → Rose (S.faults script.old) (S.faults script.new) }
@@ -38,9 +39,9 @@ pub fn run_serial<F: Folder, S: Source, K: Sink>(
     ensures bad_script { (bytes : List ℕ) → S.left script.old ≡ Some bytes → (k : ℕ) → result.0 ≡ Status.BadScript k → IsBad bytes k }
     ensures in_grammar { (bytes : List ℕ) → S.left script.old ≡ Some bytes → (result.0 ≡ Status.Done) ⊎ (result.0 ≡ Status.SinkFault) → IsInGrammar bytes }
 
-    // A script that was read to its end leaves nothing.
+    // A script that was read to its end leaves nothing; of one that is too long no more than one byte past the limit is read.
     ensures done_left { (bytes : List ℕ) → S.left script.old ≡ Some bytes → result.0 ≡ Status.Done → S.left script.new ≡ Some [] }
-    ensures bad_script_left { (bytes : List ℕ) → S.left script.old ≡ Some bytes → length bytes ≤ MAX_SCRIPT → (k : ℕ) → result.0 ≡ Status.BadScript k → S.left script.new ≡ Some [] }
+    ensures bad_script_left { (bytes : List ℕ) → S.left script.old ≡ Some bytes → (k : ℕ) → result.0 ≡ Status.BadScript k → S.left script.new ≡ Some (drop (MAX_SCRIPT + 1) bytes) }
 
     // Then the statements. The sink fails only where its count rose.
     ensures sink_fault { result.0 ≡ Status.SinkFault → Rose (K.faults out.old) (K.faults out.new) }

@@ -10,10 +10,6 @@ returns-in-Err-BadLine-clause-bad_script g c = λ bytes told k is.
     let same : c.in-Err-BadLine.line ≡ k = cc in
     subst (IsBad bytes) same bad
 
-pub returns-in-Err-BadLine-clause-bad_script_left : goal.returns-in-Err-BadLine-clause-bad_script_left
-returns-in-Err-BadLine-clause-bad_script_left g c = λ bytes told short k is.
-    c.in-Ok.ensures.left bytes told ∙ ap Some (nothing_left bytes short)
-
 pub returns-in-Err-BadLine-clause-complete : goal.returns-in-Err-BadLine-clause-complete
 returns-in-Err-BadLine-clause-complete g c = λ bytes told none good source sink.
     let bad = IsBad-read bytes c.deref.result.now c.in-Err-BadLine.line (c.deref.ensures.value ∙ c.in-Ok.ensures.text bytes told) (c.in-Err-BadLine.ensures.bad_line c.in-Err-BadLine.line (ap Err c.in-Err-BadLine.field-0-is)) in
