@@ -136,17 +136,29 @@ module _ (count : ℕ) (cells : Position) (before between after : PointsByCell) 
       ]
 
 -- the board without a stone has all its points in the set of the empty cell
-module _ (count room : ℕ) (points : PointsByCell) (small : count ≤ room) (all : (p : ℕ) → Contains points.empty p ↔ (p < count)) (no_black : points.black ≡ []) (no_white : points.white ≡ []) where
-  empty_cell : (p : ℕ) → p < count → cell_at (replicate room cell.Empty) p ≡ cell.Empty
-  empty_cell p h = get_or-replicate room p cell.Empty cell.Empty (omega arith)
+module _ (count : ℕ) (cells : Position) (points : PointsByCell)
+    (none : take count cells ≡ replicate count cell.Empty)
+    (all : (p : ℕ) → Contains points.empty p ↔ (p < count))
+    (no_black : points.black ≡ []) (no_white : points.white ≡ []) where
+  empty_cell : (p : ℕ) → p < count → cell_at cells p ≡ cell.Empty
+  empty_cell p h =
+      sym (get_or-take count cells p cell.Empty h) ∙ ap (λ (q : Position). cell_at q p) none
+      ∙ get_or-replicate count p cell.Empty cell.Empty h
 
   none_there : (ns : List ℕ) (p : ℕ) → ns ≡ [] → Contains ns p → ⊥
   none_there ns p e there = omega (arith, there.1, ap length e)
 
-  pub ArePointsOf-empty : ArePointsOf count (replicate room cell.Empty) points
-  ArePointsOf-empty cell.Empty p = (λ h. ((all p).0 h, empty_cell p ((all p).0 h)), λ h. (all p).1 h.0)
-  ArePointsOf-empty cell.Black p = (λ h. absurd (none_there points.black p no_black h), λ h. let e : cell.Empty ≡ cell.Black = sym (empty_cell p h.0) ∙ h.1 in absurd cc)
-  ArePointsOf-empty cell.White p = (λ h. absurd (none_there points.white p no_white h), λ h. let e : cell.Empty ≡ cell.White = sym (empty_cell p h.0) ∙ h.1 in absurd cc)
+  pub ArePointsOf-empty : ArePointsOf count cells points
+  ArePointsOf-empty cell.Empty p =
+      (λ h. ((all p).0 h, empty_cell p ((all p).0 h)), λ h. (all p).1 h.0)
+  ArePointsOf-empty cell.Black p = (
+    λ h. absurd (none_there points.black p no_black h),
+    λ h. let e : cell.Empty ≡ cell.Black = sym (empty_cell p h.0) ∙ h.1 in absurd cc,
+  )
+  ArePointsOf-empty cell.White p = (
+    λ h. absurd (none_there points.white p no_white h),
+    λ h. let e : cell.Empty ≡ cell.White = sym (empty_cell p h.0) ∙ h.1 in absurd cc,
+  )
 
 -- the set of a cell has the points of the position that have it
 module _ (shape : Shape) (cells : Position) (points : PointsByCell) (are : ArePointsOf (point_count shape) cells points) where

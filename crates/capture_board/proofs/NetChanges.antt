@@ -20,7 +20,7 @@ IsChangedOn p changes = Any (λ (c : Change). c.point ≡ p) changes
 abbrev pub IsUnchangedOn : ℕ → List Change → Type 0
 IsUnchangedOn p changes = All (λ (c : Change). c.point ≢ p) changes
 
-changed_later : (p : ℕ) (c : Change) (cs : List Change) → IsChangedOn p cs → IsChangedOn p (c ∷ cs)
+pub changed_later : (p : ℕ) (c : Change) (cs : List Change) → IsChangedOn p cs → IsChangedOn p (c ∷ cs)
 changed_later p c cs h = (suc h.0, h.1, omega (arith, h.2), h.3, h.4)
 
 changed_or_later : (p : ℕ) (c : Change) (cs : List Change) → (c.point ≡ p) ⊎ (c.point ≢ p) → IsChangedOn p cs ⊎ IsUnchangedOn p cs → IsChangedOn p (c ∷ cs) ⊎ IsUnchangedOn p (c ∷ cs)

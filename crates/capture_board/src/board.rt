@@ -1,7 +1,7 @@
 // A board of fixed room that plays moves by the capture rule.
 ghost use Rattle.std.specs.Prelude.{◌≡◌, ◌<◌, ◌≤◌, [], length, take, IfSome};
 ghost use Rattle.kb_geometry.specs.Board.{point_count, IsRectOnBoard};
-ghost use Rattle.kb_geometry.specs.Capture.{IsPlayed, Position, with_rect};
+ghost use Rattle.kb_geometry.specs.Capture.{IsPlayed, Position, empty_board, with_rect};
 ghost use Rattle.capture_board.specs.Changes.{LeadFrom, MayBeUndone, IsUndone};
 ghost use Rattle.capture_board.specs.ChangedPoints.{NotesChanges};
 
@@ -32,8 +32,8 @@ pub struct Board {
     sets: MoveSets,
 }
 
-/// The sets that a move works with: one group, and the stones that are captured. They are empty between moves, so
-/// that a move costs no more than the groups that it touches.
+/// The sets that a move works with: one group, and the stones that are captured. They are empty
+/// between moves, so that a move costs no more than the groups that it touches.
 #[derive(Drop)]
 struct MoveSets {
     group: PointSet,
@@ -74,6 +74,15 @@ impl Board {
         }
     }
 
+    /// Makes it the board of this shape without a stone, at the cost of that shape's points.
+    pub fn reset(&mut self, shape: Shape)
+        ensures shape { self.new.shape ≡ shape }
+        ensures position { self.new.position ≡ empty_board shape }
+    {
+        self.shape = shape;
+        empty_cells(&mut self.cells, shape);
+    }
+
     /// What stands on the point with this number.
     pub fn cell(&self, point: u16) -> Cell
         requires { point < point_count self.now.shape }
@@ -83,8 +92,8 @@ impl Board {
         self.cells[usize::from(point)]
     }
 
-    /// Plays a move of a side by the capture rule: a stone on a point, whatever stands there, or a pass. The list then
-    /// has the net changes since it was last cleared.
+    /// Plays a move of a side by the capture rule: a stone on a point, whatever stands there, or a
+    /// pass. The list then has the net changes since it was last cleared.
     pub fn play(&mut self, colour: Colour, point: Option<Point>, changes: &mut ChangeList)
         requires on_board { IfSome point (λ (p : Point). IsOnBoard self.old.shape p) }
         requires leads { (base : Position) × LeadFrom base changes.old self.old.position }
@@ -111,8 +120,8 @@ impl Board {
         }
     }
 
-    /// Puts a cell on each point of a rectangle, and captures nothing. The list then has the net changes since it was
-    /// last cleared.
+    /// Puts a cell on each point of a rectangle, and captures nothing. The list then has the net
+    /// changes since it was last cleared.
     pub fn set(&mut self, cell: Cell, rect: Rect, changes: &mut ChangeList)
         requires on_board { IsRectOnBoard self.old.shape rect }
         requires leads { (base : Position) × LeadFrom base changes.old self.old.position }
@@ -151,11 +160,22 @@ impl Board {
     }
 }
 
+/// Empties the cells of a board of this shape, which are the first cells of a room.
+pub(crate) fn empty_cells(room: &mut [Cell], shape: Shape)
+    requires { point_count shape ≤ length room.old }
+    ensures same_length { length room.new ≡ length room.old }
+    ensures empty { take (point_count shape) room.new ≡ empty_board shape }
+{
+    let count = usize::from(shape.count());
+    room[..count].fill(Cell::Empty);
+}
+
 /// Takes changes of a position back.
 fn take_back(cells: &mut [Cell], changes: &[Change])
     requires { MayBeUndone cells.old changes.now }
     ensures undone { IsUndone cells.old changes.now cells.new }
-    ensures restores { (before : Position) → LeadFrom before changes.now cells.old → cells.new ≡ before }
+    ensures restores { (before : Position) → LeadFrom before changes.now cells.old →
+        cells.new ≡ before }
 {
     for change in changes {
         cells[usize::from(change.point)] = change.old;
@@ -186,7 +206,8 @@ fn play_in_room(
     play_on(shape, &mut room[..count], sets, changed, colour, point);
 }
 
-/// Puts a cell on each point of a rectangle of the position that stands in the first cells of a room.
+/// Puts a cell on each point of a rectangle of the position that stands in the first cells of a
+/// room.
 fn set_in_room(shape: Shape, room: &mut [Cell], changed: &mut ChangedPoints, cell: Cell, rect: Rect)
     requires fits { point_count shape ≤ length room.old }
     requires on_board { IsRectOnBoard shape rect }

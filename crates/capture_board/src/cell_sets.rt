@@ -7,7 +7,7 @@ ghost use Rattle.kb_geometry.specs.Capture.{cell_at, empty_board};
 ghost use Rattle.capture_board.specs.Changes.{with_changes};
 ghost use Rattle.capture_board.specs.StoredWalking.{points_in, with_old_cells};
 
-use crate::board::ROOM;
+use crate::board::{ROOM, empty_cells};
 use kb_bits::{BOUND, BitBoard};
 use kb_geometry::{Cell, Change, MAX_POINTS, Shape};
 use std::marker::Model;
@@ -61,6 +61,18 @@ impl CellSets {
         }
     }
 
+    // Makes it the board of this shape without a stone.
+    pub(crate) fn reset(&mut self, shape: Shape)
+        ensures shape { self.new.shape ≡ shape }
+        ensures position { self.new.position ≡ empty_board shape }
+    {
+        self.shape = shape;
+        empty_cells(&mut self.cells, shape);
+        self.points.empty = BitBoard::below(shape.count());
+        self.points.black.clear();
+        self.points.white.clear();
+    }
+
     // What stands on a point.
     pub(crate) fn cell(&self, point: u16) -> Cell
         requires { point < point_count self.now.shape }
@@ -84,7 +96,10 @@ impl CellSets {
     // Makes these changes, one after another.
     pub(crate) fn make(&mut self, changes: &[Change])
         requires { All (λ (c : Change). c.point < point_count self.old.shape) changes.now }
-        ensures { self.new ≡ record { shape = self.old.shape; position = with_changes self.old.position changes.now } }
+        ensures { self.new ≡ record {
+          shape = self.old.shape;
+          position = with_changes self.old.position changes.now;
+        } }
     {
         for change in changes {
             self.put(change.point, change.new);
@@ -94,7 +109,10 @@ impl CellSets {
     // Puts the old cell of each of these changes back, one after another.
     pub(crate) fn take_back(&mut self, changes: &[Change])
         requires { All (λ (c : Change). c.point < point_count self.old.shape) changes.now }
-        ensures { self.new ≡ record { shape = self.old.shape; position = with_old_cells self.old.position changes.now } }
+        ensures { self.new ≡ record {
+          shape = self.old.shape;
+          position = with_old_cells self.old.position changes.now;
+        } }
     {
         for change in changes {
             self.put(change.point, change.old);
@@ -104,7 +122,10 @@ impl CellSets {
     // Puts a cell on a point.
     fn put(&mut self, point: u16, cell: Cell)
         requires { point < point_count self.old.shape }
-        ensures { self.new ≡ record { shape = self.old.shape; position = slice_set self.old.position point cell } }
+        ensures { self.new ≡ record {
+          shape = self.old.shape;
+          position = slice_set self.old.position point cell;
+        } }
     {
         let old = self.cells[usize::from(point)];
         self.cells[usize::from(point)] = cell;

@@ -12,9 +12,11 @@ use std::sync::ledger::Ledger;
 #[cfg(test)]
 mod tests;
 
-/// A place in a game: a node, or above the root, where the board is empty. It shows the position there.
+/// A place in a game: a node, or above the root, where the board is empty. It shows the position
+/// there.
 ///
-/// Each call is given the [`NodeDeltas`] that the walker was made for. No call allocates.
+/// Each call is given the [`NodeDeltas`] that the walker was made or restarted for. No call
+/// allocates.
 #[derive(Debug, Drop)]
 pub struct Walker {
     here: Option<u32>,
@@ -46,6 +48,16 @@ impl Walker {
         }
     }
 
+    /// Stands above the root of these, whatever the walker was made for. It costs less than a new
+    /// walker, which has room for the greatest board.
+    pub fn restart(&mut self, deltas: &NodeDeltas)
+        ensures here { self.new.here ≡ None }
+        ensures stands { StandsIn deltas.now self.new }
+    {
+        self.here = None;
+        self.board.reset(deltas.shape());
+    }
+
     /// The node where the walker stands, or `None` above the root.
     pub fn here(&self) -> Option<u32>
         ensures { result ≡ self.now.here }
@@ -53,7 +65,8 @@ impl Walker {
         self.here
     }
 
-    /// Goes to a node whose parent is the node where the walker stands; to the root from above it. It takes one step.
+    /// Goes to a node whose parent is the node where the walker stands; to the root from above it.
+    /// It takes one step.
     pub fn enter<L: Ledger>(&mut self, deltas: &NodeDeltas, n: u32, steps: &mut Steps<L>)
         requires in_range { n < node_count deltas.now }
         requires stands { StandsIn deltas.now self.old }
@@ -67,7 +80,8 @@ impl Walker {
         steps.tick();
     }
 
-    /// Goes on to the next node in order of the text: back to its parent, and then to it. It takes one step.
+    /// Goes on to the next node in order of the text: back to its parent, and then to it. It takes
+    /// one step.
     pub fn enter_next<L: Ledger>(&mut self, deltas: &NodeDeltas, n: u32, steps: &mut Steps<L>)
         requires in_range { n < node_count deltas.now }
         requires stands { StandsIn deltas.now self.old }
@@ -94,8 +108,8 @@ impl Walker {
         }
     }
 
-    /// Goes back to a node above the one where the walker stands, or to that node itself; or to above the root for
-    /// `None`.
+    /// Goes back to a node above the one where the walker stands, or to that node itself; or to
+    /// above the root for `None`.
     pub fn leave_to(&mut self, deltas: &NodeDeltas, above: Option<u32>)
         requires above { MayLeaveTo deltas.now self.old.here above }
         requires stands { StandsIn deltas.now self.old }
@@ -114,6 +128,7 @@ impl Walker {
     {
         self.board.cell(point)
     }
+
     /// The points that have a cell.
     pub fn points(&self, cell: Cell) -> &BitBoard
         ensures { (p : ℕ) → Contains result.now p

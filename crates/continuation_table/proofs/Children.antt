@@ -13,8 +13,8 @@ use Rattle.pattern_images.specs.Holds.{Holds}
 use Rattle.pattern_images.specs.ImageList.{IsPlacedOn}
 use Rattle.pattern_images.specs.Placements.{Placement}
 use Rattle.continuation_table.specs.Continuation.{HoldsAt}
-use Rattle.continuation_table.specs.Descending.{AreBeside}
-use Rattle.continuation_table.proofs.Losses.{holds-beside}
+use Rattle.continuation_table.specs.Descending.{AreAllowed}
+use Rattle.continuation_table.proofs.Losses.{holds-allowed}
 
 module _ (deltas : Deltas) (shape : Shape) (same : shape ≡ deltas.shape) (child : ℕ) (list : List Change) (good : AreDeltas deltas) (value : list ≡ changes_of deltas child) (are : AreChangesOf (position_where deltas (parent_of deltas child)) list) where
   -- a node changes points of the board
@@ -36,11 +36,17 @@ module _ (deltas : Deltas) (shape : Shape) (same : shape ≡ deltas.shape) (chil
         ∙ ap (λ (o : Option ℕ). with_changes (position_where deltas o) (changes_of deltas child)) at_parent
         ∙ ap (with_changes (position_at deltas here)) (sym value)
 
-    -- it still holds just where no change of the child is under a cell that is asked for
-    pub holds-child : (placement : Placement) → IsPlacedOn shape placement → HoldsAt deltas placement here → AreBeside shape placement list ↔ HoldsAt deltas placement child
+    -- it still holds just where it allows the new cells of the child's changes
+    pub holds-child : (placement : Placement) → IsPlacedOn shape placement → HoldsAt deltas placement here →
+        AreAllowed shape placement list ↔ HoldsAt deltas placement child
     holds-child placement placed holds =
-        let there : Holds shape (position_at deltas here) placement = subst (λ (s : Shape). Holds s (position_at deltas here) placement) shapes holds in
-        let both = holds-beside shape placement placed (position_at deltas here) list are_here there in (
-          λ beside. subst (λ (s : Shape). Holds s (position_at deltas child) placement) (sym shapes) (subst (λ (q : Position). Holds shape q placement) (sym step) (both.0 beside)),
-          λ still. both.1 (subst (λ (q : Position). Holds shape q placement) step (subst (λ (s : Shape). Holds s (position_at deltas child) placement) shapes still)),
+        let there : Holds shape (position_at deltas here) placement =
+        subst (λ (s : Shape). Holds s (position_at deltas here) placement) shapes holds in
+        let both = holds-allowed shape placement placed (position_at deltas here) list are_here there in (
+          λ allowed.
+              subst (λ (s : Shape). Holds s (position_at deltas child) placement) (sym shapes)
+              (subst (λ (q : Position). Holds shape q placement) (sym step) (both.0 allowed)),
+          λ still. both.1
+              (subst (λ (q : Position). Holds shape q placement) step
+              (subst (λ (s : Shape). Holds s (position_at deltas child) placement) shapes still)),
         )

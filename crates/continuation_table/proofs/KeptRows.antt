@@ -75,10 +75,10 @@ colour_self colour.Black = refl
 colour_self colour.White = refl
 
 -- whether the row is of this continuation
-abbrev goes_by : Option Next → Row → Bool
+abbrev pub goes_by : Option Next → Row → Bool
 goes_by o row = option_map_or (λ (next : Next). is_colour next.colour row.colour && eqb next.x row.x && eqb next.y row.y) o false
 
-goes_by-told : (next : Next) (row : Row) → goes_by (Some next) row ≡ true → IsRowOf next row
+pub goes_by-told : (next : Next) (row : Row) → goes_by (Some next) row ≡ true → IsRowOf next row
 goes_by-told next row e =
     let p = and_parts (is_colour next.colour row.colour && eqb next.x row.x) (eqb next.y row.y) e in
     let q = and_parts (is_colour next.colour row.colour) (eqb next.x row.x) p.0 in

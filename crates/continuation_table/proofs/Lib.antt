@@ -5,3 +5,8 @@ pub mod Losses
 pub mod Rebuilt
 pub mod RowOrder
 pub mod KeptRows
+pub mod TurnedBack
+pub mod ToldContinuations
+pub mod OneContinuation
+pub mod SomeTable
+pub mod OneTable

@@ -37,12 +37,14 @@ HoldsAt changes placement n = Holds changes.shape (position_at changes n) placem
 abbrev pub own_colour : ℕ → Colour → Colour
 own_colour label colour = if nat_lt label 8 then colour else other_side colour
 
--- The point in column x and row y of the pattern's own frame is the point of the board under the placement, turned back by the
--- inverse of the placement's symmetry within a rectangle of its size.
-abbrev pub IsTurnedBack : Placement → Point → Point → Type 0
-IsTurnedBack placement point own =
-    (size : Shape) → cols_of size ≡ placement.grid.cols → rows_of size ≡ placement.grid.rows →
-    own ≡ moved (inverse_number (symmetry_of placement.label)) size (point_of (point.x - placement.x) (point.y - placement.y))
+-- The point of the pattern's own frame is the point of the board under the placement, turned back: its offset in the
+-- placement's rectangle is moved by the inverse of the placement's symmetry, within a rectangle of that size.
+pub record IsTurnedBack (placement : Placement) (point own : Point) : Type 0 where
+  pub size : Shape
+  pub columns : cols_of size ≡ placement.grid.cols
+  pub rows : rows_of size ≡ placement.grid.rows
+  pub turned : own ≡ moved (inverse_number (symmetry_of placement.label)) size
+      (point_of (point.x - placement.x) (point.y - placement.y))
 
 -- The continuation of a placement at a node: the first move on the way down by first children whose point lies in the
 -- placement's rectangle, if the placement holds at each node from that one to the parent of the move's node. It is the

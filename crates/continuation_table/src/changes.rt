@@ -5,11 +5,12 @@ ghost use Rattle.kb_geometry.specs.Board.{point_count};
 ghost use Rattle.capture_board.specs.Deltas.{node_count, parent_of};
 ghost use Rattle.pattern_images.specs.ImageList.{IsPlaceOf, IsPlacedOn, placement_at};
 ghost use Rattle.continuation_table.specs.Continuation.{HoldsAt};
-ghost use Rattle.continuation_table.specs.Descending.{AreBeside, Asks, IsWithin};
+ghost use Rattle.continuation_table.specs.Descending.{AllowsAt, AreAllowed, IsWithin};
 
+use crate::allowing::allows;
 use capture_board::NodeDeltas;
-use kb_geometry::{Change, Point};
-use pattern_images::{Images, PatternCell, Place};
+use kb_geometry::{Cell, Change, Point};
+use pattern_images::{Images, Place};
 
 // Whether the point lies in the rectangle of a place.
 pub(crate) fn covers(place: Place, p: Point) -> bool
@@ -23,37 +24,39 @@ pub(crate) fn still_holds(deltas: &NodeDeltas, images: &Images, i: usize, node: 
     requires shape { images.now.shape ≡ deltas.now.shape }
     requires placement { i < length images.now.placements }
     requires node { node < node_count deltas.now }
-    ensures { (above : ℕ) → parent_of deltas.now node ≡ Some above → HoldsAt deltas.now (placement_at images.now.placements i) above →
+    ensures { (above : ℕ) → parent_of deltas.now node ≡ Some above →
+        HoldsAt deltas.now (placement_at images.now.placements i) above →
         (IsTrue result ↔ HoldsAt deltas.now (placement_at images.now.placements i) node) }
 {
-    are_beside(images, i, deltas.changes(node))
+    are_allowed(images, i, deltas.changes(node))
 }
 
-// Whether no change is on a point at which a placement asks for one cell.
-fn are_beside(images: &Images, i: usize, changes: &[Change]) -> bool
+// Whether a placement allows the new cells of all changes.
+fn are_allowed(images: &Images, i: usize, changes: &[Change]) -> bool
     requires placement { i < length images.now.placements }
     requires on_board { All (λ (c : Change). c.point < point_count images.now.shape) changes.now }
     ensures placed { IsPlacedOn images.now.shape (placement_at images.now.placements i) }
-    ensures value { IsTrue result ↔ AreBeside images.now.shape (placement_at images.now.placements i) changes.now }
+    ensures value { IsTrue result ↔
+        AreAllowed images.now.shape (placement_at images.now.placements i) changes.now }
 {
     let shape = images.shape();
     let place = images.place(i);
     for change in changes {
-        if asks(images, i, place, shape.point(change.point)) {
+        if !allows_at(images, i, place, shape.point(change.point), change.new) {
             return false;
         }
     }
     true
 }
 
-// Whether a placement asks for one cell at a point.
-fn asks(images: &Images, i: usize, place: Place, p: Point) -> bool
+// Whether a placement allows this cell of the board at a point.
+fn allows_at(images: &Images, i: usize, place: Place, p: Point, cell: Cell) -> bool
     requires placement { i < length images.now.placements }
     requires place { IsPlaceOf (placement_at images.now.placements i) place }
-    ensures { IsTrue result ↔ Asks (placement_at images.now.placements i) p }
+    ensures { IsTrue result ↔ AllowsAt (placement_at images.now.placements i) p cell }
 {
     if !covers(place, p) {
-        return false;
+        return true;
     }
-    images.cell(i, p.x - place.x, p.y - place.y) != PatternCell::Any
+    allows(images.cell(i, p.x - place.x, p.y - place.y), cell)
 }

@@ -3,7 +3,7 @@ ghost use Rattle.std.specs.Prelude.{◌≡◌, ℕ, ◌<◌, List, length, IfNon
 ghost use Rattle.kb_geometry.specs.Capture.{Position};
 ghost use Rattle.game_tree.specs.Position.{ArePositions};
 ghost use Rattle.game_tree.specs.Tree.{node_count};
-ghost use Rattle.node_position.specs.Positions.{AreDeltasOf};
+ghost use Rattle.node_position.specs.Games.{AreNodeChanges};
 ghost use Rattle.pattern_images.specs.declared.hit.Next.{Next};
 ghost use Rattle.pattern_images.specs.ImageList.{IsPlaceOf, placement_at};
 ghost use Rattle.continuation_table.specs.Continuation.{IsContinuation};
@@ -19,10 +19,11 @@ use pattern_images::{Found, Images, Next};
 /// move's node. `None` exactly where there is none.
 ///
 /// The deltas are those of the tree, the images are for its board, and the place is that of one of the placements. So it
-/// is that of one only. Nothing is allocated. The position at the node is rebuilt by one walk up the parents; who knows
-/// that the placement holds there calls [`next_below`].
+/// is that of one only. Nothing is allocated. The position at the node is rebuilt by one walk up the parents, in room for
+/// the points of the greatest board; who knows that the placement holds there calls [`next_below`], as a search does.
+/// This call is for those who use the library with a place alone, and for tests.
 pub fn next_of(tree: &GameTree, deltas: &NodeDeltas, images: &Images, found: &Found) -> Option<Next>
-    requires deltas { (positions : List Position) × ArePositions tree.now positions × AreDeltasOf tree.now positions deltas.now }
+    requires deltas { AreNodeChanges tree.now deltas.now }
     requires shape { images.now.shape ≡ tree.now.shape }
     requires place { (i : ℕ) × (i < length images.now.placements) × IsPlaceOf (placement_at images.now.placements i) found.now.place }
     requires node { found.now.node < node_count tree.now }

@@ -13,7 +13,8 @@ use kb_geometry::{Cell, Change, MAX_POINTS};
 // How many points there is room for.
 const ROOM: usize = MAX_POINTS as usize;
 
-// What is known of the points of a board, in fixed room.
+// What is known of the points of a board, in fixed room. It is cleared once for each call of `next_of`, which nothing
+// on the way of a search calls, so there is no reason to keep it from call to call.
 #[derive(Drop)]
 pub(crate) struct KnownCells {
     cells: [Option<Cell>; ROOM],

@@ -5,9 +5,11 @@
 //! gives the continuation, and that [`Table::of`] gives the table.
 #![tactic(auto)]
 
+mod allowing;
 mod changes;
 mod continuation;
 mod known_cells;
+mod laws;
 mod own_frame;
 mod places;
 mod rows;
@@ -16,6 +18,7 @@ mod tally;
 mod way_down;
 
 pub use continuation::next_of;
+pub use laws::{a_list_of_hits_has_one_table, a_placement_has_one_continuation_or_none};
 pub use places::number_of_place;
 pub use table::{Row, Table};
 pub use tally::Tally;

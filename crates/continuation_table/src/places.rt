@@ -8,17 +8,17 @@ ghost use Rattle.pattern_images.specs.ImageList.{IsPlaceOf, placement_at};
 ghost use Rattle.continuation_table.specs.Continuation.{HoldsAt};
 ghost use Rattle.continuation_table.specs.Rebuilding.{IsPlaceBefore, known_cell};
 
+use crate::allowing::allows;
 use crate::known_cells::KnownCells;
 use capture_board::NodeDeltas;
-use kb_geometry::{Cell, Point};
-use pattern_images::{Images, PatternCell, Place};
+use kb_geometry::Point;
+use pattern_images::{Images, Place};
 
-/// The number of the placement with this place. If none has it, the number is that of the first placement behind the place, or
+/// The number of the placement with this place, where there is one. It takes as many comparisons as the logarithm of
 /// the count of placements.
-///
-/// It takes as many comparisons as the logarithm of that count.
 pub fn number_of_place(images: &Images, place: Place) -> usize
-    ensures { (i : ℕ) → i < length images.now.placements → IsPlaceOf (placement_at images.now.placements i) place → result ≡ i }
+    ensures { (i : ℕ) → i < length images.now.placements →
+        IsPlaceOf (placement_at images.now.placements i) place → result ≡ i }
 {
     let mut from = 0;
     let mut to = images.len();
@@ -63,7 +63,7 @@ pub(crate) fn holds_at(deltas: &NodeDeltas, images: &Images, i: usize, node: u32
     true
 }
 
-// Whether the cells in a row of a placement are those that are known.
+// Whether the cells in a row of a placement allow those that are known.
 fn row_holds(images: &Images, i: usize, known: &KnownCells, dy: u8) -> bool
     requires placement { i < length images.now.placements }
     requires row { dy < (placement_at images.now.placements i).grid.rows }
@@ -83,16 +83,4 @@ fn row_holds(images: &Images, i: usize, known: &KnownCells, dy: u8) -> bool
         }
     }
     true
-}
-
-// Whether a cell of a pattern allows this cell of a board.
-fn allows(asked: PatternCell, cell: Cell) -> bool
-    ensures { IsTrue result ↔ Allows asked cell }
-{
-    match asked {
-        PatternCell::Any => true,
-        PatternCell::Empty => cell == Cell::Empty,
-        PatternCell::Black => cell == Cell::Black,
-        PatternCell::White => cell == Cell::White,
-    }
 }

@@ -37,6 +37,8 @@ fn cell_of(byte: u8) -> PatternCell {
         b'.' => PatternCell::Empty,
         b'X' => PatternCell::Black,
         b'O' => PatternCell::White,
+        b'x' => PatternCell::NotWhite,
+        b'o' => PatternCell::NotBlack,
         _ => PatternCell::Any,
     }
 }
@@ -245,6 +247,45 @@ fn a_move_comes_in_the_rectangle(rt: HostRuntime) -> Result<(), Fail> {
     for (text, asked, node, at, wanted) in cases {
         let next = goes_on(&rt, rt.alloc(), text, asked, node, at)?;
         assert_eq!(rt; next, Some(wanted), "{text} at node {node}");
+    }
+    Ok(())
+}
+
+// A half wildcard is kept by some changes under it and lost by others.
+#[test]
+fn half_wildcards_are_kept_or_lost(rt: HostRuntime) -> Result<(), Fail> {
+    // A black stone in the corner is taken before a white one is played there.
+    let taken = "(;SZ[3];B[aa];W[ba];B[cc];W[ab];B[bb];W[aa])";
+    let no_white: Asked = ((2, 1, "x*"), false, true, CORNER);
+    let no_black: Asked = ((2, 1, "o*"), false, true, CORNER);
+    let later = Some((Colour::White, 0, 0, false));
+    let white = Some((Colour::White, 1, 0, true));
+    let black = Some((Colour::Black, 1, 0, true));
+    let cases: [(&str, Asked, u32, u8, Told); 15] = [
+        (taken, ((1, 1, "x"), true, true, CORNER), 1, 0, later),
+        (taken, ((1, 1, "*"), true, true, CORNER), 1, 0, later),
+        (taken, ((1, 1, "X"), true, true, CORNER), 1, 0, None),
+        // From black or white to empty.
+        ("(;SZ[9]AB[aa];AE[aa];W[ba])", no_white, 0, 0, white),
+        ("(;SZ[9]AW[aa];AE[aa];W[ba])", no_black, 0, 0, white),
+        // From empty to a stone.
+        ("(;SZ[9];AB[aa];W[ba])", no_white, 0, 0, white),
+        ("(;SZ[9];AW[aa];W[ba])", no_black, 0, 0, white),
+        ("(;SZ[9];AW[aa];W[ba])", no_white, 0, 0, None),
+        ("(;SZ[9];AB[aa];W[ba])", no_black, 0, 0, None),
+        // From one stone to the other.
+        ("(;SZ[9]AB[aa];AW[aa];W[ba])", no_white, 0, 0, None),
+        ("(;SZ[9]AW[aa];AB[aa];W[ba])", no_black, 0, 0, None),
+        // It doesn't hold at the node.
+        ("(;SZ[9]AW[aa];AE[aa];W[ba])", no_white, 0, 0, None),
+        // An exchange of the colours makes the other half wildcard of it, and the move is told in the pattern's colours.
+        ("(;SZ[9]AW[aa];AE[aa];W[ba])", no_white, 0, 8, black),
+        ("(;SZ[9]AB[aa];AE[aa];B[ba])", no_black, 0, 8, white),
+        ("(;SZ[9]AB[aa];AE[aa];W[ba])", no_white, 0, 8, None),
+    ];
+    for (text, asked, node, label, wanted) in cases {
+        let next = goes_on(&rt, rt.alloc(), text, asked, node, (0, 0, label))?;
+        assert_eq!(rt; next, wanted, "{text} at node {node}");
     }
     Ok(())
 }

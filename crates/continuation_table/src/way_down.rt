@@ -4,7 +4,7 @@ ghost use Rattle.kb_geometry.specs.Capture.{Position};
 ghost use Rattle.kb_geometry.specs.Symmetry.{point_of};
 ghost use Rattle.game_tree.specs.Position.{ArePositions};
 ghost use Rattle.game_tree.specs.Tree.{node_count};
-ghost use Rattle.node_position.specs.Positions.{AreDeltasOf};
+ghost use Rattle.node_position.specs.Games.{AreNodeChanges};
 ghost use Rattle.pattern_images.specs.declared.hit.Next.{Next};
 ghost use Rattle.pattern_images.specs.ImageList.{IsPlaceOf, placement_at};
 ghost use Rattle.pattern_images.specs.Placements.{Covers, Placement};
@@ -30,7 +30,7 @@ pub fn next_below(
     i: usize,
     node: u32,
 ) -> Option<Next>
-    requires deltas { (positions : List Position) × ArePositions tree.now positions × AreDeltasOf tree.now positions deltas.now }
+    requires deltas { AreNodeChanges tree.now deltas.now }
     requires shape { images.now.shape ≡ tree.now.shape }
     requires placement { i < length images.now.placements }
     requires node { node < node_count tree.now }

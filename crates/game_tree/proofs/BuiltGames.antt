@@ -6,7 +6,7 @@ use Rattle.std.proofs.lemmas.Grind.{flat_map-append}
 use Rattle.std.proofs.lemmas.List.{append-nil, get_or-map, length-map, map-append, take_more}
 use Rattle.std.proofs.lemmas.List.Elements.{All-contains, Contains-push_cases}
 use Rattle.kb_geometry.specs.declared.shape.Shape.{Shape}
-use Rattle.sgf_reader.specs.declared.limits.TheConstants.{MAX_FILE}
+use Rattle.sgf_reader.specs.Limits.{most_bytes}
 use Rattle.sgf_reader.proofs.WithinLimits.{read-within_limits}
 use Rattle.game_tree.specs.declared.node.Move.{Move}
 use Rattle.game_tree.specs.declared.node.Setup.{Setup}
@@ -22,7 +22,7 @@ use Rattle.sgf_reader.specs.declared.fault.FaultKind.{FaultKind}
 use Rattle.sgf_reader.specs.declared.fault.SgfFault.{SgfFault}
 use Rattle.game_tree.specs.declared.building.BuildError.TheVariants.{Fault}
 use Rattle.game_tree.specs.Built.{Built, IsNextParent, nothing_built, with_node}
-use Rattle.game_tree.specs.NodeValues.{AreRead, Ascend, HasNodeFault, LiesIn, IsFirstNodeFault, with_setups}
+use Rattle.game_tree.specs.NodeValues.{AreValuesRead, Ascend, HasNodeFault, LiesIn, IsFirstNodeFault, with_setups}
 use Rattle.game_tree.specs.RawGames.{HasBuilt, IsNodeBad, IsNodeRead, IsOfText, IsRootBad, by_game, by_value, node_pairs, raw_parents}
 
 -- the fault of a root by its values
@@ -39,7 +39,7 @@ root_bad-game text shape root game g f clean there e =
 
 -- ---- what is known of a raw game
 
-pub of_text : (text : List ℕ) (raw : RawGame) → IsOfText text raw → GameIsRead (length text) raw × Ascend (node_pairs raw.nodes) × (length text ≤ MAX_FILE)
+pub of_text : (text : List ℕ) (raw : RawGame) → IsOfText text raw → GameIsRead (length text) raw × Ascend (node_pairs raw.nodes) × (length text ≤ most_bytes)
 of_text text raw known =
     let all = games-read text known.collection known.read in
     let (games, read, is) = known.read in (
@@ -82,7 +82,7 @@ module _ (text : List ℕ) (raw : RawGame) (shape : Shape) where
   pub HasBuilt-start : HasBuilt text raw shape 0 (nothing_built shape)
   HasBuilt-start = record { shape_is = refl; parents = refl; nodes = tt; clean = λ n (k, below, is). absurd (omega arith); pending = refl; count = omega arith }
 
-  one-more : (k : ℕ) (d : RawNode) (b : Built) (setups : List Setup) (played : Option Move) → k < length raw.nodes → HasBuilt text raw shape k b → AreRead text shape (get_or raw.nodes k d).pairs setups played → HasBuilt text raw shape (k + 1) (with_node (with_setups b setups) (get_or raw.nodes k d).parent played)
+  one-more : (k : ℕ) (d : RawNode) (b : Built) (setups : List Setup) (played : Option Move) → k < length raw.nodes → HasBuilt text raw shape k b → AreValuesRead text shape (get_or raw.nodes k d).pairs setups played → HasBuilt text raw shape (k + 1) (with_node (with_setups b setups) (get_or raw.nodes k d).parent played)
   one-more k d b setups played below h read =
       let node = get_or raw.nodes k d in
       let added : Node = record { parent = node.parent; setups = b.pending ++ setups; played = played } in
@@ -113,7 +113,7 @@ module _ (text : List ℕ) (raw : RawGame) (shape : Shape) where
   HasBuilt-more k d b after below h read = subst (HasBuilt text raw shape (k + 1)) (sym read.added) (one-more k d b read.setups read.played below h read.read)
 
   -- there is room for the setups of the next node
-  pub room-next : (k : ℕ) (d : RawNode) (b : Built) → GameIsRead (length text) raw → Ascend (node_pairs raw.nodes) → length text ≤ MAX_FILE → k < length raw.nodes → HasBuilt text raw shape k b → b.setup_count + length (get_or raw.nodes k d).pairs < 4294967295
+  pub room-next : (k : ℕ) (d : RawNode) (b : Built) → GameIsRead (length text) raw → Ascend (node_pairs raw.nodes) → length text ≤ most_bytes → k < length raw.nodes → HasBuilt text raw shape k b → b.setup_count + length (get_or raw.nodes k d).pairs < 4294967295
   room-next k d b known ascend short below h =
       let node = get_or raw.nodes k d in
       let split : raw.nodes ≡ take k raw.nodes ++ node ∷ drop (suc k) raw.nodes = split_at raw.nodes k d below in

@@ -20,8 +20,10 @@ use Rattle.game_tree.specs.RawGames.{node_parents, raw_parents}
 use Rattle.game_tree.proofs.Trees.{cases_Option, children-each, first_child-found, next_sibling-none, parent-in_range, parent-lt, siblings_from-first, siblings_from-next}
 
 -- the parents of a tree's nodes, one by one
-parent-by : (tree : Tree) (n : ℕ) → parent_of tree n ≡ get_or (node_parents tree.nodes) n None
-parent-by tree n = sym (get_or-map (λ (node : Node). node.parent) tree.nodes n (record { parent = None; setups = []; played = None }))
+pub parent-by : (tree : Tree) (n : ℕ) → parent_of tree n ≡ get_or (node_parents tree.nodes) n None
+parent-by tree n =
+    sym (get_or-map (λ (node : Node). node.parent) tree.nodes n
+    (record { parent = None; setups = []; played = None }))
 
 -- ---- the next node's parent
 
@@ -33,7 +35,9 @@ module _ (parents : List (Option ℕ)) (depths : List ℕ) (hung : AreHung paren
       omega (arith, same_Some own.0 p (sym own.1 ∙ e), own.2.earlier)
 
   -- an ancestor among the raw nodes is one in the tree of the first of them
-  above-hung : (tree : Tree) (k : ℕ) → k ≤ length parents → ((n : ℕ) → n < k → parent_of tree n ≡ get_or parents n None) → (m n : ℕ) → n < k → IsAncestor parents m n → IsAbove tree m n
+  pub above-hung : (tree : Tree) (k : ℕ) → k ≤ length parents →
+      ((n : ℕ) → n < k → parent_of tree n ≡ get_or parents n None) → (m n : ℕ) → n < k →
+      IsAncestor parents m n → IsAbove tree m n
   above-hung tree k most agree m n below hangs.itself = itself
   above-hung tree k most agree m n below (further {p = p} e above) =
       higher (agree n below ∙ e) (above-hung tree k most agree m p (omega (arith, raw-parent-lt n p (omega arith) e)) above)

@@ -9,7 +9,9 @@ pub mod GameFaults
 pub mod Growth
 pub mod HungTrees
 pub mod MainLines
+mod NodeChoices
 pub mod NodeValues
+pub mod OneFault
 pub mod OneText
 pub mod OneTree
 pub mod Parts
@@ -18,14 +20,18 @@ pub mod Paths
 pub mod Properties
 pub mod Ranges
 pub mod ReadCollections
+pub mod ReadTrees
 pub mod ReadValues
 pub mod Roots
 pub mod SecondMoves
 pub mod SimpleTexts
 pub mod Splits
 pub mod Subtrees
+mod TextChoices
 pub mod Trees
+mod TreesOrFault
 pub mod Trimming
+mod ValueChoices
 pub mod Values
 pub mod WholeCollections
 pub mod WholeGames

@@ -4,30 +4,30 @@ use Rattle.std.proofs.Common.{◌≡◌, ℕ, ◌+◌, ◌<◌, ◌≤◌, suc, 
 use Rattle.std.proofs.lemmas.Bool.{cases_eq, cases_Bool, lt-ltb, le-ltb, ltb-false}
 use Rattle.std.specs.Prelude.{filter, ◌&&◌}
 use Rattle.std.specs.List.{range_with_len}
-use Rattle.game_tree.specs.Tree.{first_of}
+use Rattle.game_tree.specs.Tree.{first_number}
 
 -- ---- the first number that passes
 
-pub first_of-is : (p : ℕ → Bool) (c a n : ℕ) → a ≤ c → c < a + n → p c ≡ true → ((k : ℕ) → a ≤ k → k < c → p k ≡ false) → first_of (filter p (range_with_len a n)) ≡ Some c
-first_of-is p c a zero low high here before = absurd (omega arith)
-first_of-is p c a (suc n) low high here before =
+pub first_number-is : (p : ℕ → Bool) (c a n : ℕ) → a ≤ c → c < a + n → p c ≡ true → ((k : ℕ) → a ≤ k → k < c → p k ≡ false) → first_number (filter p (range_with_len a n)) ≡ Some c
+first_number-is p c a zero low high here before = absurd (omega arith)
+first_number-is p c a (suc n) low high here before =
     elim (cases_eq a c) [
       | inl e ↦ let pa : p a ≡ true = ap p e ∙ here in rw pa (ap (λ i. Some i) e)
       | inr ne ↦
           let pa : p a ≡ false = before a (omega arith) (omega arith) in
-          rw pa (first_of-is p c (a + 1) n (omega arith) (omega arith) here (λ k l h. before k (omega arith) h))
+          rw pa (first_number-is p c (a + 1) n (omega arith) (omega arith) here (λ k l h. before k (omega arith) h))
     ]
 
-pub first_of-found : (p : ℕ → Bool) (c a n : ℕ) → first_of (filter p (range_with_len a n)) ≡ Some c → (p c ≡ true) × (a ≤ c) × (c < a + n) × ((k : ℕ) → a ≤ k → k < c → p k ≡ false)
-first_of-found p c a zero e = absurd cc
-first_of-found p c a (suc n) e =
+pub first_number-found : (p : ℕ → Bool) (c a n : ℕ) → first_number (filter p (range_with_len a n)) ≡ Some c → (p c ≡ true) × (a ≤ c) × (c < a + n) × ((k : ℕ) → a ≤ k → k < c → p k ≡ false)
+first_number-found p c a zero e = absurd cc
+first_number-found p c a (suc n) e =
     elim (cases_Bool (p a)) [
       | inl t ↦
-          let f : Some a ≡ Some c = sym (ap (λ b. first_of (cond b (a ∷ filter p (range_with_len (a + 1) n)) (filter p (range_with_len (a + 1) n)))) t) ∙ e in
+          let f : Some a ≡ Some c = sym (ap (λ b. first_number (cond b (a ∷ filter p (range_with_len (a + 1) n)) (filter p (range_with_len (a + 1) n)))) t) ∙ e in
           let same : a ≡ c = cc in
           (sym (ap p same) ∙ t, omega arith, omega arith, λ k l h. absurd (omega arith))
       | inr f ↦
-          let rest = first_of-found p c (a + 1) n (sym (ap (λ b. first_of (cond b (a ∷ filter p (range_with_len (a + 1) n)) (filter p (range_with_len (a + 1) n)))) f) ∙ e) in (
+          let rest = first_number-found p c (a + 1) n (sym (ap (λ b. first_number (cond b (a ∷ filter p (range_with_len (a + 1) n)) (filter p (range_with_len (a + 1) n)))) f) ∙ e) in (
             rest.0,
             omega (arith, rest.1),
             omega (arith, rest.2),
@@ -43,16 +43,16 @@ filter_none p a zero none = refl
 filter_none p a (suc n) none =
     rw (none a (omega arith) (omega arith)) (filter_none p (a + 1) n (λ k l h. none k (omega arith) (omega arith)))
 
-pub first_of-missing : (p : ℕ → Bool) (a n : ℕ) → first_of (filter p (range_with_len a n)) ≡ None → (k : ℕ) → a ≤ k → k < a + n → p k ≡ false
-first_of-missing p a zero e k low high = absurd (omega arith)
-first_of-missing p a (suc n) e k low high =
+pub first_number-missing : (p : ℕ → Bool) (a n : ℕ) → first_number (filter p (range_with_len a n)) ≡ None → (k : ℕ) → a ≤ k → k < a + n → p k ≡ false
+first_number-missing p a zero e k low high = absurd (omega arith)
+first_number-missing p a (suc n) e k low high =
     elim (cases_Bool (p a)) [
       | inl t ↦
-          let f : Some a ≡ None = sym (ap (λ b. first_of (cond b (a ∷ filter p (range_with_len (a + 1) n)) (filter p (range_with_len (a + 1) n)))) t) ∙ e in
+          let f : Some a ≡ None = sym (ap (λ b. first_number (cond b (a ∷ filter p (range_with_len (a + 1) n)) (filter p (range_with_len (a + 1) n)))) t) ∙ e in
           absurd cc
       | inr f ↦ elim (cases_eq k a) [
         | inl s ↦ ap p s ∙ f
-        | inr ne ↦ first_of-missing p (a + 1) n (sym (ap (λ b. first_of (cond b (a ∷ filter p (range_with_len (a + 1) n)) (filter p (range_with_len (a + 1) n)))) f) ∙ e) k (omega arith) (omega arith)
+        | inr ne ↦ first_number-missing p (a + 1) n (sym (ap (λ b. first_number (cond b (a ∷ filter p (range_with_len (a + 1) n)) (filter p (range_with_len (a + 1) n)))) f) ∙ e) k (omega arith) (omega arith)
       ]
     ]
 
@@ -95,7 +95,7 @@ filter-later c low (x ∷ xs) h a =
     let t : ltb c x ≡ true = lt-ltb c x (omega (arith, a.0)) in
     rw t (ap (λ ys. x ∷ ys) (filter-later c (x + 1) xs (omega (arith, a.0)) a.1))
 
-pub first_and_later : (c low : ℕ) (xs : List ℕ) → IsAscending low xs → first_of xs ≡ Some c → xs ≡ c ∷ filter (ltb c) xs
+pub first_and_later : (c low : ℕ) (xs : List ℕ) → IsAscending low xs → first_number xs ≡ Some c → xs ≡ c ∷ filter (ltb c) xs
 first_and_later c low [] a e = absurd cc
 first_and_later c low (x ∷ xs) a e =
     let same : x ≡ c = cc in

@@ -5,7 +5,7 @@ use Rattle.std.proofs.lemmas.List.Elements.{All-append, All-cons, All-head, All-
 use Rattle.sgf_reader.specs.declared.collection.Collection.{Collection}
 use Rattle.sgf_reader.specs.declared.collection.Pair.{Pair}
 use Rattle.sgf_reader.specs.declared.collection.RawGame.{RawGame}
-use Rattle.sgf_reader.specs.declared.limits.TheConstants.{MAX_NODES, MAX_OPEN}
+use Rattle.sgf_reader.specs.Limits.{most_nodes, most_open}
 use Rattle.sgf_reader.specs.Grammar.{SpelledGame, SpelledNode, raw_game, raw_node}
 use Rattle.sgf_reader.specs.Faults.{IsRead}
 use Rattle.sgf_reader.proofs.NodeParents.{AreHung}
@@ -24,12 +24,12 @@ game_pairs raws = flat_map (λ (raw : RawGame). node_pairs raw.nodes) raws
 -- a raw game of a text of this length: its values lie in the text, and its nodes hang below each other
 pub record GameIsRead (end : ℕ) (raw : RawGame) : Type 0 where
   pub some : 1 ≤ length raw.nodes
-  pub few : length raw.nodes ≤ MAX_NODES
+  pub few : length raw.nodes ≤ most_nodes
   pub inside : All (LiesIn end) (node_pairs raw.nodes)
   pub depths : List ℕ
   pub hung : AreHung (raw_parents raw.nodes) depths
   pub as_many : length depths ≡ length raw.nodes
-  pub shallow : All (λ (depth : ℕ). depth ≤ MAX_OPEN) depths
+  pub shallow : All (λ (depth : ℕ). depth ≤ most_open) depths
 
 -- the raw games of a text of this length
 pub record GamesAreRead (end : ℕ) (raws : List RawGame) : Type 0 where
@@ -61,9 +61,9 @@ nodes-fit : (end : ℕ) (nodes : List SpelledNode) → All (NodeFits end) nodes 
 nodes-fit end [] fits = All-nil (PairFits end)
 nodes-fit end (node ∷ nodes) fits = All-append (PairFits end) node.pairs (pairs_of_nodes nodes) ((All-head (NodeFits end) node nodes fits).1) (nodes-fit end nodes (All-tail (NodeFits end) node nodes fits))
 
-nodes-shallow : (end : ℕ) (nodes : List SpelledNode) → All (NodeFits end) nodes → All (λ (depth : ℕ). depth ≤ MAX_OPEN) (depths_of nodes)
-nodes-shallow end [] fits = All-nil (λ (depth : ℕ). depth ≤ MAX_OPEN)
-nodes-shallow end (node ∷ nodes) fits = All-cons (λ (depth : ℕ). depth ≤ MAX_OPEN) node.depth (depths_of nodes) ((All-head (NodeFits end) node nodes fits).0) (nodes-shallow end nodes (All-tail (NodeFits end) node nodes fits))
+nodes-shallow : (end : ℕ) (nodes : List SpelledNode) → All (NodeFits end) nodes → All (λ (depth : ℕ). depth ≤ most_open) (depths_of nodes)
+nodes-shallow end [] fits = All-nil (λ (depth : ℕ). depth ≤ most_open)
+nodes-shallow end (node ∷ nodes) fits = All-cons (λ (depth : ℕ). depth ≤ most_open) node.depth (depths_of nodes) ((All-head (NodeFits end) node nodes fits).0) (nodes-shallow end nodes (All-tail (NodeFits end) node nodes fits))
 
 game-read : (end : ℕ) (game : SpelledGame) → GameFits end game → All IsBehindBracket (pairs_of_nodes game.nodes) → AreHung (parents_of game.nodes) (depths_of game.nodes) → GameIsRead end (raw_game game)
 game-read end game fits behind hung = record {

@@ -11,7 +11,7 @@ use Rattle.sgf_reader.specs.declared.fault.FaultKind.{FaultKind}
 use Rattle.sgf_reader.specs.declared.fault.FaultKind.TheVariants as kind
 use Rattle.game_tree.specs.declared.node.Move.{Move}
 use Rattle.game_tree.specs.declared.node.Setup.{Setup}
-use Rattle.game_tree.specs.NodeValues.{AreRead, Ascend, HasNodeFault, HasPairFault, IsFirstNodeFault, IsValueBad, IsValueRead, bad_move, bad_setup, no_move, no_setup, nothing, plays, second_of_two, second_move, sets, with_setups}
+use Rattle.game_tree.specs.NodeValues.{AreValuesRead, Ascend, HasNodeFault, HasPairFault, IsFirstNodeFault, IsValueBad, IsValueRead, bad_move, bad_setup, no_move, no_setup, nothing, plays, second_of_two, second_move, sets, with_setups}
 use Rattle.game_tree.specs.Built.{Built}
 use Rattle.game_tree.specs.Property.{identifier_of, mover_named, mover_of, offset_of, setter_named, setter_of}
 use Rattle.game_tree.specs.Trees.{AreSetups, IsPlayedBy, ignored, move, none, other, set}
@@ -39,7 +39,7 @@ module _ (text : List ℕ) (shape : Shape) where
 
   -- these values were read, with these setups and this move
   pub record HasReadValues (done : List Pair) (setups : List Setup) (played : Option Move) : Type 0 where
-    pub read : AreRead text shape done setups played
+    pub read : AreValuesRead text shape done setups played
     pub counted : moves_among done ≡ one_move played
 
   no_split : (before after : List Pair) (pair : Pair) → ¬ ([] ≡ before ++ pair ∷ after)

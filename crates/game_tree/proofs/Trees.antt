@@ -9,9 +9,9 @@ use Rattle.std.specs.Prelude.{filter, option_and_then, ◌&&◌}
 use Rattle.std.specs.List.{range_with_len}
 use Rattle.std.specs.Option.{option_map_or}
 use Rattle.game_tree.specs.Built.{IsGrown}
-use Rattle.game_tree.specs.Tree.{Tree, Node, IsTree, IsAbove, itself, higher, node_count, node_at, parent_of, is_child_of, children_of, first_of, first_child_of, next_sibling_of}
+use Rattle.game_tree.specs.Tree.{Tree, Node, IsTree, IsAbove, itself, higher, node_count, node_at, parent_of, is_child_of, children_of, first_number, first_child_of, next_sibling_of}
 use Rattle.game_tree.specs.Stored.{siblings_from}
-use Rattle.game_tree.proofs.Ranges.{first_of-is, first_of-found, first_of-missing, filter_none, filter-filter, IsAscending-range, first_and_later, filter-twice_later}
+use Rattle.game_tree.proofs.Ranges.{first_number-is, first_number-found, first_number-missing, filter_none, filter-filter, IsAscending-range, first_and_later, filter-twice_later}
 
 -- an option is None or Some
 pub cases_Option : (o : Option ℕ) → (o ≡ None) ⊎ ((m : ℕ) × (o ≡ Some m))
@@ -117,19 +117,19 @@ module _ (tree : Tree) (grown : IsGrown tree) where
 
   pub first_child-behind : (n : ℕ) → parent_of tree (n + 1) ≡ Some n → first_child_of tree n ≡ Some (n + 1)
   first_child-behind n e =
-      first_of-is (is_child_of tree n) (n + 1) 0 (node_count tree) (omega arith) (omega (arith, parent-in_range tree (n + 1) n e)) (is_child-true tree n (n + 1) e)
+      first_number-is (is_child_of tree n) (n + 1) 0 (node_count tree) (omega arith) (omega (arith, parent-in_range tree (n + 1) n e)) (is_child-true tree n (n + 1) e)
       (λ k low high. is_child-false tree n k (λ f. absurd (omega (arith, parent-lt k n f))))
 
   pub children-none : (n : ℕ) → parent_of tree (n + 1) ≢ Some n → children_of tree n ≡ []
   children-none n ne = filter_none (is_child_of tree n) 0 (node_count tree) (λ k low high. is_child-false tree n k (λ f. ne (child_behind n k f)))
 
   pub first_child-none : (n : ℕ) → parent_of tree (n + 1) ≢ Some n → first_child_of tree n ≡ None
-  first_child-none n ne = ap first_of (children-none n ne)
+  first_child-none n ne = ap first_number (children-none n ne)
 
   -- the first child of a node can only be the node behind it
   pub first_child-found : (n c : ℕ) → first_child_of tree n ≡ Some c → (c ≡ n + 1) × (parent_of tree (n + 1) ≡ Some n)
   first_child-found n c e =
-      let f = first_of-found (is_child_of tree n) c 0 (node_count tree) e in
+      let f = first_number-found (is_child_of tree n) c 0 (node_count tree) e in
       let behind = child_behind n c (is_child-found tree n c f.0) in
       (same_Some c (n + 1) (sym e ∙ first_child-behind n behind), behind)
 
@@ -151,10 +151,10 @@ children-in_range tree grown n =
 abbrev is_later : Tree → ℕ → ℕ → ℕ → Bool
 is_later tree m n j = is_child_of tree m j && ltb n j
 
-next_sibling-parent : (tree : Tree) (n m : ℕ) → parent_of tree n ≡ Some m → next_sibling_of tree n ≡ first_of (filter (is_later tree m n) (range_with_len 0 (node_count tree)))
+next_sibling-parent : (tree : Tree) (n m : ℕ) → parent_of tree n ≡ Some m → next_sibling_of tree n ≡ first_number (filter (is_later tree m n) (range_with_len 0 (node_count tree)))
 next_sibling-parent tree n m e =
-    ap (λ o. option_and_then (λ i. first_of (filter (ltb n) (children_of tree i))) o) e
-    ∙ ap first_of (filter-filter (is_child_of tree m) (ltb n) (range_with_len 0 (node_count tree)))
+    ap (λ o. option_and_then (λ i. first_number (filter (ltb n) (children_of tree i))) o) e
+    ∙ ap first_number (filter-filter (is_child_of tree m) (ltb n) (range_with_len 0 (node_count tree)))
 
 is_later-false : (tree : Tree) (m n j : ℕ) → (n < j → parent_of tree j ≢ Some m) → is_later tree m n j ≡ false
 is_later-false tree m n j others = false_from_ne_true (is_later tree m n j) (λ e.
@@ -164,39 +164,39 @@ not_later : (tree : Tree) (m n j : ℕ) → is_later tree m n j ≡ false → n 
 not_later tree m n j f h e = both_ways (is_later tree m n j) f (and_from (is_child_of tree m j) (ltb n j) (is_child-true tree m j e) (lt-ltb n j h))
 
 pub next_sibling-root : (tree : Tree) (n : ℕ) → parent_of tree n ≡ None → next_sibling_of tree n ≡ None
-next_sibling-root tree n e = ap (λ o. option_and_then (λ i. first_of (filter (ltb n) (children_of tree i))) o) e
+next_sibling-root tree n e = ap (λ o. option_and_then (λ i. first_number (filter (ltb n) (children_of tree i))) o) e
 
 pub next_sibling-is : (tree : Tree) (m n s : ℕ) → parent_of tree n ≡ Some m → parent_of tree s ≡ Some m → n < s → ((j : ℕ) → n < j → j < s → parent_of tree j ≢ Some m) → next_sibling_of tree n ≡ Some s
 next_sibling-is tree m n s en es later others =
     next_sibling-parent tree n m en
-    ∙ first_of-is (is_later tree m n) s 0 (node_count tree) (omega arith) (omega (arith, parent-in_range tree s m es))
+    ∙ first_number-is (is_later tree m n) s 0 (node_count tree) (omega arith) (omega (arith, parent-in_range tree s m es))
     (and_from (is_child_of tree m s) (ltb n s) (is_child-true tree m s es) (lt-ltb n s later))
     (λ k low high. is_later-false tree m n k (λ h. others k h high))
 
 pub next_sibling-none : (tree : Tree) (m n : ℕ) → parent_of tree n ≡ Some m → ((j : ℕ) → n < j → parent_of tree j ≢ Some m) → next_sibling_of tree n ≡ None
 next_sibling-none tree m n en others =
     next_sibling-parent tree n m en
-    ∙ ap first_of (filter_none (is_later tree m n) 0 (node_count tree) (λ k low high. is_later-false tree m n k (others k)))
+    ∙ ap first_number (filter_none (is_later tree m n) 0 (node_count tree) (λ k low high. is_later-false tree m n k (others k)))
 
 -- the next sibling, by the parent m of the node
 pub next_sibling-found : (tree : Tree) (m n s : ℕ) → parent_of tree n ≡ Some m → next_sibling_of tree n ≡ Some s → (parent_of tree s ≡ Some m) × (n < s) × ((j : ℕ) → n < j → j < s → parent_of tree j ≢ Some m)
 next_sibling-found tree m n s en e =
-    let f = first_of-found (is_later tree m n) s 0 (node_count tree) (sym (next_sibling-parent tree n m en) ∙ e) in
+    let f = first_number-found (is_later tree m n) s 0 (node_count tree) (sym (next_sibling-parent tree n m en) ∙ e) in
     let p = and_parts (is_child_of tree m s) (ltb n s) f.0 in
     (is_child-found tree m s p.0, ltb-true n s p.1, λ j low high. not_later tree m n j (f.3 j (omega arith) high) low)
 
 pub next_sibling-missing : (tree : Tree) (m n : ℕ) → parent_of tree n ≡ Some m → next_sibling_of tree n ≡ None → (j : ℕ) → n < j → parent_of tree j ≢ Some m
 next_sibling-missing tree m n en e j later ej =
-    not_later tree m n j (first_of-missing (is_later tree m n) 0 (node_count tree) (sym (next_sibling-parent tree n m en) ∙ e) j (omega arith) (omega (arith, parent-in_range tree j m ej))) later ej
+    not_later tree m n j (first_number-missing (is_later tree m n) 0 (node_count tree) (sym (next_sibling-parent tree n m en) ∙ e) j (omega arith) (omega (arith, parent-in_range tree j m ej))) later ej
 
 -- ---- the list of children, from its first
 
 pub siblings_from-first : (tree : Tree) (n : ℕ) → siblings_from tree (first_child_of tree n) ≡ children_of tree n
 siblings_from-first tree n = go (first_child_of tree n) refl where
   go : (o : Option ℕ) → first_child_of tree n ≡ o → siblings_from tree o ≡ children_of tree n
-  go None e = sym (filter_none (is_child_of tree n) 0 (node_count tree) (first_of-missing (is_child_of tree n) 0 (node_count tree) e))
+  go None e = sym (filter_none (is_child_of tree n) 0 (node_count tree) (first_number-missing (is_child_of tree n) 0 (node_count tree) e))
   go (Some c) e =
-      let f = first_of-found (is_child_of tree n) c 0 (node_count tree) e in
+      let f = first_number-found (is_child_of tree n) c 0 (node_count tree) e in
       ap (λ o. c ∷ option_map_or (λ m. filter (ltb c) (children_of tree m)) o []) (is_child-found tree n c f.0)
       ∙ sym (first_and_later c 0 (children_of tree n) (IsAscending-range (is_child_of tree n) 0 (node_count tree)) e)
 
@@ -205,7 +205,7 @@ siblings_from-next tree n = go (parent_of tree n) refl where
   later : (m : ℕ) → parent_of tree n ≡ Some m → (o : Option ℕ) → next_sibling_of tree n ≡ o → filter (ltb n) (children_of tree m) ≡ siblings_from tree o
   later m e None f =
       filter-filter (is_child_of tree m) (ltb n) (range_with_len 0 (node_count tree))
-      ∙ filter_none (is_later tree m n) 0 (node_count tree) (first_of-missing (is_later tree m n) 0 (node_count tree) (sym (next_sibling-parent tree n m e) ∙ f))
+      ∙ filter_none (is_later tree m n) 0 (node_count tree) (first_number-missing (is_later tree m n) 0 (node_count tree) (sym (next_sibling-parent tree n m e) ∙ f))
   later m e (Some s) f =
       let found = next_sibling-found tree m n s e f in
       let both = filter-filter (is_child_of tree m) (ltb n) (range_with_len 0 (node_count tree)) in

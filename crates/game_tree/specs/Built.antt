@@ -19,11 +19,21 @@ nothing_built shape = record { shape = shape; nodes = []; pending = []; setup_co
 
 -- one setup more of the node that is being read
 abbrev pub with_setup : Built → Setup → Built
-with_setup b s = record { shape = b.shape; nodes = b.nodes; pending = b.pending ++ s ∷ []; setup_count = b.setup_count + 1 }
+with_setup b s = record {
+  shape = b.shape;
+  nodes = b.nodes;
+  pending = b.pending ++ s ∷ [];
+  setup_count = b.setup_count + 1;
+}
 
 -- the node that is being read ends: it has this parent, the setups so far, and this move
 abbrev pub with_node : Built → Option ℕ → Option Move → Built
-with_node b parent played = record { shape = b.shape; nodes = b.nodes ++ record { parent = parent; setups = b.pending; played = played } ∷ []; pending = []; setup_count = b.setup_count }
+with_node b parent played = record {
+  shape = b.shape;
+  nodes = b.nodes ++ record { parent = parent; setups = b.pending; played = played } ∷ [];
+  pending = [];
+  setup_count = b.setup_count;
+}
 
 -- the tree of the nodes that were read
 abbrev pub tree_of : Built → Information → Tree
@@ -37,11 +47,15 @@ tree_so_far b = tree_of b no_information
 -- or an ancestor of that.
 abbrev pub IsNextParent : Built → Option ℕ → Type 0
 IsNextParent b None = b.nodes ≡ []
-IsNextParent b (Some m) = (1 ≤ length b.nodes) × (m < length b.nodes) × IsAbove (tree_so_far b) m (length b.nodes - 1)
+IsNextParent b (Some m) =
+    (1 ≤ length b.nodes) × (m < length b.nodes) × IsAbove (tree_so_far b) m (length b.nodes - 1)
 
 -- The nodes of the list make up a tree but for its bounds on brackets and its texts.
 pub record IsGrown (tree : Tree) : Type 0 where
   pub most : node_count tree ≤ 65536
   pub root : parent_of tree 0 ≡ None
-  pub parents : (n : ℕ) → 1 ≤ n → n < node_count tree → (m : ℕ) × (parent_of tree n ≡ Some m) × (m < n) × IsAbove tree m (n - 1)
+  pub parents : (n : ℕ) →
+      1 ≤ n →
+      n < node_count tree →
+      (m : ℕ) × (parent_of tree n ≡ Some m) × (m < n) × IsAbove tree m (n - 1)
   pub on_board : (n : ℕ) → n < node_count tree → IsNodeOnBoard tree.shape (node_at tree n)

@@ -14,12 +14,27 @@ use Rattle.game_tree.specs.ValueFaults.{IsBoard}
 -- The game has this fault at this offset: its root says that it is another game, or has no size; a node's values are faulty on
 -- the game's board; or, whether the game has a board or not, a node has a second move.
 pub data HasGameFault (text : List ℕ) (raw : RawGame) : FaultKind → ℕ → Type 0 where
-  other_game : (pair : Pair) → first_pair text raw (codes "GM") ≡ Some pair → IsOtherGame text pair → HasGameFault text raw kind.NotGo (offset_of pair)
-  no_size : (pair : Pair) → first_pair text raw (codes "SZ") ≡ Some pair → ((shape : Shape) → ¬ IsBoard text raw shape) → HasGameFault text raw kind.BadSize (offset_of pair)
-  in_node : {of : FaultKind} {at : ℕ} (shape : Shape) (node : RawNode) → IsBoard text raw shape → Contains raw.nodes node → HasNodeFault text shape node.pairs of at → HasGameFault text raw of at
-  second_move : (node : RawNode) (pair : Pair) → Contains raw.nodes node → IsSecond text node.pairs pair → HasGameFault text raw kind.TwoMoves (offset_of pair)
+  other_game : (pair : Pair) →
+      first_pair text raw (codes "GM") ≡ Some pair →
+      IsOtherGame text pair →
+      HasGameFault text raw kind.NotGo (offset_of pair)
+  no_size : (pair : Pair) →
+      first_pair text raw (codes "SZ") ≡ Some pair →
+      ((shape : Shape) → ¬ IsBoard text raw shape) →
+      HasGameFault text raw kind.BadSize (offset_of pair)
+  in_node : {of : FaultKind} {at : ℕ} (shape : Shape) (node : RawNode) →
+      IsBoard text raw shape →
+      Contains raw.nodes node →
+      HasNodeFault text shape node.pairs of at →
+      HasGameFault text raw of at
+  second_move : (node : RawNode) (pair : Pair) →
+      Contains raw.nodes node →
+      IsSecond text node.pairs pair →
+      HasGameFault text raw kind.TwoMoves (offset_of pair)
 
 -- the first fault of the game
 pub record IsFirstGameFault (text : List ℕ) (raw : RawGame) (of : FaultKind) (at : ℕ) : Type 0 where
   pub there : HasGameFault text raw of at
-  pub first : (other : FaultKind) (offset : ℕ) → HasGameFault text raw other offset → ComesFirst of at other offset
+  pub first : (other : FaultKind) (offset : ℕ) →
+      HasGameFault text raw other offset →
+      ComesFirst of at other offset

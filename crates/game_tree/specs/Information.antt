@@ -1,5 +1,6 @@
 -- The information of a game.
 use Rattle.std.specs.Prelude.{ℕ, ◌≤◌, List, [], All}
+use Rattle.sgf_reader.specs.Bytes.{space}
 
 -- the names of the players, and the event, place, date and result, as bytes
 pub record Information : Type 0 where
@@ -14,9 +15,9 @@ pub record Information : Type 0 where
 abbrev pub no_information : Information
 no_information = record { black = []; white = []; event = []; place = []; date = []; outcome_text = [] }
 
--- a text without control characters: no byte is below 32
+-- a text without control characters: no byte is below the space
 abbrev pub HasNoControls : List ℕ → Type 0
-HasNoControls text = All (λ (b : ℕ). 32 ≤ b) text
+HasNoControls text = All (λ (b : ℕ). space ≤ b) text
 
 -- no text of the information has a control character
 pub record HasSimpleTexts (info : Information) : Type 0 where

@@ -31,9 +31,15 @@ Ascend pairs = AllPairs (λ (a b : Pair). a.value.from < b.value.from) pairs
 
 -- A value of a node whose board is this has this fault by itself: it is a move behind so many others, or no form of its kind.
 pub data HasPairFault (text : List ℕ) (shape : Shape) (before : List Pair) (pair : Pair) : FaultKind → Type 0 where
-  second_of_two : IsMove text pair → count_by (λ (p : Pair). is_some (mover_of text p)) before ≡ 1 → HasPairFault text shape before pair kind.TwoMoves
-  bad_move : IsMove text pair → ((move : Option Point) → ¬ IsMoveValue shape (bytes_of text pair.value) move) → HasPairFault text shape before pair kind.BadPoint
-  bad_setup : IsTrue (is_some (setter_of text pair)) → ((rect : Option Rect) → ¬ IsSetupValue shape (bytes_of text pair.value) rect) → HasPairFault text shape before pair kind.BadPoint
+  second_of_two : IsMove text pair →
+      count_by (λ (p : Pair). is_some (mover_of text p)) before ≡ 1 →
+      HasPairFault text shape before pair kind.TwoMoves
+  bad_move : IsMove text pair →
+      ((move : Option Point) → ¬ IsMoveValue shape (bytes_of text pair.value) move) →
+      HasPairFault text shape before pair kind.BadPoint
+  bad_setup : IsTrue (is_some (setter_of text pair)) →
+      ((rect : Option Rect) → ¬ IsSetupValue shape (bytes_of text pair.value) rect) →
+      HasPairFault text shape before pair kind.BadPoint
 
 -- one of these values, each by those before it, has this fault at this offset
 pub record HasNodeFault (text : List ℕ) (shape : Shape) (pairs : List Pair) (of : FaultKind) (at : ℕ) : Type 0 where
@@ -51,14 +57,21 @@ ComesFirst of at other offset = (at < offset) ⊎ ((at ≡ offset) × ((other �
 -- the first fault of these values
 pub record IsFirstNodeFault (text : List ℕ) (shape : Shape) (pairs : List Pair) (of : FaultKind) (at : ℕ) : Type 0 where
   pub there : HasNodeFault text shape pairs of at
-  pub first : (other : FaultKind) (offset : ℕ) → HasNodeFault text shape pairs other offset → ComesFirst of at other offset
+  pub first : (other : FaultKind) (offset : ℕ) →
+      HasNodeFault text shape pairs other offset →
+      ComesFirst of at other offset
 
 -- these setups more of the node that is being read
 abbrev pub with_setups : Built → List Setup → Built
-with_setups b setups = record { shape = b.shape; nodes = b.nodes; pending = b.pending ++ setups; setup_count = b.setup_count + length setups }
+with_setups b setups = record {
+  shape = b.shape;
+  nodes = b.nodes;
+  pending = b.pending ++ setups;
+  setup_count = b.setup_count + length setups;
+}
 
 -- what the values of a node do: setups in order and at most one move, and none of them has a fault
-pub record AreRead (text : List ℕ) (shape : Shape) (pairs : List Pair) (setups : List Setup) (played : Option Move) : Type 0 where
+pub record AreValuesRead (text : List ℕ) (shape : Shape) (pairs : List Pair) (setups : List Setup) (played : Option Move) : Type 0 where
   pub sets : AreSetups text shape pairs setups
   pub plays : IsPlayedBy text shape pairs played
   pub no_fault : (of : FaultKind) (at : ℕ) → ¬ HasNodeFault text shape pairs of at
@@ -74,12 +87,28 @@ IsMoveOnBoard shape m = IfSome m.point (λ (p : Point). IsOnBoard shape p)
 
 -- What one value does, by the move so far: it is the first move, it sets up a rectangle or nothing, or it does nothing.
 pub data IsValueRead (text : List ℕ) (shape : Shape) (pair : Pair) : Option Move → Option Move → List Setup → Type 0 where
-  plays : (colour : Colour) (point : Option Point) → mover_of text pair ≡ Some colour → IsMoveValue shape (bytes_of text pair.value) point → IsValueRead text shape pair None (Some (record { colour = colour; point = point })) []
-  sets : {played : Option Move} (cell : Cell) (rect : Option Rect) → mover_of text pair ≡ None → setter_of text pair ≡ Some cell → IsSetupValue shape (bytes_of text pair.value) rect → IsValueRead text shape pair played played (setups_of cell rect)
-  nothing : {played : Option Move} → mover_of text pair ≡ None → setter_of text pair ≡ None → IsValueRead text shape pair played played []
+  plays : (colour : Colour) (point : Option Point) →
+      mover_of text pair ≡ Some colour →
+      IsMoveValue shape (bytes_of text pair.value) point →
+      IsValueRead text shape pair None (Some (record { colour = colour; point = point })) []
+  sets : {played : Option Move} (cell : Cell) (rect : Option Rect) →
+      mover_of text pair ≡ None →
+      setter_of text pair ≡ Some cell →
+      IsSetupValue shape (bytes_of text pair.value) rect →
+      IsValueRead text shape pair played played (setups_of cell rect)
+  nothing : {played : Option Move} →
+      mover_of text pair ≡ None →
+      setter_of text pair ≡ None →
+      IsValueRead text shape pair played played []
 
 -- What is wrong with one value, by the move so far.
 pub data IsValueBad (text : List ℕ) (shape : Shape) (pair : Pair) : Option Move → FaultKind → Type 0 where
   second_move : {m : Move} → IsMove text pair → IsValueBad text shape pair (Some m) kind.TwoMoves
-  no_move : IsMove text pair → ((move : Option Point) → ¬ IsMoveValue shape (bytes_of text pair.value) move) → IsValueBad text shape pair None kind.BadPoint
-  no_setup : {played : Option Move} → mover_of text pair ≡ None → IsTrue (is_some (setter_of text pair)) → ((rect : Option Rect) → ¬ IsSetupValue shape (bytes_of text pair.value) rect) → IsValueBad text shape pair played kind.BadPoint
+  no_move : IsMove text pair →
+      ((move : Option Point) → ¬ IsMoveValue shape (bytes_of text pair.value) move) →
+      IsValueBad text shape pair None kind.BadPoint
+  no_setup : {played : Option Move} →
+      mover_of text pair ≡ None →
+      IsTrue (is_some (setter_of text pair)) →
+      ((rect : Option Rect) → ¬ IsSetupValue shape (bytes_of text pair.value) rect) →
+      IsValueBad text shape pair played kind.BadPoint

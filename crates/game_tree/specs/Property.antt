@@ -8,6 +8,7 @@ use Rattle.kb_geometry.specs.declared.stone.Colour.{Colour}
 use Rattle.kb_geometry.specs.declared.stone.Colour.TheVariants as colour
 use Rattle.game_tree.specs.declared.property.Property.{Property}
 use Rattle.game_tree.specs.declared.property.Property.TheVariants as property
+use Rattle.sgf_reader.specs.Bytes.{capital_a, capital_z, space}
 use Rattle.sgf_reader.specs.declared.collection.Pair.{Pair}
 use Rattle.sgf_reader.specs.declared.collection.RawGame.{RawGame}
 use Rattle.sgf_reader.specs.declared.collection.RawNode.{RawNode}
@@ -19,7 +20,7 @@ bytes_of text span = slice_range text span.from span.to
 
 -- a letter `A` to `Z`
 abbrev pub is_upper : ℕ → Bool
-is_upper b = nat_le 65 b && nat_le b 90
+is_upper b = nat_le capital_a b && nat_le b capital_z
 
 -- the identifier of a value's property, without its lower-case letters
 abbrev pub identifier_of : List ℕ → Pair → List ℕ
@@ -74,12 +75,13 @@ root_pairs raw = option_map_or (λ (node : RawNode). node.pairs) (slice_get raw.
 abbrev pub first_pair : List ℕ → RawGame → List ℕ → Option Pair
 first_pair text raw name = find (is_of text name) (root_pairs raw)
 
--- White space, bytes of at most 32, at either end of a value is ignored: what is left begins and ends with other bytes.
+-- White space, bytes up to the space, at either end of a value is ignored: what is left begins and ends
+-- with other bytes.
 pub record IsTrimmed (value inner : List ℕ) : Type 0 where
   pub before : List ℕ
   pub after : List ℕ
   pub split : value ≡ before ++ inner ++ after
-  pub white_before : All (λ (b : ℕ). b ≤ 32) before
-  pub white_after : All (λ (b : ℕ). b ≤ 32) after
-  pub first : (b : ℕ) (rest : List ℕ) → inner ≡ b ∷ rest → 32 < b
-  pub last : (b : ℕ) (rest : List ℕ) → inner ≡ rest ++ b ∷ [] → 32 < b
+  pub white_before : All (λ (b : ℕ). b ≤ space) before
+  pub white_after : All (λ (b : ℕ). b ≤ space) after
+  pub first : (b : ℕ) (rest : List ℕ) → inner ≡ b ∷ rest → space < b
+  pub last : (b : ℕ) (rest : List ℕ) → inner ≡ rest ++ b ∷ [] → space < b

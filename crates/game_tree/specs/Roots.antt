@@ -20,16 +20,25 @@ first_in text pairs name = find (is_of text name) pairs
 
 -- The value, a game's first one of GM, is neither empty nor `1`.
 abbrev pub IsOtherGame : List ℕ → Pair → Type 0
-IsOtherGame text pair = (inner : List ℕ) × IsTrimmed (bytes_of text pair.value) inner × (inner ≢ []) × (inner ≢ codes "1")
+IsOtherGame text pair =
+    (inner : List ℕ) × IsTrimmed (bytes_of text pair.value) inner × (inner ≢ []) × (inner ≢ codes "1")
 
 -- what the values of a root say of the game: nothing is wrong, or its first GM value is of another game
 pub data IsGameFault (text : List ℕ) (pairs : List Pair) : Option SgfFault → Type 0 where
-  same_game : ((pair : Pair) → first_in text pairs (codes "GM") ≡ Some pair → ¬ IsOtherGame text pair) → IsGameFault text pairs None
-  other_game : (pair : Pair) → first_in text pairs (codes "GM") ≡ Some pair → IsOtherGame text pair → IsGameFault text pairs (Some (record { kind = kind.NotGo; at = offset_of pair }))
+  same_game : ((pair : Pair) → first_in text pairs (codes "GM") ≡ Some pair → ¬ IsOtherGame text pair) →
+      IsGameFault text pairs None
+  other_game : (pair : Pair) →
+      first_in text pairs (codes "GM") ≡ Some pair →
+      IsOtherGame text pair →
+      IsGameFault text pairs (Some (record { kind = kind.NotGo; at = offset_of pair }))
 
 -- what is wrong where the first SZ value of a root is no size
 abbrev pub IsSizeFault : List ℕ → Option Pair → SgfFault → Type 0
-IsSizeFault text size fault = (pair : Pair) × (size ≡ Some pair) × (fault ≡ record { kind = kind.BadSize; at = offset_of pair }) × ((shape : Shape) → ¬ IsBoardOf text size shape)
+IsSizeFault text size fault =
+    (pair : Pair) ×
+    (size ≡ Some pair) ×
+    (fault ≡ record { kind = kind.BadSize; at = offset_of pair }) ×
+    ((shape : Shape) → ¬ IsBoardOf text size shape)
 
 -- a value that is the second move among these
 pub record IsSecond (text : List ℕ) (pairs : List Pair) (pair : Pair) : Type 0 where
@@ -42,7 +51,9 @@ pub record IsSecond (text : List ℕ) (pairs : List Pair) (pair : Pair) : Type 0
 -- what is wrong with the moves of a node: nothing, or a second one stands there
 pub data IsSecondMove (text : List ℕ) (pairs : List Pair) : Option SgfFault → Type 0 where
   one_at_most : ((pair : Pair) → ¬ IsSecond text pairs pair) → IsSecondMove text pairs None
-  second_stands : (pair : Pair) → IsSecond text pairs pair → IsSecondMove text pairs (Some (record { kind = kind.TwoMoves; at = offset_of pair }))
+  second_stands : (pair : Pair) →
+      IsSecond text pairs pair →
+      IsSecondMove text pairs (Some (record { kind = kind.TwoMoves; at = offset_of pair }))
 
 -- the information that these values of a root tell
 pub record IsInformationIn (text : List ℕ) (pairs : List Pair) (info : Information) : Type 0 where

@@ -27,7 +27,11 @@ shown_parent ts (suc n) = Some (node_in ts (suc n)).parent
 
 -- the node with this number
 abbrev pub shown_node : List TreeNode → List Setup → ℕ → Node
-shown_node ts setups n = record { parent = shown_parent ts n; setups = between (setups_start ts n) (node_in ts n).setups_end setups; played = (node_in ts n).played }
+shown_node ts setups n = record {
+  parent = shown_parent ts n;
+  setups = between (setups_start ts n) (node_in ts n).setups_end setups;
+  played = (node_in ts n).played;
+}
 
 -- the nodes
 abbrev pub shown_nodes : List TreeNode → List Setup → List Node
@@ -39,7 +43,12 @@ shown_tree shape info ts setups = record { shape = shape; info = info; nodes = s
 
 -- what is being built: the setups behind those of the last node are those of the node that is being read
 abbrev pub shown_built : Shape → List TreeNode → List Setup → Built
-shown_built shape ts setups = record { shape = shape; nodes = shown_nodes ts setups; pending = drop (setups_start ts (length ts)) setups; setup_count = length setups }
+shown_built shape ts setups = record {
+  shape = shape;
+  nodes = shown_nodes ts setups;
+  pending = drop (setups_start ts (length ts)) setups;
+  setup_count = length setups;
+}
 
 -- the number, or 0 if there is none
 abbrev pub or_zero : Option ℕ → ℕ
@@ -64,7 +73,9 @@ pub record AreEnds (ts : List TreeNode) (setups : List Setup) : Type 0 where
 -- the stored numbers are those of the tree: the next siblings, the moves above each node, and the end of the main line
 pub record AreLinks (tree : Tree) (ts : List TreeNode) (main : ℕ) : Type 0 where
   pub siblings : (n : ℕ) → n < length ts → (node_in ts n).next_sibling ≡ or_zero (next_sibling_of tree n)
-  pub moves : (n : ℕ) → n < length ts → (node_in ts n).moves_above + one_if (is_some (node_in ts n).played) ≡ move_number_of tree n
+  pub moves : (n : ℕ) →
+      n < length ts →
+      (node_in ts n).moves_above + one_if (is_some (node_in ts n).played) ≡ move_number_of tree n
   pub main_end : IsMainEnd tree main
 
 -- a whole tree is stored
@@ -84,4 +95,5 @@ pub record IsBeginning (shape : Shape) (ts : List TreeNode) (setups : List Setup
 -- a node, if there is one, and then the later children of its parent
 abbrev pub siblings_from : Tree → Option ℕ → List ℕ
 siblings_from tree None = []
-siblings_from tree (Some n) = n ∷ option_map_or (λ m. filter (nat_lt n) (children_of tree m)) (parent_of tree n) []
+siblings_from tree (Some n) =
+    n ∷ option_map_or (λ m. filter (nat_lt n) (children_of tree m)) (parent_of tree n) []

@@ -51,17 +51,18 @@ abbrev pub children_of : Tree → ℕ → List ℕ
 children_of tree m = filter (is_child_of tree m) (range_with_len 0 (node_count tree))
 
 -- the first of these numbers, if there is one
-abbrev pub first_of : List ℕ → Option ℕ
-first_of [] = None
-first_of (n ∷ ns) = Some n
+abbrev pub first_number : List ℕ → Option ℕ
+first_number [] = None
+first_number (n ∷ ns) = Some n
 
 -- the first child of a node
 abbrev pub first_child_of : Tree → ℕ → Option ℕ
-first_child_of tree m = first_of (children_of tree m)
+first_child_of tree m = first_number (children_of tree m)
 
 -- the next child of the node's parent
 abbrev pub next_sibling_of : Tree → ℕ → Option ℕ
-next_sibling_of tree n = option_and_then (λ m. first_of (filter (nat_lt n) (children_of tree m))) (parent_of tree n)
+next_sibling_of tree n =
+    option_and_then (λ m. first_number (filter (nat_lt n) (children_of tree m))) (parent_of tree n)
 
 -- the path from a node up to the root, the node itself first, of at most so many nodes
 abbrev pub path_within : Tree → ℕ → ℕ → List ℕ
@@ -87,7 +88,10 @@ pub record IsTree (tree : Tree) : Type 0 where
   pub some : 1 ≤ node_count tree
   pub most : node_count tree ≤ 65536
   pub root : parent_of tree 0 ≡ None
-  pub parents : (n : ℕ) → 1 ≤ n → n < node_count tree → (m : ℕ) × (parent_of tree n ≡ Some m) × (m < n) × IsAbove tree m (n - 1)
+  pub parents : (n : ℕ) →
+      1 ≤ n →
+      n < node_count tree →
+      (m : ℕ) × (parent_of tree n ≡ Some m) × (m < n) × IsAbove tree m (n - 1)
   pub on_board : (n : ℕ) → n < node_count tree → IsNodeOnBoard tree.shape (node_at tree n)
   pub depth : (n : ℕ) → n < node_count tree → branchings_to tree n < 1024
   pub texts : HasSimpleTexts tree.info

@@ -22,7 +22,9 @@ use Rattle.game_tree.specs.ValueFaults.{IsBoard}
 -- the text of a first value of a root, as SimpleText; the empty text where there is none
 pub data IsTextOf (text : List ℕ) : Option Pair → List ℕ → Type 0 where
   no_value : IsTextOf text None []
-  value : {pair : Pair} {simple : List ℕ} → IsSimpleText (bytes_of text pair.value) simple → IsTextOf text (Some pair) simple
+  value : {pair : Pair} {simple : List ℕ} →
+      IsSimpleText (bytes_of text pair.value) simple →
+      IsTextOf text (Some pair) simple
 
 -- the information of a game: the first values of PB, PW, EV, PC, DT and RE at its root
 pub record IsInformation (text : List ℕ) (raw : RawGame) (info : Information) : Type 0 where
@@ -36,15 +38,33 @@ pub record IsInformation (text : List ℕ) (raw : RawGame) (info : Information) 
 -- what these values of a node set up, in order of the text; an empty value is ignored
 pub data AreSetups (text : List ℕ) (shape : Shape) : List Pair → List Setup → Type 0 where
   none : AreSetups text shape [] []
-  other : {pair : Pair} {pairs : List Pair} {setups : List Setup} → setter_of text pair ≡ None → AreSetups text shape pairs setups → AreSetups text shape (pair ∷ pairs) setups
-  ignored : {pair : Pair} {pairs : List Pair} {setups : List Setup} (cell : Cell) → setter_of text pair ≡ Some cell → IsSetupValue shape (bytes_of text pair.value) None → AreSetups text shape pairs setups → AreSetups text shape (pair ∷ pairs) setups
-  set : {pair : Pair} {pairs : List Pair} {setups : List Setup} (cell : Cell) (rect : Rect) → setter_of text pair ≡ Some cell → IsSetupValue shape (bytes_of text pair.value) (Some rect) → AreSetups text shape pairs setups → AreSetups text shape (pair ∷ pairs) (record { cell = cell; rect = rect } ∷ setups)
+  other : {pair : Pair} {pairs : List Pair} {setups : List Setup} →
+      setter_of text pair ≡ None →
+      AreSetups text shape pairs setups →
+      AreSetups text shape (pair ∷ pairs) setups
+  ignored : {pair : Pair} {pairs : List Pair} {setups : List Setup} (cell : Cell) →
+      setter_of text pair ≡ Some cell →
+      IsSetupValue shape (bytes_of text pair.value) None →
+      AreSetups text shape pairs setups →
+      AreSetups text shape (pair ∷ pairs) setups
+  set : {pair : Pair} {pairs : List Pair} {setups : List Setup} (cell : Cell) (rect : Rect) →
+      setter_of text pair ≡ Some cell →
+      IsSetupValue shape (bytes_of text pair.value) (Some rect) →
+      AreSetups text shape pairs setups →
+      AreSetups text shape (pair ∷ pairs) (record { cell = cell; rect = rect } ∷ setups)
 
 -- what these values of a node play: the value of B or W, if there is one, and there is no second one
 pub data IsPlayedBy (text : List ℕ) (shape : Shape) : List Pair → Option Move → Type 0 where
   none : IsPlayedBy text shape [] None
-  other : {pair : Pair} {pairs : List Pair} {played : Option Move} → mover_of text pair ≡ None → IsPlayedBy text shape pairs played → IsPlayedBy text shape (pair ∷ pairs) played
-  move : {pair : Pair} {pairs : List Pair} (colour : Colour) (point : Option Point) → mover_of text pair ≡ Some colour → IsMoveValue shape (bytes_of text pair.value) point → IsPlayedBy text shape pairs None → IsPlayedBy text shape (pair ∷ pairs) (Some (record { colour = colour; point = point }))
+  other : {pair : Pair} {pairs : List Pair} {played : Option Move} →
+      mover_of text pair ≡ None →
+      IsPlayedBy text shape pairs played →
+      IsPlayedBy text shape (pair ∷ pairs) played
+  move : {pair : Pair} {pairs : List Pair} (colour : Colour) (point : Option Point) →
+      mover_of text pair ≡ Some colour →
+      IsMoveValue shape (bytes_of text pair.value) point →
+      IsPlayedBy text shape pairs None →
+      IsPlayedBy text shape (pair ∷ pairs) (Some (record { colour = colour; point = point }))
 
 -- the node of a raw node: the same parent, the setups in order, and the move
 pub record IsNodeOf (text : List ℕ) (shape : Shape) (raw : RawNode) (node : Node) : Type 0 where

@@ -17,7 +17,7 @@ ghost use Rattle.game_tree.specs.Trees.{IsTreeOf};
 ghost use Rattle.game_tree.specs.ValueFaults.{IsBoard};
 
 use crate::node_values::read_values;
-use crate::root::{SIZE, board_of, first_fault, first_of, game_fault, information, second_move};
+use crate::root::{SIZE, board_of, first_fault, first_value, game_fault, information, second_move};
 use crate::{BuildError, GameTree, Move, TreeBuilder};
 use kb_geometry::{NoMemory, Shape};
 use sgf_reader::{Pair, RawGame, RawNode, SgfFault};
@@ -33,7 +33,7 @@ pub(crate) fn build_game(alloc: Global, text: &[u8], raw: &RawGame) -> Result<Ga
     let (root, _) = root_and_others(raw.nodes.as_slice());
     let pairs = root.pairs.as_slice();
     let game = game_fault(text, pairs);
-    match board_of(text, first_of(text, pairs, SIZE)) {
+    match board_of(text, first_value(text, pairs, SIZE)) {
         Ok(shape) => build_on(alloc, text, raw, shape, game),
         Err(size) => {
             let fault = first_fault(first_fault(size, game), second_move(text, pairs));

@@ -27,7 +27,10 @@ pub use building::{BuildError, build};
 pub use bytes::Bytes;
 pub use children::Children;
 pub use info::Info;
-pub use laws::a_collection_has_one_list_of_trees;
+pub use laws::{
+    a_collection_has_one_first_value_fault, a_collection_has_one_list_of_trees,
+    a_collection_has_trees_or_a_first_value_fault, the_trees_of_a_collection_are_trees,
+};
 pub use node::{Move, Setup};
 pub use tree::GameTree;
 

@@ -6,7 +6,7 @@ ghost use Rattle.sgf_reader.specs.declared.fault.SgfFault.{SgfFault};
 ghost use Rattle.game_tree.specs.declared.node.Move.{Move};
 ghost use Rattle.game_tree.specs.declared.node.Setup.{Setup};
 ghost use Rattle.game_tree.specs.declared.building.BuildError.TheVariants.{Fault, NoMemory};
-ghost use Rattle.game_tree.specs.NodeValues.{AreRead, Ascend, IsFirstNodeFault, IsMoveOnBoard, IsValueBad, IsValueRead, LiesIn, setups_of, with_setups};
+ghost use Rattle.game_tree.specs.NodeValues.{AreValuesRead, Ascend, IsFirstNodeFault, IsMoveOnBoard, IsValueBad, IsValueRead, LiesIn, setups_of, with_setups};
 ghost use Rattle.game_tree.specs.Value.{IsSetupValue};
 ghost use Rattle.sgf_reader.specs.declared.fault.FaultKind.TheVariants as kind;
 ghost use Rattle.kb_geometry.specs.declared.shape.Rect.{Rect};
@@ -28,12 +28,11 @@ pub(crate) fn bytes_of(text: &[u8], span: Span) -> &[u8]
 }
 
 // A fault at the `[` of a value.
-pub(crate) fn fault_at(kind: FaultKind, pair: &Pair) -> BuildError
-    requires { 1 ≤ pair.now.value.from }
-    ensures { result ≡ Fault (record { kind = kind; at = offset_of pair.now }) }
+pub(crate) fn fault_at(kind: FaultKind, pair: &Pair) -> SgfFault
+    ensures { result ≡ record { kind = kind; at = offset_of pair.now } }
 {
-    let at = pair.value.from - 1;
-    BuildError::Fault(SgfFault { kind, at })
+    let at = pair.value.from.saturating_sub(1);
+    SgfFault { kind, at }
 }
 
 // Hands the setups of a node's values to the builder, in order of the text, and answers its move.
@@ -47,7 +46,8 @@ pub(crate) fn read_values(
     requires room { builder.old.setup_count + length pairs.now < 4294967295 }
     requires inside { All (LiesIn (length text.now)) pairs.now }
     requires ascending { Ascend pairs.now }
-    ensures ok { IfOk result (λ played. (setups : List Setup) × AreRead text.now shape pairs.now setups played
+    ensures ok { IfOk result (λ played. (setups : List Setup)
+        × AreValuesRead text.now shape pairs.now setups played
         × (builder.new ≡ with_setups builder.old setups)) }
     ensures on_board { IfOk result (λ played. IfSome played (λ (m : Move).
         IfSome m.point (λ (p : Point). IsOnBoard shape p))) }
@@ -103,14 +103,14 @@ fn read_move(
         (f.at ≡ offset_of pair.now) × IsValueBad text.now shape pair.now played.old f.kind }
 {
     if played.is_some() {
-        return Err(fault_at(FaultKind::TwoMoves, pair));
+        return Err(BuildError::Fault(fault_at(FaultKind::TwoMoves, pair)));
     }
     match move_of(shape, bytes_of(text, pair.value)) {
         Some(point) => {
             *played = Some(Move { colour, point });
             Ok(())
         }
-        None => Err(fault_at(FaultKind::BadPoint, pair)),
+        None => Err(BuildError::Fault(fault_at(FaultKind::BadPoint, pair))),
     }
 }
 
@@ -138,6 +138,6 @@ fn read_setup(
             Ok(())
         }
         Some(None) => Ok(()),
-        None => Err(fault_at(FaultKind::BadPoint, pair)),
+        None => Err(BuildError::Fault(fault_at(FaultKind::BadPoint, pair))),
     }
 }

@@ -9,7 +9,7 @@ ghost use Rattle.game_tree.specs.Roots.{first_in, letters, IsGameFault, IsOtherG
 ghost use Rattle.game_tree.specs.Trees.{IsTextOf};
 ghost use Rattle.game_tree.specs.ValueFaults.{IsBoardOf};
 
-use crate::node_values::bytes_of;
+use crate::node_values::{bytes_of, fault_at};
 use crate::property::{Identifier, Property};
 use crate::simple_text::simple_text;
 use crate::value::{size_of, trimmed};
@@ -59,16 +59,8 @@ const RESULT: Identifier = Identifier {
     second: b'E',
 };
 
-// A fault at the `[` of a value.
-pub(crate) fn fault_of(kind: FaultKind, pair: Pair) -> SgfFault
-    ensures { result ≡ record { kind = kind; at = offset_of pair } }
-{
-    let at = pair.value.from.saturating_sub(1);
-    SgfFault { kind, at }
-}
-
 // The first value of a property.
-pub(crate) fn first_of(text: &[u8], pairs: &[Pair], identifier: Identifier) -> Option<Pair>
+pub(crate) fn first_value(text: &[u8], pairs: &[Pair], identifier: Identifier) -> Option<Pair>
     requires inside { All (LiesIn (length text.now)) pairs.now }
     ensures value { result ≡ first_in text.now pairs.now (letters identifier) }
     ensures inside { IfSome result (LiesIn (length text.now)) }
@@ -88,11 +80,11 @@ pub(crate) fn game_fault(text: &[u8], pairs: &[Pair]) -> Option<SgfFault>
     requires inside { All (LiesIn (length text.now)) pairs.now }
     ensures { IsGameFault text.now pairs.now result }
 {
-    let pair = first_of(text, pairs, GAME)?;
+    let pair = first_value(text, pairs, GAME)?;
     if is_go(text, pair) {
         None
     } else {
-        Some(fault_of(FaultKind::NotGo, pair))
+        Some(fault_at(FaultKind::NotGo, &pair))
     }
 }
 
@@ -137,7 +129,7 @@ fn board_by(text: &[u8], pair: Pair) -> Result<Shape, SgfFault>
     }
     match size_of(value) {
         Some(shape) => Ok(shape),
-        None => Err(fault_of(FaultKind::BadSize, pair)),
+        None => Err(fault_at(FaultKind::BadSize, &pair)),
     }
 }
 
@@ -150,7 +142,7 @@ pub(crate) fn second_move(text: &[u8], pairs: &[Pair]) -> Option<SgfFault>
     for pair in pairs {
         if is_move(text, pair) {
             if seen {
-                return Some(fault_of(FaultKind::TwoMoves, *pair));
+                return Some(fault_at(FaultKind::TwoMoves, pair));
             }
             seen = true;
         }
@@ -207,7 +199,7 @@ fn text_of(
     requires inside { All (LiesIn (length text.now)) pairs.now }
     ensures { IfOk result (IsTextOf text.now (first_in text.now pairs.now (letters identifier))) }
 {
-    match first_of(text, pairs, identifier) {
+    match first_value(text, pairs, identifier) {
         None => Ok(Bytes::new(Vec::new(alloc))),
         Some(pair) => simple_text(alloc, bytes_of(text, pair.value)),
     }

@@ -1,6 +1,7 @@
 // SimpleText (SGF FF[4], property value types): how the values of the information are read.
 ghost use Rattle.std.specs.Prelude.{◌≡◌, ◌≢◌, ◌≤◌, ◌<◌, ◌⊎◌, ◌++◌, ℕ, List, ◌∷◌, length, Option, Some, None, IfOk, IfSome};
 ghost use Rattle.std.specs.Option.{option_to_list};
+ghost use Rattle.sgf_reader.specs.Bytes.{CR, LF, backslash};
 ghost use Rattle.game_tree.specs.SimpleText.{BreaksLine, IsReadAs, IsSimpleText};
 
 use crate::Bytes;
@@ -39,7 +40,7 @@ fn next_byte(text: &[u8]) -> (Option<u8>, &[u8])
 // What the first bytes behind a backslash are read as, and what stands behind them.
 fn hidden_byte(hidden: &[u8]) -> (Option<u8>, &[u8])
     ensures read { (more : List ℕ) → IsSimpleText result.1.now more →
-        IsSimpleText (92 ∷ hidden.now) (option_to_list result.0 ++ more) }
+        IsSimpleText (backslash ∷ hidden.now) (option_to_list result.0 ++ more) }
     ensures shorter { length result.1.now ≤ length hidden.now }
 {
     if let Some(rest) = behind_break(hidden) {
@@ -54,7 +55,7 @@ fn hidden_byte(hidden: &[u8]) -> (Option<u8>, &[u8])
 // What the first bytes of a text without a backslash are read as, and what stands behind them.
 fn shown_byte(text: &[u8]) -> (Option<u8>, &[u8])
     requires some { 1 ≤ length text.now }
-    requires shown { (rest : List ℕ) → text.now ≢ 92 ∷ rest }
+    requires shown { (rest : List ℕ) → text.now ≢ backslash ∷ rest }
     ensures read { (more : List ℕ) → IsSimpleText result.1.now more →
         IsSimpleText text.now (option_to_list result.0 ++ more) }
     ensures shorter { length result.1.now < length text.now }
@@ -70,8 +71,8 @@ fn shown_byte(text: &[u8]) -> (Option<u8>, &[u8])
 
 // How a byte that begins no line break is read.
 fn read_as(b: u8) -> u8
-    requires feed { b ≢ 10 }
-    requires return_ { b ≢ 13 }
+    requires feed { b ≢ LF }
+    requires return_ { b ≢ CR }
     ensures { IsReadAs b result }
 {
     if b <= b' ' { b' ' } else { b }
@@ -81,7 +82,7 @@ fn read_as(b: u8) -> u8
 fn behind_break(text: &[u8]) -> Option<&[u8]>
     ensures some { IfSome result (λ rest. BreaksLine text.now rest.now) }
     ensures shorter { IfSome result (λ rest. length rest.now < length text.now) }
-    ensures none { result ≡ None → (b : ℕ) (rest : List ℕ) → text.now ≡ b ∷ rest → (b ≢ 10) × (b ≢ 13) }
+    ensures none { result ≡ None → (b : ℕ) (rest : List ℕ) → text.now ≡ b ∷ rest → (b ≢ LF) × (b ≢ CR) }
 {
     let [b, rest @ ..] = text else {
         return None;

@@ -6,6 +6,7 @@ ghost use Rattle.kb_geometry.specs.declared.shape.Rect.{Rect};
 ghost use Rattle.kb_geometry.specs.declared.shape.Shape.{Shape};
 ghost use Rattle.kb_geometry.specs.Board.{IsOnBoard, cols_of, rows_of, IsRectOnBoard};
 ghost use Rattle.kb_geometry.specs.Side.{IsSide};
+ghost use Rattle.sgf_reader.specs.Bytes.{colon, digit_nine, digit_zero, space};
 ghost use Rattle.game_tree.specs.Property.{IsTrimmed};
 ghost use Rattle.game_tree.specs.Value.{IsCoordinate, IsMoveText, IsMoveValue, IsPoint, IsSetupText, IsSetupValue, IsSideText, IsSize, rect_of};
 
@@ -14,10 +15,10 @@ use kb_geometry::{MAX_SIDE, Point, Rect, Shape};
 // The greatest board on which `tt` is a pass.
 const MAX_PASS_SIDE: u8 = 19;
 
-// A number past the greatest side.
+// The first number past the greatest side.
 const PAST_SIDE: u8 = MAX_SIDE + 1;
 
-// A value without the white space, bytes of at most 32, at either end.
+// A value without the white space, bytes up to the space, at either end.
 pub(crate) fn trimmed(value: &[u8]) -> &[u8]
     ensures { IsTrimmed value.now result.now }
 {
@@ -26,8 +27,9 @@ pub(crate) fn trimmed(value: &[u8]) -> &[u8]
 
 // A value without the white space before it.
 fn without_leading_white(value: &[u8]) -> &[u8]
-    ensures split { (before : List ℕ) × (value.now ≡ before ++ result.now) × All (λ (b : ℕ). b ≤ 32) before }
-    ensures first { (b : ℕ) (rest : List ℕ) → result.now ≡ b ∷ rest → 32 < b }
+    ensures split { (before : List ℕ) × (value.now ≡ before ++ result.now)
+        × All (λ (b : ℕ). b ≤ space) before }
+    ensures first { (b : ℕ) (rest : List ℕ) → result.now ≡ b ∷ rest → space < b }
 {
     let mut rest = value;
     while let [b, others @ ..] = rest {
@@ -41,8 +43,9 @@ fn without_leading_white(value: &[u8]) -> &[u8]
 
 // A value without the white space behind it.
 fn without_trailing_white(value: &[u8]) -> &[u8]
-    ensures split { (after : List ℕ) × (value.now ≡ result.now ++ after) × All (λ (b : ℕ). b ≤ 32) after }
-    ensures last { (b : ℕ) (rest : List ℕ) → result.now ≡ rest ++ b ∷ [] → 32 < b }
+    ensures split { (after : List ℕ) × (value.now ≡ result.now ++ after)
+        × All (λ (b : ℕ). b ≤ space) after }
+    ensures last { (b : ℕ) (rest : List ℕ) → result.now ≡ rest ++ b ∷ [] → space < b }
 {
     let mut rest = value;
     while let [others @ .., b] = rest {
@@ -56,23 +59,28 @@ fn without_trailing_white(value: &[u8]) -> &[u8]
 
 // A decimal digit.
 fn digit_of(b: u8) -> Option<u8>
-    ensures some { IfSome result (λ d. (d ≤ 9) × (b ≡ 48 + d)) }
-    ensures none { result ≡ None → (b < 48) ⊎ (57 < b) }
+    ensures some { IfSome result (λ d. (d ≤ 9) × (b ≡ digit_zero + d)) }
+    ensures none { result ≡ None → (b < digit_zero) ⊎ (digit_nine < b) }
 {
     let digit = b.checked_sub(b'0')?;
     if digit <= 9 { Some(digit) } else { None }
 }
 
-// The number that decimal digits write, or any number past the greatest side where theirs is.
+// The number that decimal digits write, or the first one past the greatest side where theirs is
+// past it.
 fn number_of(text: &[u8]) -> Option<u8>
-    ensures some { IfSome result (λ n. AllDigits 10 text.now × (n ≡ min (digits_value 10 text.now) 20)) }
+    ensures some { IfSome result (λ n.
+        AllDigits 10 text.now × (n ≡ min (digits_value 10 text.now) PAST_SIDE)) }
     ensures none { result ≡ None → ¬ AllDigits 10 text.now }
 {
-    let mut number = 0;
+    let mut number: u8 = 0;
     let mut rest = text;
     while let [b, others @ ..] = rest {
         let digit = digit_of(*b)?;
-        number = (number * 10 + digit).min(PAST_SIDE);
+        number = number
+            .saturating_mul(10)
+            .saturating_add(digit)
+            .min(PAST_SIDE);
         rest = others;
     }
     Some(number)
@@ -96,8 +104,9 @@ fn side_of(text: &[u8]) -> Option<u8>
 
 // What stands on either side of the first colon, if there is one.
 fn around_colon(text: &[u8]) -> Option<(&[u8], &[u8])>
-    ensures some { IfSome result (λ r. (text.now ≡ r.0.now ++ 58 ∷ r.1.now) × All (λ (b : ℕ). b ≢ 58) r.0.now) }
-    ensures none { result ≡ None → All (λ (b : ℕ). b ≢ 58) text.now }
+    ensures some { IfSome result (λ r.
+        (text.now ≡ r.0.now ++ colon ∷ r.1.now) × All (λ (b : ℕ). b ≢ colon) r.0.now) }
+    ensures none { result ≡ None → All (λ (b : ℕ). b ≢ colon) text.now }
 {
     let at = text.iter().position(|b| *b == b':')?;
     Some((&text[..at], &text[at + 1..]))

@@ -1,5 +1,5 @@
 -- What is read of a set by its words: whether a number is a member.
-use Rattle.std.proofs.Common.{◌≡◌, ℕ, ◌/◌, ◌%◌, ◌^◌, ◌≤◌, ◌↔◌, inl, inr, nat_eq, nat_lt, IsTrue, List, [], ◌∷◌, replicate, slice_index, refl, sym, ap, ◌∙◌, arith, Contains, bit_and}
+use Rattle.std.proofs.Common.{◌≡◌, ℕ, ◌/◌, ◌%◌, ◌^◌, ◌≤◌, ◌↔◌, inl, inr, nat_eq, nat_lt, IsTrue, List, [], ◌∷◌, length, replicate, slice_index, refl, sym, ap, ◌∙◌, arith, Contains, bit_and}
 use Rattle.std.specs.Int.{bit_at}
 use Rattle.std.proofs.lemmas.List.{get_or-replicate, get_or_past, length-replicate}
 use Rattle.std.proofs.lemmas.Nat.Bits.{bit_at-zero, shr_and_one}
@@ -28,16 +28,19 @@ zero_words n k = elim (cases_lt k n) [ inl lt ↦ get_or-replicate n k 0 0 lt | 
 pub members-none : (words : List ℕ) → ((k : ℕ) → slice_index words k ≡ 0) → members words ≡ []
 members-none words none = nil_from_no_member (members words) (λ m h. no_member words m (none (m / 64)) h)
 
--- the words of the empty set
-pub AreWords-none : AreWords (replicate WORDS 0) 0
-AreWords-none = record {
-  count = length-replicate {A = ℕ} WORDS 0;
-  fits = λ k. rw (zero_words WORDS k) (omega arith);
+-- words that are 0 are those of the empty set
+pub AreWords-zero : (words : List ℕ) → length words ≡ WORDS → ((k : ℕ) → slice_index words k ≡ 0) → AreWords words 0
+AreWords-zero words count zero = record {
+  count = count;
+  fits = λ k. rw (zero k) (omega arith);
   room = omega arith;
-  behind = λ k le. zero_words WORDS k;
+  behind = λ k le. zero k;
   last = λ k e. absurd (omega arith);
-  bounded = λ n le. ap (λ (w : ℕ). bit_at w (n % 64)) (zero_words WORDS (n / 64)) ∙ bit_at-zero (n % 64);
+  bounded = λ n le. ap (λ (w : ℕ). bit_at w (n % 64)) (zero (n / 64)) ∙ bit_at-zero (n % 64);
 }
+
+pub AreWords-none : AreWords (replicate WORDS 0) 0
+AreWords-none = AreWords-zero (replicate WORDS 0) (length-replicate {A = ℕ} WORDS 0) (zero_words WORDS)
 
 module _ (words : List ℕ) (used n k : ℕ) (held : AreWords words used) (at : k ≡ n / 64) where
   -- the bit that the code reads

@@ -1,18 +1,33 @@
 -- Two sets are equal just where their words are.
-use Rattle.std.proofs.Common.{◌≡◌, ℕ, ◌<◌, inl, inr, Bool, true, false, List, slice_index, nat_eq, ◌↔◌, IsTrue, refl, sym, ap, ◌∙◌, arith, ext_get_or}
+use Rattle.std.proofs.Common.{◌≡◌, ℕ, ◌+◌, ◌*◌, ◌≤◌, ◌<◌, inl, inr, Bool, true, false, List, zero, suc, slice_index, nat_eq, ◌↔◌, IsTrue, refl, sym, ap, ◌∙◌, subst, arith, ext_get_or, Contains}
 use Rattle.std.specs.Cmp.Lexicographic.{pointwise}
+use Rattle.std.proofs.lemmas.Nat.Bits.{bit_at-lt, same_from_bits_below}
 use Rattle.std.proofs.lemmas.Slice.Eq.{bytes_eq-Decides}
 use Rattle.std.proofs.lemmas.Bool.{false≢true, cases_lt}
 use Rattle.std.proofs.lemmas.Bool.Decides.{same_from_decides}
-use Rattle.kb_bits.specs.Words.{members, AreWords, words_of, word_count_of}
-use Rattle.kb_bits.specs.Recovery.{words_of-members, word_count_of-members}
+use Rattle.kb_bits.specs.Words.{bit_of, members, AreWords}
+use Rattle.kb_bits.specs.WordLaws.{bit_of-place, member_from_bit, bit_from_member}
+
+-- two bits are the same where the one is set just where the other is
+same_bits : (a b : ℕ) → a < 2 → b < 2 → (a ≡ 1 → b ≡ 1) → (b ≡ 1 → a ≡ 1) → a ≡ b
+same_bits zero zero _ _ _ _ = refl
+same_bits zero (suc b) _ lt _ back = let h = back (omega arith) in omega arith
+same_bits (suc a) b lt _ forth _ = let h = forth (omega arith) in omega arith
 
 module _ (xs ys : List ℕ) (m n : ℕ) (first : AreWords xs m) (second : AreWords ys n) where
-  pub same_counts : members xs ≡ members ys → m ≡ n
-  same_counts e = sym (word_count_of-members xs m first) ∙ ap word_count_of e ∙ word_count_of-members ys n second
+  bit_same : members xs ≡ members ys → (k : ℕ) → bit_of xs k ≡ bit_of ys k
+  bit_same e k =
+      same_bits (bit_of xs k) (bit_of ys k) (bit_at-lt _ _) (bit_at-lt _ _)
+      (λ h. bit_from_member ys k (subst (λ (ms : List ℕ). Contains ms k) e
+      (member_from_bit xs first.bounded k h)))
+      (λ h. bit_from_member xs k (subst (λ (ms : List ℕ). Contains ms k) (sym e)
+      (member_from_bit ys second.bounded k h)))
 
-  pub same_words : members xs ≡ members ys → xs ≡ ys
-  same_words e = sym (words_of-members xs m first) ∙ ap words_of e ∙ words_of-members ys n second
+  pub word_with_bits : members xs ≡ members ys → (k : ℕ) → slice_index xs k ≡ slice_index ys k
+  word_with_bits e k =
+      same_from_bits_below 64 (slice_index xs k) (slice_index ys k) (first.fits k) (second.fits k)
+      (λ i lt. sym (bit_of-place xs k i (k * 64 + i) lt refl) ∙ bit_same e (k * 64 + i)
+      ∙ bit_of-place ys k i (k * 64 + i) lt refl)
 
   word_same : m ≡ n → ((j : ℕ) → j < m → slice_index xs j ≡ slice_index ys j) → (j : ℕ) → slice_index xs j ≡ slice_index ys j
   word_same e same j =
@@ -24,6 +39,26 @@ module _ (xs ys : List ℕ) (m n : ℕ) (first : AreWords xs m) (second : AreWor
   -- as many words are in use, and these are the same
   pub same_members : m ≡ n → ((j : ℕ) → j < m → slice_index xs j ≡ slice_index ys j) → members xs ≡ members ys
   same_members e same = ap members (ext_get_or 0 xs ys (omega (arith, first.count, second.count)) (λ j lt. word_same e same j))
+
+-- no more words are in use than of a set with the same words
+counts_le : (xs ys : List ℕ) (m n : ℕ) → AreWords xs m → AreWords ys n
+    → ((k : ℕ) → slice_index xs k ≡ slice_index ys k) → m ≤ n
+counts_le xs ys zero n first second same = omega arith
+counts_le xs ys (suc k) n first second same =
+    elim (cases_lt k n) [
+      | inl lt ↦ omega arith
+      | inr le ↦ absurd (omega (arith, first.last k (omega arith), second.behind k le, same k))
+    ]
+
+pub same_counts : (xs ys : List ℕ) (m n : ℕ) → AreWords xs m → AreWords ys n
+    → members xs ≡ members ys → m ≡ n
+same_counts xs ys m n first second e =
+    let same = word_with_bits xs ys m n first second e in
+    omega (
+      arith,
+      counts_le xs ys m n first second same,
+      counts_le ys xs n m second first (λ k. sym (same k)),
+    )
 
 -- a test tells whether two lists are equal
 pub record TellsSame (xs ys : List ℕ) (answer : Bool) : Type 0 where

@@ -2,5 +2,3 @@ pub mod Members
 pub mod MemberLaws
 pub mod Words
 pub mod WordLaws
-pub mod Recovery
-pub mod Fields

@@ -1,6 +1,6 @@
--- How the words of a board hold its members. These words mirror the fields, which no public clause names.
-use Rattle.std.specs.Prelude.{◌≡◌, ℕ, ◌+◌, ◌*◌, ◌/◌, ◌%◌, ◌^◌, ◌<◌, ◌≤◌, ◌==◌, List, [], ◌∷◌, Bool, zero, suc, length, map, max, slice_index, nat_eq, if◌then◌else◌}
-use Rattle.std.specs.List.{range_with_len, list_any}
+-- How the words of a set hold its members. These words mirror the fields, which no public clause
+-- names.
+use Rattle.std.specs.Prelude.{◌≡◌, ℕ, ◌+◌, ◌/◌, ◌%◌, ◌^◌, ◌<◌, ◌≤◌, ◌==◌, List, Bool, length, slice_index}
 use Rattle.std.specs.Int.{bit_at}
 use Rattle.kb_bits.specs.declared.bit_board.TheConstants.{BOUND, WORDS}
 use Rattle.kb_bits.specs.Members.{numbers_below}
@@ -17,7 +17,8 @@ has_bit words n = bit_of words n == 1
 unfoldable pub members : List ℕ → List ℕ
 members words = numbers_below BOUND (has_bit words)
 
--- The words of a board, of which the first used are in use: the last of these has a member, and those behind have none. No bit stands from the bound on.
+-- The words of a set, of which the first used are in use: the last of these has a member, and those
+-- behind have none. No bit stands from the bound on.
 pub record AreWords (words : List ℕ) (used : ℕ) : Type 0 where
   pub count : length words ≡ WORDS
   pub fits : (k : ℕ) → slice_index words k < 2 ^ 64
@@ -25,20 +26,6 @@ pub record AreWords (words : List ℕ) (used : ℕ) : Type 0 where
   pub behind : (k : ℕ) → used ≤ k → slice_index words k ≡ 0
   pub last : (k : ℕ) → k + 1 ≡ used → 0 < slice_index words k
   pub bounded : (n : ℕ) → BOUND ≤ n → bit_of words n ≡ 0
-
--- the number whose bits below w are set where a test holds
-unfoldable pub number_with : (ℕ → Bool) → ℕ → ℕ
-number_with test zero = 0
-number_with test (suc w) = (if test w then 1 else 0) * 2 ^ w + number_with test w
-
--- the words whose set bits are these members
-unfoldable pub words_of : List ℕ → List ℕ
-words_of numbers = map (λ k. number_with (λ i. list_any (nat_eq (k * 64 + i)) numbers) 64) (range_with_len 0 WORDS)
-
--- how many words, from the first, the numbers need
-unfoldable pub word_count_of : List ℕ → ℕ
-word_count_of [] = 0
-word_count_of (n ∷ numbers) = max (n / 64 + 1) (word_count_of numbers)
 
 -- a word moved up by some bits, with the highest bits of the word before it below
 pub record IsJoined (word before bits joined : ℕ) : Type 0 where

@@ -5,13 +5,14 @@ ghost use Rattle.std.specs.Cmp.{partial_equiv_from_equiv};
 ghost use Rattle.std.specs.Cmp.Lexicographic.{pointwise};
 ghost use Rattle.std.specs.List.Sorted.{IsStrictlyIncreasing};
 ghost use Rattle.std.proofs.lemmas.Cmp.{nat_list_eq_equiv};
+ghost use Rattle.kb_bits.specs.declared.bit_board.TheConstants.{BOUND};
 ghost use Rattle.kb_bits.specs.Members.{IsNextFrom};
 ghost use Rattle.kb_bits.specs.Words.{IsJoined};
 
 use std::marker::Model;
 
-/// One more than the greatest number that a set may have. Nothing rests on its value.
-pub const BOUND: u16 = 361;
+/// One more than the greatest number that a set may have.
+pub const BOUND: u16 = 2704;
 
 /// How many words hold a bit for each number.
 const WORDS: usize = (BOUND as usize + 63) / 64;
@@ -19,9 +20,9 @@ const WORDS: usize = (BOUND as usize + 63) / 64;
 /// What the last word may hold: its bits below the bound.
 const LAST_WORD: u64 = u64::MAX >> (64 * WORDS - BOUND as usize);
 
-/// A set of numbers below `BOUND`. Each call goes over the words in use alone, though a set that is
-/// handed out has all its words.
-#[derive(Clone, Copy, Debug)]
+/// A set of numbers below `BOUND`. Each call goes over the words in use alone. A set that is handed
+/// out has all its words, so one that is used again and again is better cleared than made anew.
+#[derive(Debug, Drop)]
 pub struct BitBoard {
     /// Number n stands at bit n % 64 of word n / 64.
     words: [u64; WORDS],
@@ -35,15 +36,10 @@ impl Model for BitBoard {
     ghost Value = { List ℕ };
 
     ghost use Rattle.kb_bits.specs.Words.{members, AreWords};
-    ghost use Rattle.kb_bits.specs.Fields.{fields_of, fields_of-members};
 
     ghost view = { λ a. members a.words };
 
     ghost invariant = { λ a. AreWords a.words a.used };
-
-    ghost inverse = { fields_of };
-
-    ghost inverse_ok = { fields_of-members };
 }
 
 impl BitBoard {
@@ -98,6 +94,16 @@ impl BitBoard {
         if word + 1 == self.used {
             self.used = words_in_use(&self.words, word + 1);
         }
+    }
+
+    /// Takes all numbers out.
+    pub fn clear(&mut self)
+        ensures { self.new ≡ [] }
+    {
+        for k in 0..self.used {
+            self.words[k] = 0;
+        }
+        self.used = 0;
     }
 
     /// Whether the set has the number.
@@ -230,6 +236,11 @@ impl PartialEq for BitBoard {
 impl Eq for BitBoard {
     ghost laws = { nat_list_eq_equiv };
 }
+
+/// A law: the bound, which contracts cite, is the number of points of a board of 52 by 52.
+pub fn the_bound_is_2704()
+    ensures { BOUND ≡ 2704 }
+{}
 
 /// A law: each number of a set stands once in its list, in order, and is below `BOUND`.
 pub fn members_ascend(set: &BitBoard)

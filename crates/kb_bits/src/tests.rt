@@ -32,31 +32,45 @@ fn lists(set: &BitBoard, numbers: &[u16]) -> bool {
     set.next_from(from).is_none() && usize::from(set.len()) == numbers.len()
 }
 
+/// The set cleared.
+fn cleared(mut set: BitBoard) -> BitBoard {
+    set.clear();
+    set
+}
+
 #[test]
 fn numbers_at_the_borders_of_words_go_in_and_out(rt: HostRuntime) {
-    for n in [0u16, 1, 62, 63, 64, 65, 127, 128, 319, 320, 359, 360] {
+    let borders = [
+        0u16, 1, 62, 63, 64, 65, 127, 128, 320, 360, 2623, 2624, 2687, 2688, 2689, 2702, 2703,
+    ];
+    for n in borders {
         let one = set_of(&[n]);
         assert!(rt; lists(&one, &[n]), "{n}");
         assert!(rt; one.contains(n), "{n}");
         assert!(rt; !one.contains(n ^ 1), "{n}");
         assert!(rt; !one.contains(n ^ 64), "{n}");
         assert!(rt; !one.contains(n + 1024), "{n}");
-        assert_eq!(rt; without(one, n), BitBoard::empty(), "{n}");
-        assert_eq!(rt; without(one, n ^ 1), one, "{n}");
+        assert_eq!(rt; without(set_of(&[n]), n), BitBoard::empty(), "{n}");
+        assert_eq!(rt; without(set_of(&[n]), n ^ 1), one, "{n}");
         assert_eq!(rt; without(set_of(&[n, 200]), 200), one, "{n}");
+        assert_eq!(rt; cleared(set_of(&[n, 200])), BitBoard::empty(), "{n}");
     }
 }
 
 #[test]
 fn all_numbers_below_one(rt: HostRuntime) {
-    for n in [0u16, 1, 2, 63, 64, 65, 127, 128, 320, 359, 360, 361] {
+    let borders = [
+        0u16, 1, 2, 63, 64, 65, 127, 128, 320, 361, 2687, 2688, 2689, 2703, 2704,
+    ];
+    for n in borders {
         let set = BitBoard::below(n);
         assert_eq!(rt; set.len(), n, "{n}");
         assert_eq!(rt; set.next_from(0).is_some(), n > 0, "{n}");
         assert_eq!(rt; set.next_from(n), None, "{n}");
         assert!(rt; n == 0 || set.contains(n - 1), "{n}");
         assert!(rt; !set.contains(n), "{n}");
-        assert_eq!(rt; without(set, n), set, "{n}");
+        assert_eq!(rt; without(BitBoard::below(n), n), set, "{n}");
+        assert_eq!(rt; cleared(set), BitBoard::empty(), "{n}");
     }
 }
 
@@ -64,28 +78,28 @@ fn all_numbers_below_one(rt: HostRuntime) {
 fn a_shift_drops_what_goes_past_the_bound(rt: HostRuntime) {
     let cases = [
         (0u16, [0u16, 63, 64, 127, 360].as_slice()),
-        (1, [1u16, 64, 65, 128].as_slice()),
-        (63, [63u16, 126, 127, 190].as_slice()),
-        (64, [64u16, 127, 128, 191].as_slice()),
-        (65, [65u16, 128, 129, 192].as_slice()),
-        (233, [233u16, 296, 297, 360].as_slice()),
-        (234, [234u16, 297, 298].as_slice()),
-        (297, [297u16, 360].as_slice()),
-        (298, [298u16].as_slice()),
-        (360, [360u16].as_slice()),
-        (361, [0u16; 0].as_slice()),
-        (384, [0u16; 0].as_slice()),
-        (1000, [0u16; 0].as_slice()),
+        (1, [1u16, 64, 65, 128, 361].as_slice()),
+        (63, [63u16, 126, 127, 190, 423].as_slice()),
+        (64, [64u16, 127, 128, 191, 424].as_slice()),
+        (2343, [2343u16, 2406, 2407, 2470, 2703].as_slice()),
+        (2344, [2344u16, 2407, 2408, 2471].as_slice()),
+        (2576, [2576u16, 2639, 2640, 2703].as_slice()),
+        (2577, [2577u16, 2640, 2641].as_slice()),
+        (2640, [2640u16, 2703].as_slice()),
+        (2641, [2641u16].as_slice()),
+        (2703, [2703u16].as_slice()),
+        (2704, [0u16; 0].as_slice()),
+        (2752, [0u16; 0].as_slice()),
         (65535, [0u16; 0].as_slice()),
     ];
     let set = set_of(&[0, 63, 64, 127, 360]);
-    let whole = BitBoard::below(361);
+    let whole = BitBoard::below(2704);
     for (by, numbers) in cases {
         let moved = set.shifted(by);
         assert!(rt; lists(&moved, numbers), "by {by}");
         assert_eq!(rt;
             whole.shifted(by).len(),
-            361u16.saturating_sub(by),
+            2704u16.saturating_sub(by),
             "by {by}"
         );
         assert!(rt; whole.shifted(by).contains_all(&moved), "by {by}");
@@ -95,7 +109,7 @@ fn a_shift_drops_what_goes_past_the_bound(rt: HostRuntime) {
 
 #[test]
 fn the_next_member_is_the_number_itself_or_the_least_one_past_it(rt: HostRuntime) {
-    let set = set_of(&[200, 5, 63, 360, 64]);
+    let set = set_of(&[2688, 200, 5, 63, 2703, 360, 64, 2687]);
     let cases = [
         (0u16, Some(5u16)),
         (5, Some(5)),
@@ -109,8 +123,13 @@ fn the_next_member_is_the_number_itself_or_the_least_one_past_it(rt: HostRuntime
         (319, Some(360)),
         (320, Some(360)),
         (360, Some(360)),
-        (361, None),
-        (384, None),
+        (361, Some(2687)),
+        (2687, Some(2687)),
+        (2688, Some(2688)),
+        (2689, Some(2703)),
+        (2703, Some(2703)),
+        (2704, None),
+        (2752, None),
         (65535, None),
     ];
     for (n, next) in cases {
@@ -125,8 +144,24 @@ fn a_set_that_shrank_meets_smaller_and_larger_ones(rt: HostRuntime) {
     // has all numbers of the other.
     let cases = [
         (
+            [3u16, 2703].as_slice(),
+            2703u16,
+            [3u16, 70].as_slice(),
+            [3u16, 70].as_slice(),
+            false,
+            true,
+        ),
+        (
+            [2687u16, 2688].as_slice(),
+            2688,
+            [2688u16].as_slice(),
+            [2687u16, 2688].as_slice(),
+            false,
+            false,
+        ),
+        (
             [3u16, 360].as_slice(),
-            360u16,
+            360,
             [3u16, 70].as_slice(),
             [3u16, 70].as_slice(),
             false,
@@ -221,7 +256,7 @@ fn a_set_that_shrank_meets_smaller_and_larger_ones(rt: HostRuntime) {
 
 #[test]
 fn windows_at_the_borders_of_words(rt: HostRuntime) {
-    let set = set_of(&[0, 5, 63, 64, 127, 300, 360]);
+    let set = set_of(&[0, 5, 63, 64, 127, 300, 360, 2640, 2703]);
     let cases = [
         (0u16, 1u64 | 1 << 5 | 1 << 63),
         (1, 1 << 4 | 1 << 62 | 1 << 63),
@@ -234,7 +269,12 @@ fn windows_at_the_borders_of_words(rt: HostRuntime) {
         (320, 1 << 40),
         (360, 1),
         (361, 0),
-        (1000, 0),
+        (2577, 1 << 63),
+        (2640, 1 | 1 << 63),
+        (2641, 1 << 62),
+        (2688, 1 << 15),
+        (2703, 1),
+        (2704, 0),
         (65535, 0),
     ];
     for (start, window) in cases {

@@ -1,2 +1,3 @@
+pub mod EachListing
 pub mod Places
 pub mod Listings

@@ -1,7 +1,7 @@
 // A folder in memory.
-ghost use Rattle.std.specs.Prelude.{◌≡◌, ◌≢◌, ◌+◌, ◌≤◌, ◌↔◌, None, Some, take, map, string_bytes, vec_len, Contains, IsTrue, IsErrOf, IsSome, IfOk, OnOk};
+ghost use Rattle.std.specs.Prelude.{◌≡◌, ◌≢◌, ◌+◌, ◌≤◌, ◌↔◌, None, Some, take, map, string_bytes, vec_len, All, AllPairs, Contains, IsTrue, IsErrOf, IsSome, IfOk, OnOk};
 ghost use Rattle.kb_edges.specs.Faults.{next_count};
-ghost use Rattle.kb_edges.specs.Files.{HasPath, IsListing, content_of};
+ghost use Rattle.kb_edges.specs.Files.{HasPath, IsListing, IsSgfName, content_of};
 ghost use Rattle.kb_edges.specs.Told.{IfTold};
 
 use crate::lookup::{first_file, has_path, sgf_names};
@@ -56,12 +56,18 @@ impl Folder for MemoryFolder {
     ghost faults = { λ folder. folder_faults folder };
 
     fn list(&mut self, alloc: Global, path: &str) -> Result<Vec<String>, FolderError>
-        ensures fails { IsErrOf result FolderError.Failed ↔ Contains (folder_fails self.old) (folder_calls self.old) }
+        ensures fails { IsErrOf result FolderError.Failed
+            ↔ Contains (folder_fails self.old) (folder_calls self.old) }
         ensures listing { IfOk result (λ names.
             IsListing (folder_files self.old) path.now (map string_bytes names.items)) }
         ensures there { OnOk result (HasPath (folder_files self.old) path.now) }
+        ensures sgf { IfOk result (λ names. All IsSgfName (map string_bytes names.items)) }
+        ensures distinct { IfOk result (λ names.
+            AllPairs (λ x y. x ≢ y) (map string_bytes names.items)) }
         ensures missing { IsErrOf result FolderError.Missing →
             ¬ HasPath (folder_files self.old) path.now }
+        ensures no_memory { IsErrOf result FolderError.NoMemory →
+            HasPath (folder_files self.old) path.now }
         ensures same { folder_files self.new ≡ folder_files self.old }
         ensures later { folder_faults self.old ≤ folder_faults self.new }
         ensures same_fails { folder_fails self.new ≡ folder_fails self.old }
@@ -88,7 +94,8 @@ impl Folder for MemoryFolder {
         limit: usize,
     ) -> Result<Vec<u8>, FolderError>
         requires { limit ≤ MAX_LIMIT }
-        ensures fails { IsErrOf result FolderError.Failed ↔ Contains (folder_fails self.old) (folder_calls self.old) }
+        ensures fails { IsErrOf result FolderError.Failed
+            ↔ Contains (folder_fails self.old) (folder_calls self.old) }
         ensures bound { IfOk result (λ bytes. vec_len bytes ≤ limit + 1) }
         ensures content { IfOk result (λ read.
             IfTold (content_of (folder_files self.old) path.now name.now)
@@ -96,6 +103,8 @@ impl Folder for MemoryFolder {
         ensures there { OnOk result (IsSome (content_of (folder_files self.old) path.now name.now)) }
         ensures missing { IsErrOf result FolderError.Missing →
             content_of (folder_files self.old) path.now name.now ≡ None }
+        ensures no_memory { IsErrOf result FolderError.NoMemory →
+            IsSome (content_of (folder_files self.old) path.now name.now) }
         ensures same { folder_files self.new ≡ folder_files self.old }
         ensures later { folder_faults self.old ≤ folder_faults self.new }
         ensures same_fails { folder_fails self.new ≡ folder_fails self.old }

@@ -59,6 +59,8 @@ impl Source for MemorySource {
         ensures count { IfOk result (λ n.
             n ≡ min (length into.new) (length (source_left self.old))) }
         ensures given { IfOk result (λ n. take n into.new ≡ take n (source_left self.old)) }
+        ensures behind { IfOk result (λ n. drop n into.new ≡ drop n into.old) }
+        ensures untouched { OnErr result (into.new ≡ into.old) }
         ensures taken { IfOk result (λ n. source_left self.new ≡ drop n (source_left self.old)) }
         ensures kept { OnErr result (source_left self.new ≡ source_left self.old) }
         ensures later { source_faults self.old ≤ source_faults self.new }

@@ -2,13 +2,14 @@
 ghost use Rattle.std.specs.Prelude.{◌≡◌, ◌<◌, ◌≤◌, None, length, take, IfOk, IsErrOf, OnErr, OnOk};
 ghost use Rattle.std.specs.Io.KnownBytes.{Appends};
 ghost use Rattle.kb_edges.specs.Faults.{next_count};
+ghost use Rattle.kb_edges.specs.Writers.{AppendsAFront};
 
 use crate::{Sink, SinkError};
 use std::io;
 use std::io::{ErrorKind, Write};
 
-/// A writer. It tells nothing of the bytes written. Each error of the writer is a fault, and so is a write that takes
-/// nothing of a piece of at least one byte.
+/// A writer. It tells nothing of the bytes written. Each error of the writer is a fault, and so is
+/// a write that takes nothing of a piece of at least one byte.
 #[derive(Drop)]
 pub struct RealSink<W: Write> {
     writer: W,
@@ -33,6 +34,7 @@ fn write_through<W: Write>(writer: &mut W, bytes: &[u8]) -> io::Result<usize>
     ensures progress { IfOk result (λ n. 0 < length bytes.now → 0 < n) }
     ensures appended { IfOk result (λ n.
         Appends (W.contents writer.old) (W.contents writer.new) (take n bytes.now)) }
+    ensures once { AppendsAFront (W.contents writer.old) (W.contents writer.new) bytes.now }
 {
     let count = writer.write(bytes)?;
     if count == 0 && !bytes.is_empty() {
@@ -49,12 +51,15 @@ impl<W: Write> Sink for RealSink<W> {
 
     ghost faults = { sink_faults };
 
-    /// Passes one write on.
+    /// Passes one write on. After an error the writer has no more than a front of the piece.
     fn write(&mut self, bytes: &[u8]) -> Result<usize, SinkError>
         ensures bound { IfOk result (λ n. n ≤ length bytes.now) }
         ensures progress { IfOk result (λ n. 0 < length bytes.now → 0 < n) }
         ensures appended { IfOk result (λ n.
-            Appends (W.contents (writer_of self.old)) (W.contents (writer_of self.new)) (take n bytes.now)) }
+            Appends (W.contents (writer_of self.old)) (W.contents (writer_of self.new))
+            (take n bytes.now)) }
+        ensures once { AppendsAFront (W.contents (writer_of self.old))
+            (W.contents (writer_of self.new)) bytes.now }
         ensures failed { OnErr result (IsErrOf result SinkError.Failed) }
         ensures later { sink_faults self.old ≤ sink_faults self.new }
         ensures faults { OnOk result (sink_faults self.new ≡ sink_faults self.old) }

@@ -1,8 +1,8 @@
 // The outside: bytes to read, bytes to write and files, each with a count of its faults.
-ghost use Rattle.std.specs.Prelude.{◌≡◌, ◌+◌, ◌<◌, ◌≤◌, ℕ, List, [], ◌++◌, length, map, take, drop, None, IsSome, IfOk, OnOk, OnErr, IsErrOf, vec_len, string_bytes};
+ghost use Rattle.std.specs.Prelude.{◌≡◌, ◌≢◌, ◌+◌, ◌<◌, ◌≤◌, ℕ, List, [], ◌++◌, length, map, take, drop, None, All, AllPairs, IsSome, IfOk, OnOk, OnErr, IsErrOf, vec_len, string_bytes};
 ghost use Rattle.std.specs.declared.option.Option.{Option};
 ghost use Rattle.kb_edges.specs.Faults.{Rose};
-ghost use Rattle.kb_edges.specs.Files.{File, HasPath, IsListing, content_of};
+ghost use Rattle.kb_edges.specs.Files.{File, HasPath, IsListing, IsSgfName, content_of};
 ghost use Rattle.kb_edges.specs.Told.{IfTold};
 
 use crate::{FolderError, ReadFailed, SinkError};
@@ -45,8 +45,9 @@ pub trait Sink {
     /// How often it has failed, up to a ceiling.
     ghost faults: { Self → ℕ };
 
-    /// Writes the front of a piece, and answers how many bytes it took: at least one where the piece has one.
-    /// `Failed` raises the count of faults, and after an error nothing of the piece is written.
+    /// Writes the front of a piece, and answers how many bytes it took: at least one where the
+    /// piece has one. `Failed` raises the count of faults, and after an error nothing of the piece
+    /// is written.
     fn write(&mut self, bytes: &[u8]) -> Result<usize, SinkError>
         ensures bound { IfOk result (λ n. n ≤ length bytes.now) }
         ensures progress { IfOk result (λ n. 0 < length bytes.now → 0 < n) }
@@ -70,11 +71,14 @@ pub trait Folder: Drop {
     /// How often it has failed, up to a ceiling.
     ghost faults: { Self → ℕ };
 
-    /// The names under a path that end in `.sgf`, each once, in any order. `Failed` raises the count of faults.
-    /// `Missing` says that the folder tells its files and none has this path.
+    /// The names under a path that end in `.sgf`, each once, in any order. `Failed` raises the
+    /// count of faults. `Missing` says that the folder tells its files and none has this path.
     fn list(&mut self, alloc: Global, path: &str) -> Result<Vec<String>, FolderError>
         ensures listing { IfTold (files self.old) (λ all. IfOk result (λ names.
             IsListing all path.now (map string_bytes names.items))) }
+        ensures sgf { IfOk result (λ names. All IsSgfName (map string_bytes names.items)) }
+        ensures distinct { IfOk result (λ names.
+            AllPairs (λ x y. x ≢ y) (map string_bytes names.items)) }
         ensures there { IfTold (files self.old) (λ all. OnOk result (HasPath all path.now)) }
 
         ensures missing_told { IsErrOf result FolderError.Missing → IsSome (files self.old) }
@@ -88,9 +92,9 @@ pub trait Folder: Drop {
         ensures failed { IsErrOf result FolderError.Failed →
             Rose (faults self.old) (faults self.new) };
 
-    /// The first `limit + 1` bytes of a file, or all of them if there are fewer. The limit is at most
-    /// [`MAX_LIMIT`]. `Failed` raises the count of faults. `Missing` says that the folder tells its files and none
-    /// has this path and name.
+    /// The first `limit + 1` bytes of a file, or all of them if there are fewer. The limit is at
+    /// most [`MAX_LIMIT`]. `Failed` raises the count of faults. `Missing` says that the folder
+    /// tells its files and none has this path and name.
     fn read(
         &mut self,
         alloc: Global,

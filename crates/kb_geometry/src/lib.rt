@@ -14,7 +14,7 @@ mod symmetry;
 mod symmetry_maps;
 mod text;
 
-pub use laws::a_setup_sets_its_rectangle_alone;
+pub use laws::{a_setup_sets_its_rectangle_alone, the_greatest_board_is_52_by_52};
 pub use memory::NoMemory;
 pub use shape::{MAX_POINTS, MAX_SIDE, Point, Rect, Shape};
 pub use stone::{Cell, Change, Colour, Outcome};

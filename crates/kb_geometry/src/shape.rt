@@ -3,10 +3,10 @@ ghost use Rattle.std.specs.Prelude.{◌≡◌, ◌<◌, ◌≤◌, ◌↔◌, Is
 ghost use Rattle.kb_geometry.specs.Side.{IsSide};
 
 /// The most columns, and the most rows, that a board may have.
-pub const MAX_SIDE: u8 = 19;
+pub const MAX_SIDE: u8 = 52;
 
 /// The most points that a board may have: its sides multiplied.
-pub const MAX_POINTS: u16 = 361;
+pub const MAX_POINTS: u16 = 2704;
 
 /// A point of a board: the column from the left and the row from the top, both from 0.
 #[derive(Clone, Copy, Debug, PartialEq, Eq, Hash)]
@@ -113,7 +113,7 @@ impl Shape {
     pub fn count(&self) -> u16
         ensures value { result ≡ point_count self.now }
         ensures some { 1 ≤ result }
-        ensures most { result ≤ MAX_POINTS }
+        ensures most { result ≤ 2704 }
     {
         u16::from(self.cols) * u16::from(self.rows)
     }

@@ -25,15 +25,18 @@ fn point_with_number(shape: Shape, number: u16) -> Option<Point> {
 }
 
 #[test]
-fn a_side_has_one_to_nineteen_lines(rt: HostRuntime) {
+fn a_side_has_one_to_fifty_two_lines(rt: HostRuntime) {
     let cases = [
         (0u8, 1u8, None),
         (1, 0, None),
         (1, 1, Some((1, 1))),
         (2, 19, Some((2, 19))),
-        (MAX_SIDE, MAX_SIDE, Some((19, 19))),
-        (20, 19, None),
-        (19, 20, None),
+        (20, 52, Some((20, 52))),
+        (MAX_SIDE, MAX_SIDE, Some((52, 52))),
+        (53, 1, None),
+        (1, 53, None),
+        (53, 52, None),
+        (52, 53, None),
         (255, 255, None),
     ];
     for (cols, rows, sides) in cases {
@@ -49,7 +52,10 @@ fn a_board_has_its_sides_multiplied_points(rt: HostRuntime) {
         (3, 2, 6, false),
         (9, 9, 81, true),
         (19, 1, 19, false),
-        (19, 19, MAX_POINTS, true),
+        (19, 19, 361, true),
+        (52, 1, 52, false),
+        (52, 52, MAX_POINTS, true),
+        (52, 52, 2704, true),
     ];
     for (cols, rows, count, square) in cases {
         let found = Shape::new(cols, rows).map(|shape| (shape.count(), shape.is_square()));
@@ -66,6 +72,8 @@ fn points_are_numbered_row_by_row(rt: HostRuntime) {
         (3, 2, Point { x: 2, y: 1 }, 5),
         (2, 3, Point { x: 0, y: 1 }, 2),
         (19, 19, Point { x: 18, y: 18 }, 360),
+        (52, 52, Point { x: 51, y: 51 }, 2703),
+        (52, 1, Point { x: 51, y: 0 }, 51),
     ];
     for (cols, rows, point, number) in cases {
         let shape = Shape::new(cols, rows);
@@ -145,7 +153,13 @@ fn there_and_back(shape: Shape, number: u8, p: Point) -> Option<Point> {
 
 #[test]
 fn the_inverse_moves_each_point_back(rt: HostRuntime) {
-    for (cols, rows, symmetries) in [(5u8, 3u8, 4u8), (1, 19, 4), (4, 4, 8), (19, 19, 8)] {
+    for (cols, rows, symmetries) in [
+        (5u8, 3u8, 4u8),
+        (1, 52, 4),
+        (4, 4, 8),
+        (19, 19, 8),
+        (52, 52, 8),
+    ] {
         for number in 0..symmetries {
             for y in 0..rows {
                 for x in 0..cols {

@@ -1,5 +1,5 @@
 -- Placements by their upper left points: those outside an area don't begin to hold.
-use Rattle.std.proofs.Common.{◌≡◌, ℕ, ◌+◌, ◌*◌, ◌<◌, ◌≤◌, ◌⊎◌, ◌↔◌, inl, inr, Bool, true, false, List, length, slice_index, refl, sym, ap, ◌∙◌, arith, subst}
+use Rattle.std.proofs.Common.{◌≡◌, ℕ, ◌+◌, ◌*◌, ◌<◌, ◌≤◌, inl, inr, Bool, false, List, length, slice_index, ap, arith}
 use Rattle.std.specs.Prelude.{All}
 use Rattle.std.proofs.Math.Nat.{mul-le-mul_right}
 use Rattle.std.proofs.lemmas.Bool.{cases_lt, cases_order, false_from_ne_true}
@@ -7,18 +7,18 @@ use Rattle.kb_geometry.specs.declared.shape.Shape.{Shape}
 use Rattle.kb_geometry.specs.declared.shape.Rect.{Rect}
 use Rattle.kb_geometry.specs.Board.{cols_of, rows_of, point_count, IsInside, IsRectOnBoard}
 use Rattle.kb_geometry.specs.Symmetry.{point_of}
-use Rattle.pattern_images.specs.declared.hit.Found.{Found}
 use Rattle.pattern_images.specs.ImageList.{ImageList, IsPlacedOn, no_grid, placement_at}
 use Rattle.pattern_images.specs.Placements.{Placement}
+use Rattle.line_matcher.specs.declared.occurrence.Occurrence.{Occurrence}
 use Rattle.line_matcher.specs.declared.visit.Visit.{Visit}
-use Rattle.line_matcher.specs.Begins.{AreStarts, SplitsAt, begins, first_of}
+use Rattle.line_matcher.specs.Begins.{AreStarts, holds_anew, corner_of, seen}
 use Rattle.line_matcher.specs.Visits.{IsFoundAt, IsNear}
-use Rattle.line_matcher.proofs.FoundLists.{IsAdded-skip, IsAdded-trans}
+use Rattle.line_matcher.proofs.FoundLists.{IsAdded-skip}
 
 -- ---- rows of points
 
 -- a placement whose upper left point is one of the first so many of a row
-pub in_row : (shape : Shape) (placement : Placement) (y width : ℕ) → IsPlacedOn shape placement → width ≤ cols_of shape → y * cols_of shape ≤ first_of shape placement → first_of shape placement < y * cols_of shape + width →
+pub in_row : (shape : Shape) (placement : Placement) (y width : ℕ) → IsPlacedOn shape placement → width ≤ cols_of shape → y * cols_of shape ≤ corner_of shape placement → corner_of shape placement < y * cols_of shape + width →
     (placement.y ≡ y) × (placement.x < width)
 in_row shape placement y width placed wide low high =
     elim (cases_order placement.y y) [
@@ -34,7 +34,7 @@ in_row shape placement y width placed wide low high =
     ]
 
 -- a placement whose upper left point stands before a row
-pub above_row : (shape : Shape) (placement : Placement) (y : ℕ) → first_of shape placement < y * cols_of shape → placement.y < y
+pub above_row : (shape : Shape) (placement : Placement) (y : ℕ) → corner_of shape placement < y * cols_of shape → placement.y < y
 above_row shape placement y before =
     elim (cases_lt placement.y y) [
       | inl lt ↦ lt
@@ -42,7 +42,7 @@ above_row shape placement y before =
     ]
 
 -- one whose upper left point doesn't
-pub below_row : (shape : Shape) (placement : Placement) (y : ℕ) → IsPlacedOn shape placement → y * cols_of shape ≤ first_of shape placement → y ≤ placement.y
+pub below_row : (shape : Shape) (placement : Placement) (y : ℕ) → IsPlacedOn shape placement → y * cols_of shape ≤ corner_of shape placement → y ≤ placement.y
 below_row shape placement y placed from =
     elim (cases_lt placement.y y) [
       | inl lt ↦
@@ -84,27 +84,27 @@ module _ (images : ImageList) (placed : All (IsPlacedOn images.shape) images.pla
         | inr ge ↦ ge
       ]
 
-  pub from_start : (p i : ℕ) → p ≤ point_count images.shape → start p ≤ i → i < length images.placements → p ≤ first_of images.shape (at i)
+  pub from_start : (p i : ℕ) → p ≤ point_count images.shape → start p ≤ i → i < length images.placements → p ≤ corner_of images.shape (at i)
   from_start p i within from lt =
-      elim (cases_lt (first_of images.shape (at i)) p) [
+      elim (cases_lt (corner_of images.shape (at i)) p) [
         | inl below ↦ absurd (omega (arith, ((are.each p within).before i lt).1 below))
         | inr ge ↦ ge
       ]
 
-  pub before_start : (p i : ℕ) → p ≤ point_count images.shape → i < start p → (i < length images.placements) × (first_of images.shape (at i) < p)
+  pub before_start : (p i : ℕ) → p ≤ point_count images.shape → i < start p → (i < length images.placements) × (corner_of images.shape (at i) < p)
   before_start p i within lt =
       let i_lt : i < length images.placements = omega (arith, (are.each p within).most) in
       (i_lt, ((are.each p within).before i i_lt).0 lt)
 
   -- the placements at one point
-  pub at_point : (p i : ℕ) → p < point_count images.shape → start p ≤ i → i < start (p + 1) → p ≡ first_of images.shape (at i)
+  pub at_point : (p i : ℕ) → p < point_count images.shape → start p ≤ i → i < start (p + 1) → p ≡ corner_of images.shape (at i)
   at_point p i lt low high =
       let before = before_start (p + 1) i (omega arith) high in
       omega (arith, from_start p i (omega arith) low before.0, before.1)
 
   module _ (visit : Visit) (area : Rect) (near : IsNear images visit area) where
     abbrev test : Placement → Bool
-    test = begins images.shape visit.walker.now.position visit.changed
+    test = holds_anew images.shape visit.walker.now.position (seen visit.changed)
 
     outside : (i : ℕ) → i < length images.placements → (IsInside area (point_of (at i).x (at i).y) → ⊥) → test (at i) ≡ false
     outside i lt out = false_from_ne_true (test (at i)) (λ t. out (near.inside i lt t))
@@ -115,7 +115,7 @@ module _ (images : ImageList) (placed : All (IsPlacedOn images.shape) images.pla
       row_start = y * cols_of images.shape
 
       -- the points before the area
-      pub row_left : (found : List Found) → IsFoundAt images visit (start row_start) (start (row_start + area.x0)) found found
+      pub row_left : (found : List Occurrence) → IsFoundAt images visit (start row_start) (start (row_start + area.x0)) found found
       row_left found =
           let end = row_within images.shape y area.x0 row (omega (arith, on_board)) in
           IsAdded-skip images.placements test visit.node (start row_start) (start (row_start + area.x0)) found
@@ -127,7 +127,7 @@ module _ (images : ImageList) (placed : All (IsPlacedOn images.shape) images.pla
           outside i before.0 (λ inside. omega (arith, here.1, inside.0)))
 
       -- the points behind it
-      pub row_right : (x : ℕ) (found : List Found) → x ≡ area.x1 + 1 → IsFoundAt images visit (start (row_start + x)) (start ((y + 1) * cols_of images.shape)) found found
+      pub row_right : (x : ℕ) (found : List Occurrence) → x ≡ area.x1 + 1 → IsFoundAt images visit (start (row_start + x)) (start ((y + 1) * cols_of images.shape)) found found
       row_right x found e =
           let end = row_end images.shape (y + 1) (omega arith) in
           IsAdded-skip images.placements test visit.node (start (row_start + x)) (start ((y + 1) * cols_of images.shape)) found
@@ -142,7 +142,7 @@ module _ (images : ImageList) (placed : All (IsPlacedOn images.shape) images.pla
     -- ---- all rows
     module _ (on_board : IsRectOnBoard images.shape area) where
       -- the rows above the area
-      pub rows_above : (found : List Found) → IsFoundAt images visit 0 (start (area.y0 * cols_of images.shape)) found found
+      pub rows_above : (found : List Occurrence) → IsFoundAt images visit 0 (start (area.y0 * cols_of images.shape)) found found
       rows_above found =
           let end = row_end images.shape area.y0 (omega (arith, on_board)) in
           IsAdded-skip images.placements test visit.node 0 (start (area.y0 * cols_of images.shape)) found (omega arith)
@@ -152,7 +152,7 @@ module _ (images : ImageList) (placed : All (IsPlacedOn images.shape) images.pla
           outside i before.0 (λ inside. omega (arith, inside.2)))
 
       -- the rows below it
-      pub rows_below : (y : ℕ) (found : List Found) → y ≡ area.y1 + 1 → IsFoundAt images visit (start (y * cols_of images.shape)) (length images.placements) found found
+      pub rows_below : (y : ℕ) (found : List Occurrence) → y ≡ area.y1 + 1 → IsFoundAt images visit (start (y * cols_of images.shape)) (length images.placements) found found
       rows_below y found e =
           let within = row_end images.shape y (omega (arith, on_board)) in
           IsAdded-skip images.placements test visit.node (start (y * cols_of images.shape)) (length images.placements) found ((are.each (y * cols_of images.shape) within).most)

@@ -1,51 +1,102 @@
 -- The points of changes, and a rectangle that holds them.
-use Rattle.std.proofs.Common.{◌≡◌, ◌≢◌, ℕ, ◌+◌, ◌<◌, ◌≤◌, ◌⊎◌, ◌↔◌, inl, inr, List, length, get_or, refl, sym, ap, ◌∙◌, arith, subst, Contains}
-use Rattle.std.specs.Prelude.{All, Any}
-use Rattle.std.proofs.lemmas.Bool.{cases_eq, cases_lt}
+use Rattle.std.proofs.Common.{◌≡◌, ◌≢◌, ℕ, ◌+◌, ◌<◌, ◌≤◌, ◌⊎◌, ◌↔◌, inl, inr, List, [], ◌∷◌, length, get_or, refl, sym, ap, ◌∙◌, arith, subst, Contains}
+use Rattle.std.proofs.lemmas.Bool.{cases_eq}
 use Rattle.std.proofs.lemmas.List.{get_or_default}
 use Rattle.kb_geometry.specs.declared.shape.Shape.{Shape}
 use Rattle.kb_geometry.specs.declared.shape.Point.{Point}
 use Rattle.kb_geometry.specs.declared.shape.Rect.{Rect}
 use Rattle.kb_geometry.specs.declared.stone.Change.{Change}
+use Rattle.kb_geometry.specs.declared.stone.Cell.{Cell}
 use Rattle.kb_geometry.specs.declared.stone.Cell.TheVariants as cell
 use Rattle.kb_geometry.specs.Board.{IsInside, IsOnBoard, number_of}
 use Rattle.line_matcher.specs.Areas.{HoldsChanges, IsWithPoint}
+use Rattle.line_matcher.specs.Concerned.{ArePointsWith, Concerns, IsWithChange, no_points}
+use Rattle.line_matcher.specs.declared.changed.Concerned.{Concerned}
 
 -- the change with this number, or one of point 0
 abbrev pub change_at : List Change → ℕ → Change
 change_at changes k = get_or changes k (record { point = 0; old = cell.Empty; new = cell.Empty })
 
--- one of the first n changes is on the point
-abbrev pub IsPointBelow : List Change → ℕ → ℕ → Type 0
-IsPointBelow changes n p = (k : ℕ) × (k < n) × ((change_at changes k).point ≡ p)
+-- one of the first n changes is on the point and has this stone
+abbrev pub ConcernsBelow : Cell → List Change → ℕ → ℕ → Type 0
+ConcernsBelow s changes n p = (k : ℕ) × (k < n) × Concerns s (change_at changes k) p
 
 -- the points of the first n changes lie in the rectangle
 abbrev pub HoldsBelow : Shape → List Change → ℕ → Rect → Type 0
 HoldsBelow shape changes n r = (k : ℕ) → k < n → (p : Point) → IsOnBoard shape p → number_of shape p ≡ (change_at changes k).point → IsInside r p
 
--- ---- the set of the points
+-- ---- the sets of the points
 
--- one point more
-pub IsPointBelow-more : (changes : List Change) (n : ℕ) (old new : List ℕ) → ((p : ℕ) → Contains old p ↔ IsPointBelow changes n p) →
-    ((p : ℕ) → Contains new p ↔ (Contains old p ⊎ (p ≡ (change_at changes n).point))) → (p : ℕ) → Contains new p ↔ IsPointBelow changes (n + 1) p
-IsPointBelow-more changes n old new before insert p = (
+-- the point of a change that has the stone is added
+pub IsWithChange-insert : (s : Cell) (c : Change) (old new : List ℕ) → (c.old ≡ s) ⊎ (c.new ≡ s) → ((p : ℕ) → Contains new p ↔ (Contains old p ⊎ (p ≡ c.point))) → IsWithChange s c old new
+IsWithChange-insert s c old new has insert p = (
+  λ h. elim ((insert p).0 h) [ inl was ↦ inl was | inr here ↦ inr (sym here, has) ],
+  λ h. elim h [ inl was ↦ (insert p).1 (inl was) | inr is ↦ (insert p).1 (inr (sym is.0)) ],
+)
+
+-- before the first change there is none
+pub ConcernsBelow-start : (s : Cell) (changes : List Change) (points : List ℕ) → points ≡ [] → (p : ℕ) → Contains points p ↔ ConcernsBelow s changes 0 p
+ConcernsBelow-start s changes points none p = (
+  λ h. absurd (omega (arith, h.1, ap (λ (ps : List ℕ). length ps) none)),
+  λ (k, lt, is). absurd (omega arith),
+)
+
+-- one change more
+pub ConcernsBelow-more : (s : Cell) (changes : List Change) (n : ℕ) (old new : List ℕ) → ((p : ℕ) → Contains old p ↔ ConcernsBelow s changes n p) →
+    IsWithChange s (change_at changes n) old new → (p : ℕ) → Contains new p ↔ ConcernsBelow s changes (n + 1) p
+ConcernsBelow-more s changes n old new before insert p = (
   λ h. elim ((insert p).0 h) [
     | inl was ↦ let k = (before p).0 was in (k.0, omega arith, k.2)
-    | inr here ↦ (n, omega arith, sym here)
+    | inr here ↦ (n, omega arith, here)
   ],
   λ (k, lt, is). elim (cases_eq k n) [
-    | inl last ↦ (insert p).1 (inr (sym is ∙ ap (λ (i : ℕ). (change_at changes i).point) last))
+    | inl last ↦ (insert p).1 (inr (subst (λ (i : ℕ). Concerns s (change_at changes i) p) last is))
     | inr earlier ↦ (insert p).1 (inl ((before p).1 (k, omega arith, is)))
   ],
 )
 
 -- all of them
-pub IsPointBelow-all : (changes : List Change) (n : ℕ) (points : List ℕ) → length changes ≡ n → ((p : ℕ) → Contains points p ↔ IsPointBelow changes n p) →
-    (p : ℕ) → Contains points p ↔ Any (λ (c : Change). c.point ≡ p) changes
-IsPointBelow-all changes n points count have p = (
-  λ h. let k = (have p).0 h in (k.0, change_at changes k.0, omega arith, get_or_default changes k.0 (change_at changes k.0) (record { point = 0; old = cell.Empty; new = cell.Empty }) (omega arith), k.2),
-  λ (k, c, lt, at, is). (have p).1 (k, omega arith, ap (λ (d : Change). d.point) (get_or_default changes k (record { point = 0; old = cell.Empty; new = cell.Empty }) c lt ∙ at) ∙ is),
-)
+pub ConcernsBelow-all : (s : Cell) (changes : List Change) (n : ℕ) (points : List ℕ) → length changes ≡ n → ((p : ℕ) → Contains points p ↔ ConcernsBelow s changes n p) → ArePointsWith s changes points
+ConcernsBelow-all s changes n points count have p =
+    let none : Change = record { point = 0; old = cell.Empty; new = cell.Empty } in (
+      λ h. let k = (have p).0 h in (k.0, change_at changes k.0, omega arith, get_or_default changes k.0 (change_at changes k.0) none (omega arith), k.2),
+      λ (k, c, lt, at, is). (have p).1 (k, omega arith, subst (λ (d : Change). Concerns s d p) (sym (get_or_default changes k none c lt ∙ at)) is),
+    )
+
+-- the points after those of the first n changes were taken out
+pub record IsEmptied (changes : List Change) (old new : List ℕ) (n : ℕ) : Type 0 where
+  pub kept : (p : ℕ) → Contains new p → Contains old p
+  pub gone : (p k : ℕ) → k < n → Contains new p → p ≢ (change_at changes k).point
+
+pub IsEmptied-start : (changes : List Change) (points : List ℕ) → IsEmptied changes points points 0
+IsEmptied-start changes points = record { kept = λ p h. h; gone = λ p k lt. absurd (omega arith) }
+
+pub IsEmptied-more : (changes : List Change) (old now later : List ℕ) (n : ℕ) → IsEmptied changes old now n → ((p : ℕ) → Contains later p ↔ (Contains now p × (p ≢ (change_at changes n).point))) → IsEmptied changes old later (n + 1)
+IsEmptied-more changes old now later n emptied removed = record {
+  kept = λ p h. emptied.kept p ((removed p).0 h).0;
+  gone = λ p k lt h. elim (cases_eq k n) [
+    | inl last ↦ subst (λ (i : ℕ). p ≢ (change_at changes i).point) (sym last) ((removed p).0 h).1
+    | inr earlier ↦ emptied.gone p k (omega arith) ((removed p).0 h).0
+  ];
+}
+
+-- a list that contains nothing
+nothing_in : (points : List ℕ) → ((p : ℕ) → Contains points p → ⊥) → points ≡ []
+nothing_in [] none = refl
+nothing_in (p ∷ ps) none = absurd (none p (0, omega arith, refl))
+
+pub IsEmptied-all : (s : Cell) (changes : List Change) (old new : List ℕ) (n : ℕ) → ArePointsWith s changes old → length changes ≡ n → IsEmptied changes old new n → new ≡ []
+IsEmptied-all s changes old new n are count emptied =
+    let none : Change = record { point = 0; old = cell.Empty; new = cell.Empty } in
+    nothing_in new (λ p h.
+    let at = (are p).0 (emptied.kept p h) in
+    emptied.gone p at.0 (omega (arith, at.2)) h (sym at.4.0 ∙ ap (λ (d : Change). d.point) (sym (get_or_default changes at.0 none at.1 at.2 ∙ at.3))))
+
+pub no_points-from : (points : Concerned) → points.black ≡ [] → points.white ≡ [] → points ≡ no_points
+no_points-from points black white = same points.black [] points.white [] black white
+  where
+    same : (b c w v : List ℕ) → b ≡ c → w ≡ v → ◌≡◌ {A = Concerned} (record { black = b; white = w }) (record { black = c; white = v })
+    same b c w v e f = rw (e, f) refl
 
 -- ---- the rectangle
 

@@ -1,7 +1,7 @@
 -- The test of a placement is true exactly where the placement holds.
-use Rattle.std.proofs.Common.{◌≡◌, ℕ, ◌+◌, ◌<◌, ◌↔◌, Bool, true, false, cond, List, length, refl, sym, ap, ◌∙◌, arith}
+use Rattle.std.proofs.Common.{ℕ, Bool, refl}
 use Rattle.std.specs.Bool.{Decides}
-use Rattle.std.specs.List.{list_all, list_any, range_with_len}
+use Rattle.std.specs.List.{list_all, range_with_len}
 use Rattle.kb_geometry.specs.declared.shape.Shape.{Shape}
 use Rattle.kb_geometry.specs.declared.stone.Cell.{Cell}
 use Rattle.kb_geometry.specs.declared.stone.Cell.TheVariants as stone
@@ -25,6 +25,12 @@ allows-decides cell.Black stone.White = (λ e. absurd cc, λ e. absurd cc)
 allows-decides cell.White stone.Empty = (λ e. absurd cc, λ e. absurd cc)
 allows-decides cell.White stone.Black = (λ e. absurd cc, λ e. absurd cc)
 allows-decides cell.White stone.White = (λ _. refl, λ _. refl)
+allows-decides cell.NotWhite stone.Empty = (λ _ e. absurd cc, λ _. refl)
+allows-decides cell.NotWhite stone.Black = (λ _ e. absurd cc, λ _. refl)
+allows-decides cell.NotWhite stone.White = (λ e. absurd cc, λ ne. absurd (ne refl))
+allows-decides cell.NotBlack stone.Empty = (λ _ e. absurd cc, λ _. refl)
+allows-decides cell.NotBlack stone.Black = (λ e. absurd cc, λ ne. absurd (ne refl))
+allows-decides cell.NotBlack stone.White = (λ _ e. absurd cc, λ _. refl)
 
 module _ (shape : Shape) (position : Position) (placement : Placement) where
   row : ℕ → ℕ → Bool

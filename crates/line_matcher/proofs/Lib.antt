@@ -5,6 +5,8 @@ mod FoundLists
 pub mod HoldsLaw
 mod MaskBits
 mod Nodes
+pub mod OccurrenceLaw
+mod PlacedLists
 mod Ranges
 mod RowFits
 mod RowLists

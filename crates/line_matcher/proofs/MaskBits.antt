@@ -1,11 +1,10 @@
 -- The bits of masks, and what the tests of words say of them.
-use Rattle.std.proofs.Common.{◌≡◌, ◌≢◌, ℕ, ◌+◌, ◌*◌, ◌^◌, ◌%◌, ◌<◌, ◌≤◌, ◌⊎◌, ◌↔◌, inl, inr, Bool, true, false, cond, not, nat_eq, IsTrue, List, min, refl, sym, ap, ◌∙◌, arith, Contains, bit_and, bit_or}
+use Rattle.std.proofs.Common.{◌≡◌, ℕ, ◌+◌, ◌*◌, ◌^◌, ◌%◌, ◌<◌, ◌↔◌, inl, inr, Bool, true, not, nat_eq, IsTrue, List, min, sym, ap, ◌∙◌, arith, Contains, bit_and, bit_or}
 use Rattle.std.specs.Int.{bit_at, w64}
 use Rattle.std.proofs.lemmas.Nat.{and_le_l}
 use Rattle.std.proofs.lemmas.Nat.Bits.{bit_at-zero, bit_at-lt, bit_at_and, bit_at_set_same, bit_at_set_other, same_from_bits_below}
 use Rattle.std.proofs.lemmas.Bool.{eqb-true, eq-eqb, eqb-false, ne_eqb, not-true, not_from_false, cases_eq}
 use Rattle.kb_bits.specs.WordLaws.{word_has_bit}
-use Rattle.line_matcher.specs.declared.mask.RowMask.{RowMask}
 use Rattle.line_matcher.specs.Masks.{HasBit, IsUnder, TouchesAt}
 
 pub HasBit-set : (word k : ℕ) (set : Bool) → set ≡ true → k < 64 → HasBit word k set (bit_or word (1 * 2 ^ k % 2 ^ 64))
@@ -49,16 +48,16 @@ module _ (w word care : ℕ) (points : List ℕ) (start : ℕ) (window : (k : �
             (λ one. (under_bit k lt).1 ((under.bits k lt).0 one)))),
       )
 
-module _ (w : ℕ) (row : RowMask) (points : List ℕ) (start : ℕ) (window : (k : ℕ) → k < 64 → (bit_at w k ≡ 1) ↔ Contains points (start + k)) where
-  pub touches-told : w < 2 ^ 64 → IsTrue (not (nat_eq (bit_and w row.care) 0)) ↔ ((k : ℕ) × TouchesAt row points start k)
+module _ (w care : ℕ) (points : List ℕ) (start : ℕ) (window : (k : ℕ) → k < 64 → (bit_at w k ≡ 1) ↔ Contains points (start + k)) where
+  pub touches-told : w < 2 ^ 64 → IsTrue (not (nat_eq (bit_and w care) 0)) ↔ ((k : ℕ) × TouchesAt care points start k)
   touches-told w_fits =
-      let fits : bit_and w row.care < 2 ^ 64 = omega (arith, and_le_l w row.care) in (
-        λ t. let ne = eqb-false (bit_and w row.care) 0 (not-true (nat_eq (bit_and w row.care) 0) t) in
-            let b = word_has_bit (bit_and w row.care) (omega arith) fits in
-            let both = (under_bit w 0 row.care points start window b.0 b.1).0 b.2 in
-            (b.0, record { narrow = b.1; care = both.1; point = both.0 }),
-        λ (k, at). not_from_false (nat_eq (bit_and w row.care) 0) (ne_eqb (bit_and w row.care) 0 (λ none.
-            let one = (under_bit w 0 row.care points start window k at.narrow).1 (at.point, at.care) in
+      let fits : bit_and w care < 2 ^ 64 = omega (arith, and_le_l w care) in (
+        λ t. let ne = eqb-false (bit_and w care) 0 (not-true (nat_eq (bit_and w care) 0) t) in
+            let b = word_has_bit (bit_and w care) (omega arith) fits in
+            let both = (under_bit w 0 care points start window b.0 b.1).0 b.2 in
+            (b.0, record { narrow = b.1; care_bit = both.1; point = both.0 }),
+        λ (k, at). not_from_false (nat_eq (bit_and w care) 0) (ne_eqb (bit_and w care) 0 (λ none.
+            let one = (under_bit w 0 care points start window k at.narrow).1 (at.point, at.care_bit) in
             let zero = ap (λ (v : ℕ). bit_at v k) none ∙ bit_at-zero k in
             omega arith)),
       )

@@ -1,5 +1,5 @@
 -- The rows of a placement fit the board exactly where the placement holds.
-use Rattle.std.proofs.Common.{◌≡◌, ◌≢◌, ℕ, ◌+◌, ◌*◌, ◌<◌, ◌≤◌, ◌↔◌, ◌⊎◌, inl, inr, Bool, true, false, cond, List, length, get_or, slice_index_or, refl, sym, ap, ◌∙◌, arith, subst, Contains}
+use Rattle.std.proofs.Common.{◌≡◌, ℕ, ◌+◌, ◌*◌, ◌<◌, ◌≤◌, ◌↔◌, inl, inr, cond, List, length, slice_index_or, refl, sym, ◌∙◌, arith, Contains}
 use Rattle.std.specs.Int.{bit_at}
 use Rattle.std.proofs.Math.Nat.{mul-le-mul_right}
 use Rattle.std.proofs.lemmas.Nat.{mul-add-lt}
@@ -16,27 +16,38 @@ use Rattle.pattern_images.specs.Placements.{Placement}
 use Rattle.pattern_images.specs.Holds.{Allows, Holds, number_under}
 use Rattle.pattern_images.specs.ImageList.{IsPlacedOn}
 use Rattle.line_matcher.specs.declared.mask.RowMask.{RowMask}
-use Rattle.line_matcher.specs.Masks.{AreRowsOf, FitsRow, IsRowTo, IsUnder, is_black, is_care, is_white, no_mask}
+use Rattle.line_matcher.specs.Begins.{corner_of}
+use Rattle.line_matcher.specs.Masks.{AreRowsOf, FitsRow, IsRowTo, asks_black, asks_white, is_black, is_white, no_mask}
 
 -- a cell allows what stands under it exactly where its bits say so
-module _ (s : Cell) (black white : Type 0) (is_b : black ↔ (s ≡ stone.Black)) (is_w : white ↔ (s ≡ stone.White)) (bb wb cb : ℕ) where
-  bits_of_allowed : (c : PatternCell) → bb ≡ cond (is_black c) 1 0 → wb ≡ cond (is_white c) 1 0 → cb ≡ cond (is_care c) 1 0 → Allows c s →
-      ((bb ≡ 1) ↔ (black × (cb ≡ 1))) × ((wb ≡ 1) ↔ (white × (cb ≡ 1)))
-  bits_of_allowed cell.Any b w care allowed = (
+module _ (s : Cell) (black white : Type 0) (is_b : black ↔ (s ≡ stone.Black)) (is_w : white ↔ (s ≡ stone.White))
+    (bb wb bc wc : ℕ) where
+  bits_of_allowed : (c : PatternCell) → bb ≡ cond (is_black c) 1 0 → wb ≡ cond (is_white c) 1 0 →
+      bc ≡ cond (asks_black c) 1 0 → wc ≡ cond (asks_white c) 1 0 → Allows c s →
+      ((bb ≡ 1) ↔ (black × (bc ≡ 1))) × ((wb ≡ 1) ↔ (white × (wc ≡ 1)))
+  bits_of_allowed cell.Any b w bcare wcare allowed = (
     (λ e. absurd (omega arith), λ h. let one = h.1 in absurd (omega arith)),
     (λ e. absurd (omega arith), λ h. let one = h.1 in absurd (omega arith)),
   )
-  bits_of_allowed cell.Empty b w care allowed = (
+  bits_of_allowed cell.Empty b w bcare wcare allowed = (
     (λ e. absurd (omega arith), λ h. let same = sym allowed ∙ is_b.0 h.0 in absurd cc),
     (λ e. absurd (omega arith), λ h. let same = sym allowed ∙ is_w.0 h.0 in absurd cc),
   )
-  bits_of_allowed cell.Black b w care allowed = (
-    (λ e. (is_b.1 allowed, care), λ h. b),
+  bits_of_allowed cell.Black b w bcare wcare allowed = (
+    (λ e. (is_b.1 allowed, bcare), λ h. b),
     (λ e. absurd (omega arith), λ h. let same = sym allowed ∙ is_w.0 h.0 in absurd cc),
   )
-  bits_of_allowed cell.White b w care allowed = (
+  bits_of_allowed cell.White b w bcare wcare allowed = (
     (λ e. absurd (omega arith), λ h. let same = sym allowed ∙ is_b.0 h.0 in absurd cc),
-    (λ e. (is_w.1 allowed, care), λ h. w),
+    (λ e. (is_w.1 allowed, wcare), λ h. w),
+  )
+  bits_of_allowed cell.NotWhite b w bcare wcare allowed = (
+    (λ e. absurd (omega arith), λ h. let one = h.1 in absurd (omega arith)),
+    (λ e. absurd (omega arith), λ h. absurd (allowed (is_w.0 h.0))),
+  )
+  bits_of_allowed cell.NotBlack b w bcare wcare allowed = (
+    (λ e. absurd (omega arith), λ h. absurd (allowed (is_b.0 h.0))),
+    (λ e. absurd (omega arith), λ h. let one = h.1 in absurd (omega arith)),
   )
 
   neither : (t : Cell) → s ≡ t → (black → ⊥) → (white → ⊥) → s ≡ stone.Empty
@@ -44,13 +55,16 @@ module _ (s : Cell) (black white : Type 0) (is_b : black ↔ (s ≡ stone.Black)
   neither stone.Black e no_b no_w = absurd (no_b (is_b.1 e))
   neither stone.White e no_b no_w = absurd (no_w (is_w.1 e))
 
-  allowed_by_bits : (c : PatternCell) → bb ≡ cond (is_black c) 1 0 → wb ≡ cond (is_white c) 1 0 → cb ≡ cond (is_care c) 1 0 →
-      ((bb ≡ 1) ↔ (black × (cb ≡ 1))) → ((wb ≡ 1) ↔ (white × (cb ≡ 1))) → Allows c s
-  allowed_by_bits cell.Any b w care told_b told_w = tt
-  allowed_by_bits cell.Empty b w care told_b told_w =
-      neither s refl (λ h. let one = told_b.1 (h, care) in omega arith) (λ h. let one = told_w.1 (h, care) in omega arith)
-  allowed_by_bits cell.Black b w care told_b told_w = is_b.0 (told_b.0 b).0
-  allowed_by_bits cell.White b w care told_b told_w = is_w.0 (told_w.0 w).0
+  allowed_by_bits : (c : PatternCell) → bb ≡ cond (is_black c) 1 0 → wb ≡ cond (is_white c) 1 0 →
+      bc ≡ cond (asks_black c) 1 0 → wc ≡ cond (asks_white c) 1 0 →
+      ((bb ≡ 1) ↔ (black × (bc ≡ 1))) → ((wb ≡ 1) ↔ (white × (wc ≡ 1))) → Allows c s
+  allowed_by_bits cell.Any b w bcare wcare told_b told_w = tt
+  allowed_by_bits cell.Empty b w bcare wcare told_b told_w =
+      neither s refl (λ h. let one = told_b.1 (h, bcare) in omega arith) (λ h. let one = told_w.1 (h, wcare) in omega arith)
+  allowed_by_bits cell.Black b w bcare wcare told_b told_w = is_b.0 (told_b.0 b).0
+  allowed_by_bits cell.White b w bcare wcare told_b told_w = is_w.0 (told_w.0 w).0
+  allowed_by_bits cell.NotWhite b w bcare wcare told_b told_w = λ e. let one = told_w.1 (is_w.1 e, wcare) in omega arith
+  allowed_by_bits cell.NotBlack b w bcare wcare told_b told_w = λ e. let one = told_b.1 (is_b.1 e, bcare) in omega arith
 
 -- a set is that of the points that have a cell
 abbrev pub HasCell : Shape → Position → Cell → List ℕ → Type 0
@@ -65,17 +79,19 @@ module _ (shape : Shape) (position : Position) (black white : List ℕ) (is_b : 
     row_allows fits dx lt =
         let p = start + dx in
         allowed_by_bits (cell_at position p) (Contains black p) (Contains white p) (on_point p stone.Black black (below dx lt) is_b) (on_point p stone.White white (below dx lt) is_w)
-        (bit_at row.black dx) (bit_at row.white dx) (bit_at row.care dx) (cell_in grid dx dy) (is.black.within dx lt) (is.white.within dx lt) (is.care.within dx lt)
+        (bit_at row.black dx) (bit_at row.white dx) (bit_at row.black_care dx) (bit_at row.white_care dx)
+        (cell_in grid dx dy) (is.black.within dx lt) (is.white.within dx lt) (is.black_care.within dx lt) (is.white_care.within dx lt)
         (fits.black_cells.bits dx (omega arith)) (fits.white_cells.bits dx (omega arith))
 
     module _ (allows : (dx : ℕ) → dx < grid.cols → Allows (cell_in grid dx dy) (cell_at position (start + dx))) where
       bits_within : (dx : ℕ) → dx < grid.cols →
-          ((bit_at row.black dx ≡ 1) ↔ (Contains black (start + dx) × (bit_at row.care dx ≡ 1)))
-          × ((bit_at row.white dx ≡ 1) ↔ (Contains white (start + dx) × (bit_at row.care dx ≡ 1)))
+          ((bit_at row.black dx ≡ 1) ↔ (Contains black (start + dx) × (bit_at row.black_care dx ≡ 1)))
+          × ((bit_at row.white dx ≡ 1) ↔ (Contains white (start + dx) × (bit_at row.white_care dx ≡ 1)))
       bits_within dx lt =
           let p = start + dx in
           bits_of_allowed (cell_at position p) (Contains black p) (Contains white p) (on_point p stone.Black black (below dx lt) is_b) (on_point p stone.White white (below dx lt) is_w)
-          (bit_at row.black dx) (bit_at row.white dx) (bit_at row.care dx) (cell_in grid dx dy) (is.black.within dx lt) (is.white.within dx lt) (is.care.within dx lt) (allows dx lt)
+          (bit_at row.black dx) (bit_at row.white dx) (bit_at row.black_care dx) (bit_at row.white_care dx)
+          (cell_in grid dx dy) (is.black.within dx lt) (is.white.within dx lt) (is.black_care.within dx lt) (is.white_care.within dx lt) (allows dx lt)
 
       -- no bit stands behind the row's end
       behind : (b cb : ℕ) (has : Type 0) → b ≡ 0 → cb ≡ 0 → (b ≡ 1) ↔ (has × (cb ≡ 1))
@@ -86,37 +102,33 @@ module _ (shape : Shape) (position : Position) (black white : List ℕ) (is_b : 
         black_cells = record {
           bits = λ k k_lt. elim (cases_lt k grid.cols) [
             | inl lt ↦ (bits_within k lt).0
-            | inr le ↦ behind (bit_at row.black k) (bit_at row.care k) (Contains black (start + k)) (is.black.behind k le) (is.care.behind k le)
+            | inr le ↦ behind (bit_at row.black k) (bit_at row.black_care k) (Contains black (start + k)) (is.black.behind k le) (is.black_care.behind k le)
           ];
         };
         white_cells = record {
           bits = λ k k_lt. elim (cases_lt k grid.cols) [
             | inl lt ↦ (bits_within k lt).1
-            | inr le ↦ behind (bit_at row.white k) (bit_at row.care k) (Contains white (start + k)) (is.white.behind k le) (is.care.behind k le)
+            | inr le ↦ behind (bit_at row.white k) (bit_at row.white_care k) (Contains white (start + k)) (is.white.behind k le) (is.white_care.behind k le)
           ];
         };
       }
 
 -- ---- a placement on the board
 
--- the number of the upper left point of a placement
-abbrev pub first_of : Shape → Placement → ℕ
-first_of shape placement = placement.y * cols_of shape + placement.x
-
 module _ (shape : Shape) (placement : Placement) (placed : IsPlacedOn shape placement) where
   -- the number of a point under the placement
-  pub number_under-is : (dx dy : ℕ) → number_under shape placement dx dy ≡ first_of shape placement + dy * cols_of shape + dx
+  pub number_under-is : (dx dy : ℕ) → number_under shape placement dx dy ≡ corner_of shape placement + dy * cols_of shape + dx
   number_under-is dx dy = omega arith
 
   -- the points under it lie on the board
-  pub number_under-lt : (dx dy : ℕ) → dx < placement.grid.cols → dy < placement.grid.rows → first_of shape placement + dy * cols_of shape + dx < point_count shape
+  pub number_under-lt : (dx dy : ℕ) → dx < placement.grid.cols → dy < placement.grid.rows → corner_of shape placement + dy * cols_of shape + dx < point_count shape
   number_under-lt dx dy in_cols in_rows =
       let below : (placement.y + dy) * cols_of shape + (placement.x + dx) < cols_of shape * rows_of shape =
       mul-add-lt (placement.y + dy) (cols_of shape) (placement.x + dx) (rows_of shape) (omega (arith, placed.rows)) (omega (arith, placed.columns)) in
       omega arith
 
   -- behind the last row there is room for a number of 16 bits
-  pub rows_room : first_of shape placement + placement.grid.rows * cols_of shape ≤ point_count shape + cols_of shape
+  pub rows_room : corner_of shape placement + placement.grid.rows * cols_of shape ≤ point_count shape + cols_of shape
   rows_room =
       let last : (placement.y + placement.grid.rows) * cols_of shape ≤ rows_of shape * cols_of shape = mul-le-mul_right (cols_of shape) placed.rows in
       omega (arith, placed.columns)
@@ -127,7 +139,7 @@ module _ (shape : Shape) (placement : Placement) (placed : IsPlacedOn shape plac
   module _ (position : Position) (black white : List ℕ) (is_b : HasCell shape position stone.Black black) (is_w : HasCell shape position stone.White white) (rows : List RowMask) (are : AreRowsOf placement.grid rows) where
     -- where the row with this number begins
     abbrev start_of : ℕ → ℕ
-    start_of dy = first_of shape placement + dy * cols_of shape
+    start_of dy = corner_of shape placement + dy * cols_of shape
 
     pub rows_fit-holds : ((dy : ℕ) → dy < length rows → FitsRow (slice_index_or rows dy no_mask) black white (start_of dy)) → Holds shape position placement
     rows_fit-holds fits dx dy in_cols in_rows =

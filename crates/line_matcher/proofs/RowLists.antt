@@ -1,16 +1,41 @@
 -- Rows of rectangles of cells, one list of rows after another.
-use Rattle.std.proofs.Common.{◌≡◌, ℕ, ◌+◌, ◌-◌, ◌<◌, ◌≤◌, List, [], ◌∷◌, ◌++◌, length, get_or, map, take, drop, refl, sym, ap, ◌∙◌, arith, subst, inl, inr, append_assoc}
-use Rattle.std.specs.Prelude.{All, slice_index_or, slice_range}
-use Rattle.std.proofs.lemmas.Bool.{cases_lt}
-use Rattle.std.proofs.lemmas.List.{append-nil, length-append, length-drop, length-map, length_push, get_or_append_left, get_or_push, get_or-map, drop-append-le, take-append-le, drop_at, take_all, map-append}
+use Rattle.std.proofs.Common.{◌≡◌, ℕ, ◌+◌, ◌-◌, ◌<◌, ◌≤◌, Bool, cond, List, [], ◌∷◌, ◌++◌, length, get_or, map, take, drop, refl, sym, ap, ◌∙◌, arith, subst, inl, inr, append_assoc}
+use Rattle.std.specs.Int.{bit_at}
+use Rattle.pattern_images.specs.declared.cell.PatternCell.{PatternCell}
+use Rattle.std.specs.Prelude.{All, slice_index_or}
+use Rattle.std.proofs.lemmas.Bool.{cases_eq, cases_lt}
+use Rattle.std.proofs.lemmas.List.{append-nil, length-append, length-drop, length-map, length_push, get_or_append_left, get_or_push, get_or-map, drop-append-le, take-append-le, drop_at, take_all}
 use Rattle.std.proofs.lemmas.List.Elements.{All-nil, All-push, All-weaker}
-use Rattle.pattern_images.specs.Grid.{Grid}
+use Rattle.pattern_images.specs.Grid.{Grid, cell_in}
 use Rattle.pattern_images.specs.ImageList.{grid_at}
 use Rattle.line_matcher.specs.declared.mask.RowMask.{RowMask}
 use Rattle.line_matcher.specs.declared.grid_rows.RowRange.{RowRange}
-use Rattle.line_matcher.specs.Masks.{AreRowsOf, IsRowTo, no_mask}
+use Rattle.line_matcher.specs.Masks.{AreRowsOf, HasBit, IsRowTo, IsRowWord, IsWithCell, asks_black, asks_white, is_black, is_white, no_mask}
 use Rattle.line_matcher.specs.GridRows.{AreGridRows, HaveRowsOf}
 use Rattle.line_matcher.specs.StoredRows.{rows_in, IsWithin}
+
+-- ---- one row
+
+-- a bit more of a row's word
+IsRowWord-more : (test : PatternCell → Bool) (grid : Grid) (dy cols word next : ℕ) → IsRowWord test grid dy cols word → HasBit word cols (test (cell_in grid cols dy)) next → IsRowWord test grid dy (cols + 1) next
+IsRowWord-more test grid dy cols word next is bit = record {
+  within = λ k lt. elim (cases_eq k cols) [
+    | inl last ↦
+        let here : bit_at next cols ≡ cond (test (cell_in grid cols dy)) 1 0 = bit.here ∙ ap (λ (n : ℕ). cond (test (cell_in grid cols dy)) 1 n) (is.behind cols (omega arith)) in
+        subst (λ (i : ℕ). bit_at next i ≡ cond (test (cell_in grid i dy)) 1 0) (sym last) here
+    | inr other ↦ bit.others k other ∙ is.within k (omega arith)
+  ];
+  behind = λ k le. bit.others k (omega arith) ∙ is.behind k (omega arith);
+}
+
+-- a cell more of a row
+pub IsRowTo-more : (grid : Grid) (dy cols : ℕ) (row next : RowMask) → IsRowTo grid dy cols row → IsWithCell row cols (cell_in grid cols dy) next → IsRowTo grid dy (cols + 1) next
+IsRowTo-more grid dy cols row next is with = record {
+  black_care = IsRowWord-more asks_black grid dy cols row.black_care next.black_care is.black_care with.black_care;
+  black = IsRowWord-more is_black grid dy cols row.black next.black is.black with.black;
+  white_care = IsRowWord-more asks_white grid dy cols row.white_care next.white_care is.white_care with.white_care;
+  white = IsRowWord-more is_white grid dy cols row.white next.white is.white with.white;
+}
 
 -- ---- the rows of one rectangle
 

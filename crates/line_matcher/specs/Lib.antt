@@ -1,5 +1,6 @@
 pub mod Areas
 pub mod Begins
+pub mod Concerned
 pub mod GridRows
 pub mod Masks
 pub mod Matchers

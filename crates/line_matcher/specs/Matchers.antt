@@ -14,8 +14,10 @@ pub record AreMost (grids : List Grid) (most : Size) : Type 0 where
   pub columns : (k : ℕ) → k < length grids → (grid_at grids k).cols ≤ most.cols
   pub rows : (k : ℕ) → k < length grids → (grid_at grids k).rows ≤ most.rows
 
--- the rows of the rectangles of cells, the placements by their upper left points, and the greatest size
-pub record IsMatcherOf (images : ImageList) (rows : List (List RowMask)) (starts : List ℕ) (most : Size) : Type 0 where
+-- the rows of the rectangles of cells, the placements by their upper left points, and the greatest
+-- size
+pub record IsMatcherOf (images : ImageList) (rows : List (List RowMask)) (starts : List ℕ)
+    (most : Size) : Type 0 where
   pub rows_are : AreGridRows images.grids rows
   pub starts_are : AreStarts images.shape images.placements starts
   pub most_are : AreMost images.grids most

@@ -1,5 +1,5 @@
 -- How the rows of rectangles are stored.
-use Rattle.std.specs.Prelude.{ℕ, ◌≤◌, List, length, slice_range}
+use Rattle.std.specs.Prelude.{◌≤◌, List, length, slice_range}
 use Rattle.line_matcher.specs.declared.mask.RowMask.{RowMask}
 use Rattle.line_matcher.specs.declared.grid_rows.RowRange.{RowRange}
 

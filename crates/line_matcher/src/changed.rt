@@ -1,33 +1,76 @@
 // Where placements can begin to hold at a node.
-ghost use Rattle.std.specs.Prelude.{◌≡◌, ◌≤◌, ◌↔◌, ◌<◌, ℕ, [], All, Any, Contains, MatchOption};
+ghost use Rattle.std.specs.Prelude.{◌≡◌, ◌≤◌, ◌↔◌, ◌<◌, ◌⊎◌, ℕ, [], All, IsTrue, MatchOption};
 ghost use Rattle.kb_geometry.specs.declared.shape.Shape.{Shape};
 ghost use Rattle.kb_geometry.specs.declared.shape.Point.{Point};
 ghost use Rattle.kb_geometry.specs.declared.stone.Change.{Change};
-ghost use Rattle.kb_geometry.specs.Board.{IsInside, IsOnBoard, IsRectOnBoard, cols_of, number_of, point_count, rows_of};
+ghost use Rattle.kb_geometry.specs.Board.{IsInside, IsOnBoard, IsRectOnBoard, cols_of};
+ghost use Rattle.kb_geometry.specs.Board.{number_of, point_count, rows_of};
 ghost use Rattle.line_matcher.specs.Areas.{HoldsChanges, IsWithPoint, IsReach};
+ghost use Rattle.line_matcher.specs.Concerned.{AreConcerned, Concerns, IsWithChange, no_points};
 
 use kb_bits::BitBoard;
-use kb_geometry::{Change, Point, Rect, Shape};
+use kb_geometry::{Cell, Change, MAX_POINTS, Point, Rect, Shape};
 
-// The points whose cells differ from those at the parent.
+// The points that changes concern, by colours: where a stone of the colour stood or stands. It is
+// made once for a walk, filled at a node and emptied again, since it is as large as the greatest
+// board.
 #[derive(Debug, Drop)]
-pub(crate) enum Changed {
-    // At the root, which has no parent.
-    Everything,
-    Points(BitBoard),
+pub(crate) struct Concerned {
+    pub(crate) black: BitBoard,
+    pub(crate) white: BitBoard,
 }
 
-// The points of changes.
-pub(crate) fn changed_points(shape: Shape, changes: &[Change]) -> BitBoard
-    requires { All (λ (c : Change). c.point < point_count shape) changes.now }
-    ensures { (p : ℕ) → Contains result p ↔ Any (λ (c : Change). c.point ≡ p) changes.now }
+impl Concerned {
+    // No point.
+    pub(crate) fn none() -> Self
+        ensures { result ≡ no_points }
+    {
+        Concerned {
+            black: BitBoard::empty(),
+            white: BitBoard::empty(),
+        }
+    }
+
+    // The points of changes, where no point was before.
+    pub(crate) fn fill(&mut self, changes: &[Change])
+        requires on_board { All (λ (c : Change). c.point < MAX_POINTS) changes.now }
+        requires none { self.old ≡ no_points }
+        ensures { AreConcerned changes.now self.new }
+    {
+        for change in changes {
+            add(&mut self.black, Cell::Black, *change);
+            add(&mut self.white, Cell::White, *change);
+        }
+    }
+
+    // No point again, where those of these changes were.
+    pub(crate) fn empty(&mut self, changes: &[Change])
+        requires on_board { All (λ (c : Change). c.point < MAX_POINTS) changes.now }
+        requires concerned { AreConcerned changes.now self.old }
+        ensures { self.new ≡ no_points }
+    {
+        for change in changes {
+            self.black.remove(change.point);
+            self.white.remove(change.point);
+        }
+    }
+}
+
+// Adds the point of a change that has a stone, before or after.
+fn add(points: &mut BitBoard, stone: Cell, change: Change)
+    requires { change.point < MAX_POINTS }
+    ensures { IsWithChange stone change points.old points.new }
 {
-    let _points = shape.count();
-    let mut points = BitBoard::empty();
-    for change in changes {
+    if has_stone(change, stone) {
         points.insert(change.point);
     }
-    points
+}
+
+// Whether a change has a stone, before or after.
+fn has_stone(change: Change, stone: Cell) -> bool
+    ensures { IsTrue result ↔ ((change.old ≡ stone) ⊎ (change.new ≡ stone)) }
+{
+    change.old == stone || change.new == stone
 }
 
 // The rectangle of all points of a board.
@@ -46,7 +89,8 @@ pub(crate) fn whole(shape: Shape) -> Rect
 // A rectangle that holds the points of the changes. `None` where there are no changes.
 pub(crate) fn bounds(shape: Shape, changes: &[Change]) -> Option<Rect>
     requires { All (λ (c : Change). c.point < point_count shape) changes.now }
-    ensures { MatchOption result (changes.now ≡ []) (λ r. IsRectOnBoard shape r × HoldsChanges shape changes.now r) }
+    ensures { MatchOption result (changes.now ≡ [])
+        (λ r. IsRectOnBoard shape r × HoldsChanges shape changes.now r) }
 {
     let Point { x, y } = shape.point(changes.first()?.point);
     let mut rect = Rect {
@@ -73,7 +117,8 @@ fn with_point(rect: Rect, p: Point) -> Rect
     }
 }
 
-// From where a rectangle of at most so many columns and rows can reach into another one: its upper left points.
+// From where a rectangle of at most so many columns and rows can reach into another one: its upper
+// left points.
 pub(crate) fn reach(into: Rect, cols: u8, rows: u8) -> Rect
     requires into_columns { into.x1 < 255 }
     requires into_rows { into.y1 < 255 }

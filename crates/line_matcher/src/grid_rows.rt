@@ -18,7 +18,8 @@ struct RowRange {
     end: usize,
 }
 
-// The rows of rectangles of cells, by the numbers of the rectangles. Contracts see a list of rows for each.
+// The rows of rectangles of cells, by the numbers of the rectangles. Contracts see a list of rows
+// for each.
 #[derive(Debug, Drop)]
 pub(crate) struct GridRows {
     ranges: Vec<RowRange>,
@@ -69,7 +70,8 @@ impl GridRows {
 // Adds the rows of a rectangle.
 fn add_rows(images: &Images, class: usize, rows: &mut Vec<RowMask>) -> Result<(), NoMemory>
     requires { class < length images.now.grids }
-    ensures { OnOk result (HaveRowsOf (grid_at images.now.grids class) rows.old.items rows.new.items) }
+    ensures { OnOk result (HaveRowsOf (grid_at images.now.grids class)
+        rows.old.items rows.new.items) }
 {
     for dy in 0..images.class_size(class).rows() {
         rows.push(row_mask(images, class, dy))?;
@@ -81,7 +83,8 @@ fn add_rows(images: &Images, class: usize, rows: &mut Vec<RowMask>) -> Result<()
 fn row_mask(images: &Images, class: usize, dy: u8) -> RowMask
     requires in_range { class < length images.now.grids }
     requires row { dy < (grid_at images.now.grids class).rows }
-    ensures { IsRowTo (grid_at images.now.grids class) dy (grid_at images.now.grids class).cols result }
+    ensures { IsRowTo (grid_at images.now.grids class) dy
+        (grid_at images.now.grids class).cols result }
 {
     let mut row = RowMask::empty();
     for dx in 0..images.class_size(class).cols() {

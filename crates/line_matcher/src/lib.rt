@@ -1,7 +1,7 @@
 //! The occurrences of placements in one game.
 //!
-//! Stands on kb_geometry, kb_bits, capture_board and pattern_images. The layer above uses that `match_game` finds
-//! exactly the nodes and placements where a placement begins to hold, in order.
+//! Stands on kb_geometry, kb_bits, capture_board and pattern_images. The layer above uses that
+//! `match_with` finds exactly the nodes and placements where a placement begins to hold, in order.
 #![tactic(auto)]
 
 mod changed;
@@ -9,12 +9,16 @@ mod grid_rows;
 mod laws;
 mod mask;
 mod matcher;
+mod occurrence;
 mod starts;
 mod visit;
 mod walk;
 
-pub use laws::the_test_tells_whether_a_placement_holds;
+pub use laws::{
+    the_occurrences_are_where_placements_begin_to_hold, the_test_tells_whether_a_placement_holds,
+};
 pub use matcher::Matcher;
+pub use occurrence::Occurrence;
 pub use walk::{match_game, match_with};
 
 #[cfg(test)]

@@ -3,20 +3,22 @@ ghost use Rattle.std.specs.Prelude.{◌≡◌, ◌+◌, ◌*◌, ◌≤◌, ◌<
 ghost use Rattle.kb_geometry.specs.Board.{IsRectOnBoard, cols_of, point_count, rows_of};
 ghost use Rattle.pattern_images.specs.ImageList.{AreImages, IsPlacedOn, placement_at};
 ghost use Rattle.line_matcher.specs.Areas.{IsReach};
-ghost use Rattle.line_matcher.specs.Begins.{begins, first_of, may_begin};
-ghost use Rattle.line_matcher.specs.Masks.{AreRowsOf};
+ghost use Rattle.line_matcher.specs.Begins.{holds_anew, corner_of, may_begin, seen, touches};
+ghost use Rattle.line_matcher.specs.Masks.{AreRowsOf, asks};
 ghost use Rattle.line_matcher.specs.Matchers.{AreMost, IsMatcherOf};
 ghost use Rattle.line_matcher.specs.Occurrences.{holds};
 ghost use Rattle.line_matcher.specs.Visits.{IsFoundAt, IsNear};
 
-use crate::changed::{Changed, reach};
+use crate::Occurrence;
+use crate::changed::{Concerned, reach};
 use crate::grid_rows::GridRows;
 use crate::mask::{RowMask, rows_fit, rows_touch};
 use crate::starts::starts;
 use crate::visit::Visit;
 use capture_board::Walker;
-use kb_geometry::{Cell, NoMemory, Point, Rect, Shape};
-use pattern_images::{Found, Images};
+use kb_bits::BitBoard;
+use kb_geometry::{Cell, Colour, NoMemory, Point, Rect, Shape};
+use pattern_images::Images;
 use std::alloc::Global;
 
 /// The images of a query, made ready to be looked for in many games on boards of their shape.
@@ -69,12 +71,13 @@ impl<'a> Matcher<'a> {
         &self,
         visit: &Visit,
         area: Rect,
-        found: &mut Vec<Found>,
+        found: &mut Vec<Occurrence>,
     ) -> Result<(), NoMemory>
         requires area { IsRectOnBoard self.now.images.now.shape area }
         requires near { IsNear self.now.images.now visit.now area }
         requires shape { visit.now.walker.now.shape ≡ self.now.images.now.shape }
-        ensures { OnOk result (IsFoundAt self.now.images.now visit.now 0 (length self.now.images.now.placements) found.old.items found.new.items) }
+        ensures { OnOk result (IsFoundAt self.now.images.now visit.now
+            0 (length self.now.images.now.placements) found.old.items found.new.items) }
     {
         let _count = self.images.len();
         for y in area.y0..area.y1 + 1 {
@@ -93,13 +96,14 @@ impl<'a> Matcher<'a> {
         reach(into, self.most.cols, self.most.rows)
     }
 
-    // Adds what begins to hold at a node, among the placements with their upper left points in one row.
+    // Adds what begins to hold at a node, among the placements with their upper left points in one
+    // row.
     fn add_row(
         &self,
         visit: &Visit,
         area: Rect,
         y: u8,
-        found: &mut Vec<Found>,
+        found: &mut Vec<Occurrence>,
     ) -> Result<(), NoMemory>
         requires row { y < rows_of self.now.images.now.shape }
         requires area { IsRectOnBoard self.now.images.now.shape area }
@@ -120,27 +124,30 @@ impl<'a> Matcher<'a> {
         Ok(())
     }
 
-    // Adds what begins to hold at a node, among the placements from one number up to another. The number of the upper
-    // left point of each is `first`.
+    // Adds what begins to hold at a node, among the placements from one number up to another. The
+    // number of the upper left point of each is `first`.
     fn add_run(
         &self,
         visit: &Visit,
         first: u16,
         from: usize,
         to: usize,
-        found: &mut Vec<Found>,
+        found: &mut Vec<Occurrence>,
     ) -> Result<(), NoMemory>
         requires ordered { from ≤ to }
         requires in_range { to ≤ length self.now.images.now.placements }
-        requires first { (i : ℕ) → from ≤ i → i < to → first ≡ first_of self.now.images.now.shape (placement_at self.now.images.now.placements i) }
+        requires first { (i : ℕ) → from ≤ i → i < to
+            → first ≡
+            corner_of self.now.images.now.shape (placement_at self.now.images.now.placements i) }
         requires shape { visit.now.walker.now.shape ≡ self.now.images.now.shape }
-        ensures { OnOk result (IsFoundAt self.now.images.now visit.now from to found.old.items found.new.items) }
+        ensures { OnOk result (IsFoundAt self.now.images.now visit.now from to
+            found.old.items found.new.items) }
     {
         for i in from..to {
-            if self.begins(visit.walker, &visit.changed, i, first) {
-                found.push(Found {
+            if self.holds_anew(visit.walker, visit.changed, i, first) {
+                found.push(Occurrence {
                     node: visit.node,
-                    place: self.images.place(i),
+                    placement: i as u32,
                 })?;
             }
         }
@@ -155,13 +162,15 @@ impl<'a> Matcher<'a> {
         self.starts[usize::from(p)]
     }
 
-    // Whether a placement holds in the position that the walker shows, and can have begun to by these changes. The
-    // number of its upper left point is `first`.
-    fn begins(&self, walker: &Walker, changed: &Changed, i: usize, first: u16) -> bool
+    // Whether a placement holds in the position that the walker shows, and can have begun to by
+    // changes that concern these points. The number of its upper left point is `first`.
+    fn holds_anew(&self, walker: &Walker, changed: Option<&Concerned>, i: usize, first: u16) -> bool
         requires in_range { i < length self.now.images.now.placements }
-        requires first { first ≡ first_of self.now.images.now.shape (placement_at self.now.images.now.placements i) }
+        requires first { first ≡
+            corner_of self.now.images.now.shape (placement_at self.now.images.now.placements i) }
         requires shape { walker.now.shape ≡ self.now.images.now.shape }
-        ensures { result ≡ begins self.now.images.now.shape walker.now.position changed.now (placement_at self.now.images.now.placements i) }
+        ensures { result ≡ holds_anew self.now.images.now.shape walker.now.position
+            (seen changed.entry) (placement_at self.now.images.now.placements i) }
     {
         self.holds(walker, i, first) && self.may_begin(changed, i, first)
     }
@@ -169,9 +178,11 @@ impl<'a> Matcher<'a> {
     // Whether a placement holds in the position that the walker shows.
     fn holds(&self, walker: &Walker, i: usize, first: u16) -> bool
         requires in_range { i < length self.now.images.now.placements }
-        requires first { first ≡ first_of self.now.images.now.shape (placement_at self.now.images.now.placements i) }
+        requires first { first ≡
+            corner_of self.now.images.now.shape (placement_at self.now.images.now.placements i) }
         requires shape { walker.now.shape ≡ self.now.images.now.shape }
-        ensures { result ≡ holds self.now.images.now.shape walker.now.position (placement_at self.now.images.now.placements i) }
+        ensures { result ≡ holds self.now.images.now.shape walker.now.position
+            (placement_at self.now.images.now.placements i) }
     {
         let rows = self.rows_of(i);
         let black = walker.points(Cell::Black);
@@ -179,24 +190,40 @@ impl<'a> Matcher<'a> {
         rows_fit(rows, black, white, first, self.board_cols())
     }
 
-    // Whether a placement can have begun to hold by these changes.
-    fn may_begin(&self, changed: &Changed, i: usize, first: u16) -> bool
+    // Whether a placement can have begun to hold by changes that concern these points; at the root
+    // each one can have.
+    fn may_begin(&self, changed: Option<&Concerned>, i: usize, first: u16) -> bool
         requires in_range { i < length self.now.images.now.placements }
-        requires first { first ≡ first_of self.now.images.now.shape (placement_at self.now.images.now.placements i) }
-        ensures { result ≡ may_begin self.now.images.now.shape changed.now (placement_at self.now.images.now.placements i) }
+        requires first { first ≡
+            corner_of self.now.images.now.shape (placement_at self.now.images.now.placements i) }
+        ensures { result ≡ may_begin self.now.images.now.shape (seen changed.entry)
+            (placement_at self.now.images.now.placements i) }
     {
-        let rows = self.rows_of(i);
-        match changed {
-            Changed::Everything => true,
-            Changed::Points(points) => rows_touch(rows, points, first, self.board_cols()),
-        }
+        let Some(points) = changed else {
+            return true;
+        };
+        self.touches(Colour::Black, &points.black, i, first)
+            || self.touches(Colour::White, &points.white, i, first)
+    }
+
+    // Whether one of the points lies under a cell of a placement that asks whether a stone of the
+    // colour is there.
+    fn touches(&self, colour: Colour, points: &BitBoard, i: usize, first: u16) -> bool
+        requires in_range { i < length self.now.images.now.placements }
+        requires first { first ≡
+            corner_of self.now.images.now.shape (placement_at self.now.images.now.placements i) }
+        ensures { result ≡ touches (asks colour) self.now.images.now.shape points.now
+            (placement_at self.now.images.now.placements i) }
+    {
+        rows_touch(self.rows_of(i), colour, points, first, self.board_cols())
     }
 
     // The rows of a placement's cells.
     fn rows_of(&self, i: usize) -> &[RowMask]
         requires { i < length self.now.images.now.placements }
         ensures rows { AreRowsOf (placement_at self.now.images.now.placements i).grid result.now }
-        ensures placed { IsPlacedOn self.now.images.now.shape (placement_at self.now.images.now.placements i) }
+        ensures placed { IsPlacedOn self.now.images.now.shape
+            (placement_at self.now.images.now.placements i) }
     {
         let _count = self.images.len();
         self.rows.rows(self.images.class_of(i))

@@ -1,7 +1,7 @@
 // Occurrences in small games, worked out by hand.
 ghost use Rattle.std.specs.Prelude.{◌≡◌, ◌<◌};
 
-use crate::match_game;
+use crate::{Matcher, Occurrence, match_game, match_with};
 use capture_board::{NodeDeltas, Steps};
 use games::{Row, game_of};
 use kb_geometry::{Rect, Shape};
@@ -17,8 +17,8 @@ mod games;
 mod made_games;
 mod plain;
 
-// A search: the pattern's columns, rows and cells, whether the colours and the directions stay, and where its base
-// places are.
+// A search: the pattern's columns, rows and cells, whether the colours and the directions stay, and
+// where its base places are.
 type Asked = ((u8, u8, &'static str), bool, bool, Option<Rect>);
 
 const ANYWHERE: Option<Rect> = None;
@@ -37,6 +37,8 @@ fn pattern_cell(byte: u8) -> PatternCell {
         b'.' => PatternCell::Empty,
         b'X' => PatternCell::Black,
         b'O' => PatternCell::White,
+        b'x' => PatternCell::NotWhite,
+        b'o' => PatternCell::NotBlack,
         _ => PatternCell::Any,
     }
 }
@@ -116,11 +118,52 @@ fn found(
     found_counted::<Brand>(rt, alloc, board, rows, asked, Blank::new(1))
 }
 
+// The occurrences of a black stone beside a white one on the board of 2 by 2, as node and number of the
+// placement.
+fn numbers_counted<L: Ledger>(
+    rt: &impl Abort,
+    alloc: Global,
+    rows: &[Row],
+    blank: Blank,
+) -> Result<String, Fail>
+    requires name { blank.name ≡ L.name }
+    requires parts { blank.parts ≡ L.parts }
+    requires some { 0 < blank.parts }
+{
+    let shape = Shape::new(2, 2).expect(rt, "a board");
+    let mut steps = Steps::<L>::new(blank);
+    let deltas = game_of(rt, alloc, shape, rows, &mut steps)?;
+    let query = query_of(rt, alloc, ((2, 1, "XO"), false, false, ANYWHERE))?;
+    numbers_in(rt, alloc, &deltas, shape, &query, &mut steps)
+}
+
+fn numbers_in<L: Ledger>(
+    rt: &impl Abort,
+    alloc: Global,
+    deltas: &NodeDeltas,
+    shape: Shape,
+    query: &Query,
+    steps: &mut Steps<L>,
+) -> Result<String, Fail> {
+    assert_eq!(rt; deltas.shape(), shape);
+    let images = images(alloc, query, shape)?;
+    let matcher = Matcher::new(alloc, &images)?;
+    let mut text = String::new(alloc);
+    for Occurrence { node, placement } in match_with(alloc, deltas, &matcher, steps)? {
+        if !text.is_empty() {
+            text.push_str(", ")?;
+        }
+        write!(text, "{node} {placement}")?;
+    }
+    Ok(text)
+}
+
 const ONE_BLACK: (u8, u8, &str) = (1, 1, "X");
 
 const ONE_WHITE: (u8, u8, &str) = (1, 1, "O");
 
-// A white stone is captured by the last move, and a corner of the pattern stands there for the first time.
+// A white stone is captured by the last move, and a corner of the pattern stands there for the
+// first time.
 #[test]
 fn made_by_a_capture(rt: HostRuntime) -> Result<(), Fail> {
     let game = [
@@ -142,7 +185,8 @@ fn made_by_a_capture(rt: HostRuntime) -> Result<(), Fail> {
     Ok(())
 }
 
-// A stone that is taken at once never holds, a move on a stone changes it, and a stone may be in no final position.
+// A stone that is taken at once never holds, a move on a stone changes it, and a stone may be in no
+// final position.
 #[test]
 fn stones_that_come_and_go(rt: HostRuntime) -> Result<(), Fail> {
     let suicide = [
@@ -189,7 +233,8 @@ fn a_ko_fought_twice(rt: HostRuntime) -> Result<(), Fail> {
     Ok(())
 }
 
-// With the colours exchanged; equal placements once; the least board; and wildcards alone, which hold at the root.
+// With the colours exchanged; equal placements once; the least board; and wildcards alone, which
+// hold at the root.
 #[test]
 fn labels_and_edges(rt: HostRuntime) -> Result<(), Fail> {
     let three = [
@@ -248,6 +293,131 @@ fn labels_and_edges(rt: HostRuntime) -> Result<(), Fail> {
     ];
     for (board, game, asked, wanted) in cases {
         let text = found(&rt, rt.alloc(), board, game, asked)?;
+        assert_eq!(rt; text.as_str(), wanted);
+    }
+    Ok(())
+}
+
+// A half wildcard allows two cells: a change from one of them to the other begins nothing, one from
+// the third begins. A change beneath another cell begins whatever stands beneath the half wildcard.
+#[test]
+fn half_wildcards(rt: HostRuntime) -> Result<(), Fail> {
+    let on_a_stone = [(None, ""), (Some(0), "Bbb"), (Some(1), "Wbb")];
+    let to_and_fro = [
+        (None, "wbb"),
+        (Some(0), "ebb"),
+        (Some(1), "bbb"),
+        (Some(2), "ebb"),
+        (Some(3), "wbb"),
+        (Some(4), "bbb"),
+        (Some(5), "wbb"),
+    ];
+    let neighbours = [
+        (None, "waa"),
+        (Some(0), "eaa bba"),
+        (Some(1), "baa"),
+        (Some(2), "waa"),
+        (Some(3), "eba"),
+        (Some(4), "eaa bba"),
+    ];
+    let centre = at(1, 1);
+    let not_black = (1, 1, "o");
+    let not_white = (1, 1, "x");
+    let cases = [
+        (
+            on_a_stone.as_slice(),
+            (not_black, true, false, centre),
+            "0 1 1 0, 2 1 1 0",
+        ),
+        (
+            on_a_stone.as_slice(),
+            (not_black, false, false, centre),
+            "0 1 1 0, 0 1 1 8, 2 1 1 0",
+        ),
+        (
+            on_a_stone.as_slice(),
+            (not_white, true, false, centre),
+            "0 1 1 0",
+        ),
+        (
+            to_and_fro.as_slice(),
+            (not_black, true, true, centre),
+            "0 1 1 0, 3 1 1 0, 6 1 1 0",
+        ),
+        (
+            to_and_fro.as_slice(),
+            (not_white, true, true, centre),
+            "1 1 1 0, 5 1 1 0",
+        ),
+        (
+            neighbours.as_slice(),
+            ((2, 1, "oX"), true, true, at(0, 0)),
+            "1 0 0 0, 3 0 0 0, 5 0 0 0",
+        ),
+        (
+            neighbours.as_slice(),
+            ((2, 1, "xX"), true, true, at(0, 0)),
+            "1 0 0 0, 5 0 0 0",
+        ),
+        (
+            neighbours.as_slice(),
+            ((2, 1, "oo"), true, true, at(0, 0)),
+            "0 0 0 0, 4 0 0 0",
+        ),
+        (
+            neighbours.as_slice(),
+            ((2, 1, "xx"), true, true, at(0, 0)),
+            "1 0 0 0, 5 0 0 0",
+        ),
+    ];
+    for (game, asked, wanted) in cases {
+        let text = found(&rt, rt.alloc(), (3, 3), game, asked)?;
+        assert_eq!(rt; text.as_str(), wanted);
+    }
+    Ok(())
+}
+
+// At the last points of the greatest board, and along its last row.
+#[test]
+fn the_last_points_of_the_greatest_board(rt: HostRuntime) -> Result<(), Fail> {
+    let game = [
+        (None, "waa"),
+        (Some(0), "BZZ"),
+        (Some(1), "WYZ"),
+        (Some(2), "eYZ"),
+    ];
+    let row = "*..................................................X";
+    let cases = [
+        ((ONE_BLACK, true, true, ANYWHERE), "1 51 51 0"),
+        ((ONE_BLACK, true, true, at(51, 51)), "1 51 51 0"),
+        (((2, 1, "OX"), true, true, ANYWHERE), "2 50 51 0"),
+        (((52, 1, row), true, true, ANYWHERE), "1 0 51 0, 3 0 51 0"),
+    ];
+    for (asked, wanted) in cases {
+        let text = found(&rt, rt.alloc(), (52, 52), &game, asked)?;
+        assert_eq!(rt; text.as_str(), wanted);
+    }
+    Ok(())
+}
+
+// The placements of a black stone beside a white one are eight: two at each of four pairs of points, in
+// order of their upper left points and labels.
+#[test]
+fn numbers_of_placements(rt: HostRuntime) -> Result<(), Fail> {
+    let cases = [
+        ([(None, ""), (Some(0), "Baa"), (Some(1), "Wba")], "2 0"),
+        ([(None, ""), (Some(0), "Wba"), (Some(1), "Bbb")], "2 5"),
+        (
+            [(None, "baa wba wab"), (Some(0), "bbb"), (Some(1), "eaa")],
+            "0 0, 0 2, 1 5, 1 7",
+        ),
+        (
+            [(None, "bab wbb"), (Some(0), "wab"), (Some(0), "bbb")],
+            "0 6",
+        ),
+    ];
+    for (game, wanted) in cases {
+        let text = numbers_counted::<Brand>(&rt, rt.alloc(), &game, Blank::new(1))?;
         assert_eq!(rt; text.as_str(), wanted);
     }
     Ok(())

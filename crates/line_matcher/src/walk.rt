@@ -4,10 +4,13 @@ ghost use Rattle.kb_geometry.specs.declared.stone.Change.{Change};
 ghost use Rattle.kb_geometry.specs.Board.{point_count};
 ghost use Rattle.capture_board.specs.Deltas.{node_count};
 ghost use Rattle.capture_board.specs.Walking.{StandsIn};
+ghost use Rattle.line_matcher.specs.Concerned.{AreConcerned, no_points};
 ghost use Rattle.line_matcher.specs.Nodes.{IsFoundAtRoot, IsFoundByChanges, IsFoundIn, IsFoundTo};
+ghost use Rattle.line_matcher.specs.declared.occurrence.Occurrence.{Occurrence};
 ghost use Rattle.line_matcher.specs.Occurrences.{AreFound, occurrences_in};
 
-use crate::changed::{Changed, bounds, changed_points, whole};
+use crate::Occurrence;
+use crate::changed::{Concerned, bounds, whole};
 use crate::matcher::Matcher;
 use crate::visit::Visit;
 use capture_board::{NodeDeltas, Steps, Walker};
@@ -16,12 +19,11 @@ use pattern_images::{Found, Images};
 use std::alloc::Global;
 use std::sync::ledger::Ledger;
 
-/// The nodes of a game and the placements that begin to hold there: a placement begins at a node where it holds,
-/// if that is the root or it doesn't hold at the parent. They stand by node, and at one node in the order of the
-/// placements.
+/// The nodes of a game and the placements that begin to hold there, as [`match_with`] lists them,
+/// each with its place. For the library's callers and tests: the program calls `match_with`.
 ///
-/// The images are those of a board of the game's shape. Each node is entered once, and each entry is one step. The
-/// only error is `NoMemory`.
+/// The images are those of a board of the game's shape. The count of steps only grows, by at most
+/// the number of the game's nodes. The only error is `NoMemory`.
 pub fn match_game<L: Ledger>(
     alloc: Global,
     deltas: &NodeDeltas,
@@ -29,26 +31,57 @@ pub fn match_game<L: Ledger>(
     steps: &mut Steps<L>,
 ) -> Result<Vec<Found>, NoMemory>
     requires { images.now.shape ≡ deltas.now.shape }
-    ensures found { IfOk result (λ found. AreFound images.now.placements (occurrences_in deltas.now images.now.placements) found.items) }
+    ensures found { IfOk result (λ found. AreFound images.now.placements
+        (occurrences_in deltas.now images.now.placements) found.items) }
     ensures ticks { steps.new ≤ steps.old + node_count deltas.now }
+    ensures grows { steps.old ≤ steps.new }
 {
     let matcher = Matcher::new(alloc, images)?;
-    match_with(alloc, deltas, &matcher, steps)
+    let occurrences = match_with(alloc, deltas, &matcher, steps)?;
+    with_places(alloc, images, occurrences.as_slice())
 }
 
-/// What [`match_game`] gives for the images of a matcher, which may serve for many games.
+/// The nodes of a game and the numbers of the placements that begin to hold there: a placement
+/// begins at a node where it holds, if that is the root or it doesn't hold at the parent. They
+/// stand by node, and at one node in the order of the placements.
+///
+/// The matcher's images are those of a board of the game's shape; it may serve for many games. The
+/// count of steps only grows, by at most the number of the game's nodes. The only error is
+/// `NoMemory`.
 pub fn match_with<L: Ledger>(
     alloc: Global,
     deltas: &NodeDeltas,
     matcher: &Matcher,
     steps: &mut Steps<L>,
-) -> Result<Vec<Found>, NoMemory>
+) -> Result<Vec<Occurrence>, NoMemory>
     requires { matcher.now.images.now.shape ≡ deltas.now.shape }
-    ensures found { IfOk result (λ found. AreFound matcher.now.images.now.placements (occurrences_in deltas.now matcher.now.images.now.placements) found.items) }
+    ensures found { IfOk result (λ found. found.items
+        ≡ occurrences_in deltas.now matcher.now.images.now.placements) }
     ensures ticks { steps.new ≤ steps.old + node_count deltas.now }
+    ensures grows { steps.old ≤ steps.new }
 {
     let mut found = Vec::new(alloc);
     add_nodes(matcher, deltas, &mut found, steps)?;
+    Ok(found)
+}
+
+// Occurrences with the places of their placements.
+fn with_places(
+    alloc: Global,
+    images: &Images,
+    occurrences: &[Occurrence],
+) -> Result<Vec<Found>, NoMemory>
+    requires { All (λ (o : Occurrence). o.placement < length images.now.placements)
+        occurrences.now }
+    ensures { IfOk result (λ found. AreFound images.now.placements occurrences.now found.items) }
+{
+    let mut found = Vec::new(alloc);
+    for occurrence in occurrences {
+        found.push(Found {
+            node: occurrence.node,
+            place: images.place(occurrence.placement as usize),
+        })?;
+    }
     Ok(found)
 }
 
@@ -56,17 +89,20 @@ pub fn match_with<L: Ledger>(
 fn add_nodes<L: Ledger>(
     matcher: &Matcher,
     deltas: &NodeDeltas,
-    found: &mut Vec<Found>,
+    found: &mut Vec<Occurrence>,
     steps: &mut Steps<L>,
 ) -> Result<(), NoMemory>
     requires { matcher.now.images.now.shape ≡ deltas.now.shape }
-    ensures found { OnOk result (IsFoundTo deltas.now matcher.now.images.now.placements (node_count deltas.now) found.old.items found.new.items) }
+    ensures found { OnOk result (IsFoundTo deltas.now matcher.now.images.now.placements
+        (node_count deltas.now) found.old.items found.new.items) }
     ensures ticks { steps.new ≤ steps.old + node_count deltas.now }
+    ensures grows { steps.old ≤ steps.new }
 {
     let mut walker = Walker::new(deltas);
+    let mut points = Concerned::none();
     for node in 0..deltas.node_count() {
         walker.enter_next(deltas, node, steps);
-        add_node(matcher, deltas, &walker, node, found)?;
+        add_node(matcher, deltas, &walker, &mut points, node, found)?;
     }
     Ok(())
 }
@@ -76,18 +112,22 @@ fn add_node(
     matcher: &Matcher,
     deltas: &NodeDeltas,
     walker: &Walker,
+    points: &mut Concerned,
     node: u32,
-    found: &mut Vec<Found>,
+    found: &mut Vec<Occurrence>,
 ) -> Result<(), NoMemory>
     requires in_range { node < node_count deltas.now }
     requires shape { matcher.now.images.now.shape ≡ deltas.now.shape }
     requires stands { StandsIn deltas.now walker.now }
     requires here { walker.now.here ≡ Some node }
-    ensures { OnOk result (IsFoundIn deltas.now matcher.now.images.now.placements node found.old.items found.new.items) }
+    requires none { points.old ≡ no_points }
+    ensures found { OnOk result (IsFoundIn deltas.now matcher.now.images.now.placements node
+        found.old.items found.new.items) }
+    ensures none { OnOk result (points.new ≡ no_points) }
 {
     match deltas.parent(node) {
         None => add_root(matcher, walker, node, found),
-        Some(_) => add_child(matcher, walker, node, deltas.changes(node), found),
+        Some(_) => add_child(matcher, walker, points, node, deltas.changes(node), found),
     }
 }
 
@@ -96,39 +136,66 @@ fn add_root(
     matcher: &Matcher,
     walker: &Walker,
     node: u32,
-    found: &mut Vec<Found>,
+    found: &mut Vec<Occurrence>,
 ) -> Result<(), NoMemory>
     requires { walker.now.shape ≡ matcher.now.images.now.shape }
-    ensures { OnOk result (IsFoundAtRoot matcher.now.images.now walker.now.position node found.old.items found.new.items) }
+    ensures { OnOk result (IsFoundAtRoot matcher.now.images.now walker.now.position node
+        found.old.items found.new.items) }
 {
     let visit = Visit {
         node,
         walker,
-        changed: Changed::Everything,
+        changed: None,
     };
     matcher.add_area(&visit, whole(matcher.shape()), found)
 }
 
-// Adds what begins to hold at a node with a parent: what holds there and is touched by its changes.
+// Adds what begins to hold at a node with a parent, and leaves no point behind.
 fn add_child(
     matcher: &Matcher,
     walker: &Walker,
+    points: &mut Concerned,
     node: u32,
     changes: &[Change],
-    found: &mut Vec<Found>,
+    found: &mut Vec<Occurrence>,
 ) -> Result<(), NoMemory>
     requires shape { walker.now.shape ≡ matcher.now.images.now.shape }
-    requires on_board { All (λ (c : Change). c.point < point_count matcher.now.images.now.shape) changes.now }
-    ensures { OnOk result (IsFoundByChanges matcher.now.images.now walker.now.position changes.now node found.old.items found.new.items) }
+    requires on_board { All (λ (c : Change). c.point < point_count matcher.now.images.now.shape)
+        changes.now }
+    requires none { points.old ≡ no_points }
+    ensures found { OnOk result (IsFoundByChanges matcher.now.images.now walker.now.position
+        changes.now node found.old.items found.new.items) }
+    ensures none { OnOk result (points.new ≡ no_points) }
 {
-    let shape = matcher.shape();
-    let Some(into) = bounds(shape, changes) else {
+    points.fill(changes);
+    add_touched(matcher, walker, points, node, changes, found)?;
+    points.empty(changes);
+    Ok(())
+}
+
+// Adds what holds and is touched by the changes, which concern these points.
+fn add_touched(
+    matcher: &Matcher,
+    walker: &Walker,
+    points: &Concerned,
+    node: u32,
+    changes: &[Change],
+    found: &mut Vec<Occurrence>,
+) -> Result<(), NoMemory>
+    requires shape { walker.now.shape ≡ matcher.now.images.now.shape }
+    requires on_board { All (λ (c : Change). c.point < point_count matcher.now.images.now.shape)
+        changes.now }
+    requires concerned { AreConcerned changes.now points.now }
+    ensures { OnOk result (IsFoundByChanges matcher.now.images.now walker.now.position
+        changes.now node found.old.items found.new.items) }
+{
+    let Some(into) = bounds(matcher.shape(), changes) else {
         return Ok(());
     };
     let visit = Visit {
         node,
         walker,
-        changed: Changed::Points(changed_points(shape, changes)),
+        changed: Some(points),
     };
     matcher.add_area(&visit, matcher.reach(into), found)
 }

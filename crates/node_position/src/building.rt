@@ -9,7 +9,7 @@ ghost use Rattle.game_tree.specs.declared.node.Setup.{Setup};
 ghost use Rattle.game_tree.specs.Position.{ArePositions, IsMoved, set_up_all};
 ghost use Rattle.capture_board.specs.Changes.{LeadFrom};
 ghost use Rattle.capture_board.specs.Walking.{MayLeaveTo, parent_here};
-ghost use Rattle.node_position.specs.Positions.{AreDeltasOf};
+ghost use Rattle.node_position.specs.Games.{AreNodeChanges};
 ghost use Rattle.node_position.specs.Standing.{Shows};
 
 use capture_board::{Board, ChangeList, NodeDeltas};
@@ -21,23 +21,37 @@ use std::alloc::Global;
 ///
 /// Each node is played once and taken back at most once.
 pub fn deltas(alloc: Global, tree: &GameTree) -> Result<NodeDeltas, NoMemory>
-    ensures { IfOk result (λ changes. (positions : List Position) × ArePositions tree.now positions
-        × AreDeltasOf tree.now positions changes) }
+    ensures { IfOk result (AreNodeChanges tree.now) }
+{
+    let mut board = Board::empty(tree.shape());
+    let mut changes = ChangeList::new();
+    deltas_with(alloc, tree, &mut board, &mut changes)
+}
+
+/// The same, on a board and with a list that were made before, whatever they hold. Both have room
+/// for the greatest board, so where there are many trees they are made once.
+pub fn deltas_with(
+    alloc: Global,
+    tree: &GameTree,
+    board: &mut Board,
+    changes: &mut ChangeList,
+) -> Result<NodeDeltas, NoMemory>
+    ensures { IfOk result (AreNodeChanges tree.now) }
 {
     let shape = tree.shape();
     let mut deltas = NodeDeltas::new(alloc, shape);
-    let mut board = Board::empty(shape);
-    let mut changes = ChangeList::new();
+    board.reset(shape);
     let mut here = None;
     for n in 0..tree.node_count() {
         let parent = tree.parent(n);
-        go_back(&mut board, &deltas, here, parent);
+        go_back(board, &deltas, here, parent);
         changes.clear();
-        set_up(&mut board, tree.setups(n), &mut changes);
-        play(&mut board, tree.played(n), &mut changes);
+        set_up(board, tree.setups(n), changes);
+        play(board, tree.played(n), changes);
         deltas.push(parent, changes.as_slice())?;
         here = Some(n);
     }
+    let _count = deltas.node_count();
     Ok(deltas)
 }
 

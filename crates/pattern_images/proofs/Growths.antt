@@ -4,8 +4,8 @@ use Rattle.std.specs.Prelude.{Contains}
 use Rattle.std.proofs.lemmas.Bool.{cases_lt}
 use Rattle.std.proofs.lemmas.List.{get_or_append_left, get_or_default, get_or_push, length_push}
 use Rattle.pattern_images.specs.Grid.{Grid}
-use Rattle.pattern_images.specs.ImageList.{grid_at, no_grid}
-use Rattle.pattern_images.specs.Turns.{AreDistinct, HasGrown}
+use Rattle.pattern_images.specs.ImageList.{grid_at, no_grid, AreDistinct}
+use Rattle.pattern_images.specs.Turns.{HasGrown}
 
 grid_at-there : (grids : List Grid) (k : ℕ) (g : Grid) → k < length grids → grid_at grids k ≡ g → Contains grids g
 grid_at-there grids k g below is = (k, below, get_or_default grids k g no_grid below ∙ is)

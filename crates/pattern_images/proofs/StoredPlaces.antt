@@ -1,7 +1,7 @@
 -- Stored places as placements.
-use Rattle.std.proofs.Common.{◌≡◌, ℕ, ◌<◌, List, length, get_or, map, sym, subst, arith}
-use Rattle.std.specs.Prelude.{All, Contains}
-use Rattle.std.proofs.lemmas.List.{get_or_default, length-map}
+use Rattle.std.proofs.Common.{List, get_or, map}
+use Rattle.std.specs.Prelude.{Contains}
+use Rattle.std.proofs.lemmas.List.{get_or_default}
 use Rattle.std.proofs.lemmas.List.Elements.{All-map, All-weaker}
 use Rattle.kb_geometry.specs.declared.shape.Shape.{Shape}
 use Rattle.pattern_images.specs.declared.listing.StoredPlace.{StoredPlace}
@@ -11,9 +11,17 @@ use Rattle.pattern_images.specs.Listing.{AreStoredOn, IsStoredOn, placement_in}
 use Rattle.pattern_images.specs.Placements.{Placement}
 
 -- the places lie on the board, in order, and each has one of the rectangles of cells
-pub AreImages-stored : (shape : Shape) (grids : List Grid) (stored : List StoredPlace) → AreStoredOn shape grids stored → AreImages (record { shape = shape; grids = grids; placements = map (placement_in grids) stored })
+pub AreImages-stored : (shape : Shape) (grids : List Grid) (stored : List StoredPlace) →
+    AreStoredOn shape grids stored →
+    AreImages (record { shape = shape; grids = grids; placements = map (placement_in grids) stored })
 AreImages-stored shape grids stored are = record {
-  placed = All-map (IsPlacedOn shape) (placement_in grids) stored (All-weaker (IsStoredOn shape grids) (λ s. IsPlacedOn shape (placement_in grids s)) (λ s h. h.1) stored are.each);
+  placed = All-map (IsPlacedOn shape) (placement_in grids) stored
+      (All-weaker (IsStoredOn shape grids) (λ s. IsPlacedOn shape (placement_in grids s)) (λ s h. h.1)
+      stored are.each);
   ordered = are.ordered;
-  classes = All-map (λ (p : Placement). Contains grids p.grid) (placement_in grids) stored (All-weaker (IsStoredOn shape grids) (λ s. Contains grids (get_or grids s.class no_grid)) (λ s h. (s.class, h.0, get_or_default grids s.class (get_or grids s.class no_grid) no_grid h.0)) stored are.each);
+  classes = All-map (λ (p : Placement). Contains grids p.grid) (placement_in grids) stored
+      (All-weaker (IsStoredOn shape grids) (λ s. Contains grids (get_or grids s.class no_grid))
+      (λ s h. (s.class, h.0, get_or_default grids s.class (get_or grids s.class no_grid) no_grid h.0))
+      stored are.each);
+  different = are.different;
 }

@@ -1,5 +1,5 @@
--- A placement holds in a position where each of its cells that is no wildcard is the board's cell.
-use Rattle.std.specs.Prelude.{◌≡◌, ℕ, ◌+◌, ◌<◌}
+-- A placement holds in a position where each of its cells allows the board's cell.
+use Rattle.std.specs.Prelude.{◌≡◌, ◌≢◌, ℕ, ◌+◌, ◌<◌}
 use Rattle.kb_geometry.specs.declared.shape.Shape.{Shape}
 use Rattle.kb_geometry.specs.declared.stone.Cell.{Cell}
 use Rattle.kb_geometry.specs.declared.stone.Cell.TheVariants as stone
@@ -11,11 +11,14 @@ use Rattle.pattern_images.specs.declared.cell.PatternCell.TheVariants as cell
 use Rattle.pattern_images.specs.Grid.{cell_in}
 use Rattle.pattern_images.specs.Placements.{Placement}
 
--- the pattern's cell allows this cell of the board
+-- The pattern's cell allows this cell of the board: empty, black and white allow themselves alone, the half wildcards
+-- black or empty and white or empty, and a wildcard allows everything.
 abbrev pub Allows : PatternCell → Cell → Type 0
 Allows cell.Empty on_board = on_board ≡ stone.Empty
 Allows cell.Black on_board = on_board ≡ stone.Black
 Allows cell.White on_board = on_board ≡ stone.White
+Allows cell.NotWhite on_board = on_board ≢ stone.White
+Allows cell.NotBlack on_board = on_board ≢ stone.Black
 Allows cell.Any on_board = Unit {0}
 
 -- the number of the point of the board under column dx and row dy of the placement

@@ -1,5 +1,18 @@
 -- What contracts see of the images of a query.
-use Rattle.std.specs.Prelude.{◌≡◌, ℕ, ◌+◌, ◌≤◌, List, [], slice_index_or, All, AllPairs, Contains}
+use Rattle.std.specs.Prelude.{
+  ◌≡◌,
+  ℕ,
+  ◌+◌,
+  ◌<◌,
+  ◌≤◌,
+  List,
+  [],
+  length,
+  slice_index_or,
+  All,
+  AllPairs,
+  Contains,
+}
 use Rattle.kb_geometry.specs.declared.shape.Shape.{Shape}
 use Rattle.kb_geometry.specs.Board.{cols_of, rows_of}
 use Rattle.kb_geometry.specs.Symmetry.{number_of_label}
@@ -21,9 +34,18 @@ no_grid = record { cols = 0; rows = 0; cells = [] }
 abbrev pub grid_at : List Grid → ℕ → Grid
 grid_at grids k = slice_index_or grids k no_grid
 
+-- no two rectangles of cells are one: two of them differ in their size or in some cell
+abbrev pub AreDistinct : List Grid → Type 0
+AreDistinct grids =
+    (i j : ℕ) → i < length grids → j < length grids → grid_at grids i ≡ grid_at grids j → i ≡ j
+
+-- no placement at all
+abbrev pub no_placement : Placement
+no_placement = record { label = 0; x = 0; y = 0; grid = no_grid }
+
 -- the placement with this number
 abbrev pub placement_at : List Placement → ℕ → Placement
-placement_at placements i = slice_index_or placements i (record { label = 0; x = 0; y = 0; grid = no_grid })
+placement_at placements i = slice_index_or placements i no_placement
 
 -- the place is that of the placement: its upper left point, its size and its label
 pub record IsPlaceOf (placement : Placement) (place : Place) : Type 0 where
@@ -40,8 +62,10 @@ pub record IsPlacedOn (shape : Shape) (placement : Placement) : Type 0 where
   pub columns : placement.x + placement.grid.cols ≤ cols_of shape
   pub rows : placement.y + placement.grid.rows ≤ rows_of shape
 
--- The placements lie on the board, in order, and the cells of each are one of the rectangles of cells.
+-- The placements lie on the board, in order, and the cells of each are one of the rectangles of cells, of which no two
+-- are one.
 pub record AreImages (images : ImageList) : Type 0 where
   pub placed : All (IsPlacedOn images.shape) images.placements
   pub ordered : AllPairs IsBefore images.placements
-  pub classes : All (λ (placement : Placement). Contains images.grids placement.grid) images.placements
+  pub classes : All (λ (p : Placement). Contains images.grids p.grid) images.placements
+  pub different : AreDistinct images.grids

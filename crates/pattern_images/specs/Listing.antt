@@ -8,7 +8,7 @@ use Rattle.pattern_images.specs.declared.listing.StoredPlace.{StoredPlace}
 use Rattle.pattern_images.specs.declared.query.Query.{Query}
 use Rattle.pattern_images.specs.declared.turn.Turn.{Turn}
 use Rattle.pattern_images.specs.Grid.{Grid}
-use Rattle.pattern_images.specs.ImageList.{grid_at, IsPlacedOn}
+use Rattle.pattern_images.specs.ImageList.{grid_at, AreDistinct, IsPlacedOn}
 use Rattle.pattern_images.specs.Placements.{Placement, IsBefore, IsResult, IsSame}
 use Rattle.pattern_images.specs.Turns.{AreTurns}
 
@@ -44,7 +44,8 @@ GivesAt class p (Some turn) = (turn.class ≡ class) × IsInside turn.corners p
 abbrev pub IsStoredOn : Shape → List Grid → StoredPlace → Type 0
 IsStoredOn shape grids s = (s.class < length grids) × IsPlacedOn shape (placement_in grids s)
 
--- what is known of all stored places: they are in order
+-- what is known of all stored places: they are in order, and no two of their rectangles of cells are one
 pub record AreStoredOn (shape : Shape) (grids : List Grid) (stored : List StoredPlace) : Type 0 where
   pub each : All (IsStoredOn shape grids) stored
   pub ordered : AllPairs IsBefore (map (placement_in grids) stored)
+  pub different : AreDistinct grids

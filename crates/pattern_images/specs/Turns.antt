@@ -9,7 +9,7 @@ use Rattle.pattern_images.specs.declared.query.Query.{Query}
 use Rattle.pattern_images.specs.Pattern.{grid_of}
 use Rattle.pattern_images.specs.declared.turn.Turn.{Turn}
 use Rattle.pattern_images.specs.Grid.{Grid}
-use Rattle.pattern_images.specs.ImageList.{grid_at}
+use Rattle.pattern_images.specs.ImageList.{grid_at, AreDistinct}
 use Rattle.pattern_images.specs.Placements.{Placement, IsResult}
 use Rattle.pattern_images.specs.Query.{IsForBoard, IsBasePlace}
 
@@ -43,10 +43,6 @@ pub record IsTurnOf (query : Query) (shape : Shape) (grids : List Grid) (number 
 abbrev pub IsTurn : Query → Shape → List Grid → ℕ → Option Turn → Type 0
 IsTurn query shape grids label None = (p : Placement) → p.label ≡ label → ¬ IsResult query shape p
 IsTurn query shape grids label (Some turn) = IsTurnOf query shape grids label turn
-
--- no two rectangles of cells are one
-abbrev pub AreDistinct : List Grid → Type 0
-AreDistinct grids = (i j : ℕ) → i < length grids → j < length grids → grid_at grids i ≡ grid_at grids j → i ≡ j
 
 -- the turn at each place is that of the label with this number
 pub record AreTurns (query : Query) (shape : Shape) (grids : List Grid) (turns : List (Option Turn)) : Type 0 where

@@ -12,6 +12,10 @@ pub enum PatternCell {
     Empty,
     Black,
     White,
+    /// A black stone or none.
+    NotWhite,
+    /// A white stone or none.
+    NotBlack,
     /// Nothing: a wildcard.
     Any,
 }
@@ -19,7 +23,7 @@ pub enum PatternCell {
 impl PatternCell {
     ghost use Rattle.pattern_images.specs.Grid.{exchanged_cell};
 
-    /// Black for white and white for black. Empty cells and wildcards stay.
+    /// Black for white and white for black, and the same where no stone may stand too. Empty cells and wildcards stay.
     pub fn exchanged(self) -> Self
         ensures { result ≡ exchanged_cell self }
     {
@@ -27,6 +31,8 @@ impl PatternCell {
             PatternCell::Empty => PatternCell::Empty,
             PatternCell::Black => PatternCell::White,
             PatternCell::White => PatternCell::Black,
+            PatternCell::NotWhite => PatternCell::NotBlack,
+            PatternCell::NotBlack => PatternCell::NotWhite,
             PatternCell::Any => PatternCell::Any,
         }
     }

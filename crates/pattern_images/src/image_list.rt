@@ -12,8 +12,8 @@ use std::marker::Model;
 /// least label. See [`images`](crate::images).
 ///
 /// The cells of a placement are one of at most 16 rectangles of cells, here called classes: one for each different
-/// way in which the pattern can be turned and its colours exchanged. Placements of one class differ only in where
-/// they stand, so what follows from their cells can be made once for each class.
+/// way in which the pattern can be turned and its colours exchanged, so no two are equal. Placements of one class
+/// differ only in where they stand, so what follows from their cells can be made once for each class.
 #[derive(Debug, Drop)]
 pub struct Images {
     pub(crate) shape: Shape,

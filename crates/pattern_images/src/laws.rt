@@ -4,8 +4,10 @@ ghost use Rattle.kb_geometry.specs.declared.shape.Shape.{Shape};
 ghost use Rattle.pattern_images.specs.declared.query.Query.{Query};
 ghost use Rattle.pattern_images.specs.Placements.{ArePlacements, Placement};
 
-/// A query has one list of placements only on a board of one shape: that of [`images`](crate::images).
+/// A query has a list of placements on a board of each shape, and one only: that of [`images`](crate::images).
 pub fn a_query_has_one_list_of_placements()
-    ensures { (query : Query) (shape : Shape) (a b : List Placement) →
+    ensures some { (query : Query) (shape : Shape) →
+        (placements : List Placement) × ArePlacements query shape placements }
+    ensures one { (query : Query) (shape : Shape) (a b : List Placement) →
         ArePlacements query shape a → ArePlacements query shape b → a ≡ b }
 {}

@@ -12,6 +12,10 @@ type Asked = ((u8, u8, &'static str), bool, bool, Option<Rect>);
 
 const ANYWHERE: Option<Rect> = None;
 
+const FIFTY_TWO: &str = "....................................................";
+
+const FIFTY_THREE: &str = ".....................................................";
+
 const fn at(x0: u8, y0: u8, x1: u8, y1: u8) -> Option<Rect> {
     Some(Rect { x0, y0, x1, y1 })
 }
@@ -21,6 +25,8 @@ fn cell_of(byte: u8) -> PatternCell {
         b'.' => PatternCell::Empty,
         b'X' => PatternCell::Black,
         b'O' => PatternCell::White,
+        b'x' => PatternCell::NotWhite,
+        b'o' => PatternCell::NotBlack,
         _ => PatternCell::Any,
     }
 }
@@ -30,6 +36,8 @@ fn sign_of(cell: PatternCell) -> char {
         PatternCell::Empty => '.',
         PatternCell::Black => 'X',
         PatternCell::White => 'O',
+        PatternCell::NotWhite => 'x',
+        PatternCell::NotBlack => 'o',
         PatternCell::Any => '*',
     }
 }
@@ -296,6 +304,98 @@ fn patterns_of_one_point_and_of_the_whole_board(rt: HostRuntime) -> Result<(), F
     Ok(())
 }
 
+// An exchange of the colours exchanges the two half wildcards too. Placements whose cells are of different kinds are
+// two, though both hold where the points are empty.
+#[test]
+fn placements_of_half_wildcards(rt: HostRuntime) -> Result<(), Fail> {
+    let cases = [
+        (
+            (2u8, 1u8),
+            ((1u8, 1u8, "x"), false, true, ANYWHERE),
+            "0 0 0 1x1 x, 0 0 8 1x1 o, 1 0 0 1x1 x, 1 0 8 1x1 o",
+        ),
+        (
+            (2, 1),
+            ((1, 1, "o"), false, false, ANYWHERE),
+            "0 0 0 1x1 o, 0 0 8 1x1 x, 1 0 0 1x1 o, 1 0 8 1x1 x",
+        ),
+        (
+            (2, 1),
+            ((1, 1, "x"), true, false, ANYWHERE),
+            "0 0 0 1x1 x, 1 0 0 1x1 x",
+        ),
+        (
+            (1, 1),
+            ((1, 1, "x"), false, false, ANYWHERE),
+            "0 0 0 1x1 x, 0 0 8 1x1 o",
+        ),
+        (
+            (2, 1),
+            ((2, 1, "xo"), false, true, ANYWHERE),
+            "0 0 0 2x1 xo, 0 0 8 2x1 ox",
+        ),
+        ((2, 1), ((2, 1, "xo"), true, true, ANYWHERE), "0 0 0 2x1 xo"),
+        // The exchange of the colours gives the mirror image.
+        (
+            (2, 1),
+            ((2, 1, "xo"), false, false, ANYWHERE),
+            "0 0 0 2x1 xo, 0 0 1 2x1 ox",
+        ),
+        (
+            (2, 2),
+            ((2, 2, "xoox"), false, false, ANYWHERE),
+            "0 0 0 2x2 xoox, 0 0 1 2x2 oxxo",
+        ),
+        // Beside cells of other kinds.
+        (
+            (2, 1),
+            ((2, 1, "Xo"), false, false, ANYWHERE),
+            "0 0 0 2x1 Xo, 0 0 1 2x1 oX, 0 0 8 2x1 Ox, 0 0 9 2x1 xO",
+        ),
+        (
+            (3, 1),
+            ((3, 1, "x.*"), false, false, ANYWHERE),
+            "0 0 0 3x1 x.*, 0 0 1 3x1 *.x, 0 0 8 3x1 o.*, 0 0 9 3x1 *.o",
+        ),
+    ];
+    for (board, asked, wanted) in cases {
+        let found = placed(&rt, rt.alloc(), board, asked)?;
+        assert_eq!(rt; found.as_str(), wanted, "{} by {}", board.0, board.1);
+    }
+    Ok(())
+}
+
+// A pattern as large as the greatest board: a black stone on its upper left point, and nothing asked of the others.
+// Its images have a stone in one of the four corners, which is black or white.
+#[test]
+fn a_pattern_of_the_greatest_board(rt: HostRuntime) -> Result<(), Fail> {
+    let asked = ((1u8, 1u8, "X"), false, false, ANYWHERE);
+    let mut query = query_of(&rt, rt.alloc(), asked)?;
+    let mut cells = cells_of(rt.alloc(), "X")?;
+    for _ in 1..2_704 {
+        cells.push(PatternCell::Any)?;
+    }
+    query.pattern = Pattern::new(52, 52, cells).expect(&rt, "52 by 52 cells");
+    let shape = Shape::new(52, 52).expect(&rt, "the greatest board");
+    let found = images(rt.alloc(), &query, shape)?;
+    assert_eq!(rt; (found.class_count(), found.len()), (8, 8));
+    let labels = [0u8, 1, 2, 3, 8, 9, 10, 11];
+    assert_eq!(rt; labels_of(&found), labels.map(Some));
+    let corners = [
+        (0usize, 0u8, 0u8, PatternCell::Black),
+        (1, 51, 0, PatternCell::Black),
+        (2, 0, 51, PatternCell::Black),
+        (3, 51, 51, PatternCell::Black),
+        (4, 0, 0, PatternCell::White),
+        (7, 51, 51, PatternCell::White),
+        (7, 0, 0, PatternCell::Any),
+    ];
+    for (i, dx, dy, cell) in corners {
+        assert_eq!(rt; cell_at(&found, i, dx, dy), Some(cell), "{i}");
+    }
+    Ok(())
+}
+
 #[test]
 fn a_query_for_a_board_has_no_placement_on_others(rt: HostRuntime) -> Result<(), Fail> {
     let cases = [(2u8, 1u8, 2usize), (1, 2, 0), (2, 2, 0), (19, 19, 0)];
@@ -359,9 +459,10 @@ fn a_pattern_has_a_cell_for_each_point(rt: HostRuntime) -> Result<(), Fail> {
         (2, 1, "XO.", false),
         (0, 1, "", false),
         (1, 0, "", false),
-        (1, 19, "...................", true),
-        (1, 20, "....................", false),
-        (20, 1, "....................", false),
+        (1, 52, FIFTY_TWO, true),
+        (52, 1, FIFTY_TWO, true),
+        (1, 53, FIFTY_THREE, false),
+        (53, 1, FIFTY_THREE, false),
     ];
     for (cols, rows, cells, made) in cases {
         let pattern = Pattern::new(cols, rows, cells_of(rt.alloc(), cells)?);

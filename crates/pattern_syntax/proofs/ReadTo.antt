@@ -1,7 +1,6 @@
 -- What one more byte does to what was read, in the words of the reader's functions.
 use Rattle.std.proofs.Common.{◌≡◌, ◌≢◌, ◌⊎◌, inl, inr, ℕ, ◌+◌, ◌<◌, ◌≤◌, List, [], ◌∷◌, ◌++◌, Some, Err, Result, length, get_or, sym, ap, ◌∙◌, subst, arith}
 use Rattle.kb_geometry.specs.declared.shape.Shape.{Shape}
-use Rattle.kb_geometry.specs.declared.shape.TheConstants.{MAX_SIDE}
 use Rattle.kb_geometry.specs.Board.{cols_of, rows_of}
 use Rattle.pattern_images.specs.declared.cell.PatternCell.{PatternCell}
 use Rattle.pattern_images.specs.declared.pattern.Pattern.{Pattern}
@@ -10,7 +9,7 @@ use Rattle.pattern_syntax.specs.declared.fault.PatternFault.{PatternFault}
 use Rattle.pattern_syntax.specs.declared.fault.PatternError.{PatternError}
 use Rattle.pattern_syntax.specs.declared.fault.PatternError.TheVariants.{Fault}
 use Rattle.pattern_syntax.specs.declared.progress.Progress.{Progress}
-use Rattle.pattern_syntax.specs.Text.{cell_byte, Spells}
+use Rattle.pattern_syntax.specs.Text.{cell_byte, SpellsPattern}
 use Rattle.pattern_syntax.specs.Faults.{HasSlash, HasFault, IsFirstFault}
 use Rattle.pattern_syntax.specs.Reading.{HasRows, IsReadTo, closed_rows, closed_cols}
 use Rattle.pattern_syntax.proofs.Rows.{EndsRow, no_slash}
@@ -19,7 +18,7 @@ use Rattle.pattern_syntax.proofs.Reading.{all_rows-spell, faultless-more}
 
 -- the row that is begun can't be closed, and why
 abbrev pub IsUneven : Progress → Type 0
-IsUneven progress = (progress.width ≡ 0) ⊎ (MAX_SIDE < progress.width) ⊎ ((0 < closed_rows progress.closed) × (closed_cols progress.closed ≢ progress.width))
+IsUneven progress = (progress.width ≡ 0) ⊎ (52 < progress.width) ⊎ ((0 < closed_rows progress.closed) × (closed_cols progress.closed ≢ progress.width))
 
 -- it can be closed, and what then is the size of all rows
 abbrev pub IsSizeOf : Progress → Shape → Type 0
@@ -31,21 +30,21 @@ module _ (text : List ℕ) (k : ℕ) (progress : Progress) (cells : List Pattern
   fault_at_end ends (inr (inl long)) = absurd (omega (arith, read.rows.short))
   fault_at_end ends (inr (inr other)) = fault-uneven text k _ _ _ cells read.rows ends other.0 other.1
 
-  pub fault_of_length : (c : PatternCell) → k < length text → get_or text k 0 ≡ cell_byte c → MAX_SIDE ≤ progress.width → HasFault text k
+  pub fault_of_length : (c : PatternCell) → k < length text → get_or text k 0 ≡ cell_byte c → 52 ≤ progress.width → HasFault text k
   fault_of_length c lt is full =
       fault-long text k _ _ _ cells read.rows (λ ends. elim ends [ inl e ↦ omega arith | inr there ↦ no_slash text k c is there ]) (omega (arith, read.rows.short))
 
-  pub read-cell : (c : PatternCell) → k < length text → get_or text k 0 ≡ cell_byte c → progress.width < MAX_SIDE →
+  pub read-cell : (c : PatternCell) → k < length text → get_or text k 0 ≡ cell_byte c → progress.width < 52 →
       IsReadTo text (k + 1) (record { closed = progress.closed; width = progress.width + 1 }) (cells ++ c ∷ [])
   read-cell c lt is room = record {
     rows = more-cell text k _ _ _ cells read.rows c lt is room;
     faultless = faultless-more text k read.faultless (clean-cell text k _ _ _ cells read.rows c lt is room);
   }
 
-  pub read-slash : (size : Shape) → IsSizeOf progress size → HasSlash text k → rows_of size ≢ MAX_SIDE → IsReadTo text (k + 1) (record { closed = Some size; width = 0 }) cells
+  pub read-slash : (size : Shape) → IsSizeOf progress size → HasSlash text k → rows_of size ≢ 52 → IsReadTo text (k + 1) (record { closed = Some size; width = 0 }) cells
   read-slash size is there other =
       let closed : HasRows text k (closed_rows progress.closed) progress.width progress.width cells = evened text k _ _ _ cells read.rows is.2 in
-      let few : closed_rows progress.closed + 1 < MAX_SIDE = omega (arith, is.0, read.rows.few) in
+      let few : closed_rows progress.closed + 1 < 52 = omega (arith, is.0, read.rows.few) in
       let some : 0 < progress.width = omega (arith, is.1, size.in_range.0) in
       record {
         rows =
@@ -57,12 +56,12 @@ module _ (text : List ℕ) (k : ℕ) (progress : Progress) (cells : List Pattern
   pub first_fault : HasFault text k → IsFirstFault text k
   first_fault fault = record { here = fault; none_before = read.faultless }
 
-  pub spells-size : (size : Shape) → IsSizeOf progress size → k ≡ length text → Spells text (record { cols = cols_of size; rows = rows_of size; cells = cells })
+  pub spells-size : (size : Shape) → IsSizeOf progress size → k ≡ length text → SpellsPattern text (record { cols = cols_of size; rows = rows_of size; cells = cells })
   spells-size size is end =
       let closed : HasRows text k (closed_rows progress.closed) progress.width progress.width cells = evened text k _ _ _ cells read.rows is.2 in
       let some : 0 < progress.width = omega (arith, is.1, size.in_range.0) in
-      subst (λ n. Spells text (record { cols = cols_of size; rows = n; cells = cells })) (sym is.0)
-      (subst (λ n. Spells text (record { cols = n; rows = closed_rows progress.closed + 1; cells = cells })) (sym is.1)
+      subst (λ n. SpellsPattern text (record { cols = cols_of size; rows = n; cells = cells })) (sym is.0)
+      (subst (λ n. SpellsPattern text (record { cols = n; rows = closed_rows progress.closed + 1; cells = cells })) (sym is.1)
       (all_rows-spell text _ _ cells (subst (λ n. HasRows text n (closed_rows progress.closed) progress.width progress.width cells) end closed) some))
 
 -- ---- what the reader answers
@@ -73,9 +72,9 @@ pub answered : (text : List ℕ) (k : ℕ) (f : PatternFault) → IsFirstFault t
 answered text k f first is = let same : k ≡ f.column = cc in subst (IsFirstFault text) same first
 
 -- and the pattern has the size and the cells that were read
-pub spells-made : (text : List ℕ) (grid : Grid) (cols rows : ℕ) (size : Shape) (cells : List PatternCell) → Spells text (record { cols = cols_of size; rows = rows_of size; cells = cells }) →
-    cols ≡ cols_of size → rows ≡ rows_of size → grid ≡ record { cols = cols; rows = rows; cells = cells } → Spells text grid
+pub spells-made : (text : List ℕ) (grid : Grid) (cols rows : ℕ) (size : Shape) (cells : List PatternCell) → SpellsPattern text (record { cols = cols_of size; rows = rows_of size; cells = cells }) →
+    cols ≡ cols_of size → rows ≡ rows_of size → grid ≡ record { cols = cols; rows = rows; cells = cells } → SpellsPattern text grid
 spells-made text grid cols rows size cells spells same_cols same_rows made =
-    subst (λ (g : Grid). Spells text g)
+    subst (λ (g : Grid). SpellsPattern text g)
     (sym (made ∙ ap (λ n. record { cols = n; rows = rows; cells = cells }) same_cols ∙ ap (λ n. record { cols = cols_of size; rows = n; cells = cells }) same_rows))
     spells

@@ -1,11 +1,10 @@
 -- Reading a text byte by byte ends at its first fault, or with the pattern that it spells.
 use Rattle.std.proofs.Common.{◌≡◌, ◌⊎◌, inl, inr, ℕ, zero, suc, ◌+◌, ◌*◌, ◌<◌, List, [], ◌∷◌, ◌++◌, length, get_or, sym, ◌∙◌, subst, arith}
 use Rattle.std.proofs.lemmas.Bool.{cases_eq, cases_lt}
-use Rattle.kb_geometry.specs.declared.shape.TheConstants.{MAX_SIDE}
 use Rattle.pattern_images.specs.declared.cell.PatternCell.{PatternCell}
 use Rattle.pattern_images.specs.declared.cell.PatternCell.TheVariants as cell
 use Rattle.pattern_images.specs.Grid.{Grid}
-use Rattle.pattern_syntax.specs.Text.{slash, cell_byte, Spells}
+use Rattle.pattern_syntax.specs.Text.{slash, cell_byte, SpellsPattern}
 use Rattle.pattern_syntax.specs.Faults.{HasFault, IsFirstFault}
 use Rattle.pattern_syntax.specs.Faults.HasFault.{unknown_byte}
 use Rattle.pattern_syntax.specs.Reading.{HasRows}
@@ -35,7 +34,7 @@ whole_grid rows width cells = record { cols = width; rows = rows + 1; cells = ce
 
 -- at the end of the text, that pattern is the one that the text spells
 pub all_rows-spell : (text : List ℕ) (rows width : ℕ) (cells : List PatternCell) → HasRows text (length text) rows width width cells → 0 < width →
-    Spells text (whole_grid rows width cells)
+    SpellsPattern text (whole_grid rows width cells)
 all_rows-spell text rows width cells h some =
     let grid : Grid = whole_grid rows width cells in
     let laid_out : IsLaidOut text grid = record {
@@ -55,7 +54,7 @@ all_rows-spell text rows width cells h some =
 
 -- what is found of a text
 abbrev pub SpellsOrFails : List ℕ → Type 0
-SpellsOrFails text = ((grid : Grid) × Spells text grid) ⊎ ((k : ℕ) × IsFirstFault text k × (k < MAX_SIDE * (MAX_SIDE + 1)))
+SpellsOrFails text = ((grid : Grid) × SpellsPattern text grid) ⊎ ((k : ℕ) × IsFirstFault text k × (k < 52 * 53))
 
 -- the bytes before this one have no fault
 abbrev pub IsFaultlessTo : List ℕ → ℕ → Type 0
@@ -78,17 +77,17 @@ spells_or_fails_from (suc n) text k rows cols width cells all h before =
     elim (cases_eq (get_or text k 0) slash) [
       | inl is ↦ elim (row_or_fault text k rows cols width cells h (inr (lt, is))) [
         | inr fault ↦ fails fault
-        | inl row ↦ elim (cases_eq (rows + 1) MAX_SIDE) [
+        | inl row ↦ elim (cases_eq (rows + 1) 52) [
           | inl last ↦ fails (fault-many text k rows cols width cells h (lt, is) last)
           | inr more ↦
-              let few : rows + 1 < MAX_SIDE = omega (arith, h.few) in
+              let few : rows + 1 < 52 = omega (arith, h.few) in
               spells_or_fails_from n text (k + 1) (rows + 1) width 0 cells (omega arith) (more-row text k rows width cells row.1 (lt, is) few)
               (faultless-more text k before (clean-end text k rows width cells row.1 (inr (lt, is)) row.0 (λ there. few)))
         ]
       ]
       | inr other ↦ elim (cell_or_none (get_or text k 0)) [
         | inr none ↦ fails (unknown_byte lt (λ known. elim known [ inl is ↦ other is | inr a_cell ↦ none a_cell.0 a_cell.1 ]))
-        | inl a_cell ↦ elim (cases_lt width MAX_SIDE) [
+        | inl a_cell ↦ elim (cases_lt width 52) [
           | inl room ↦
               spells_or_fails_from n text (k + 1) rows cols (width + 1) (cells ++ a_cell.0 ∷ []) (omega arith) (more-cell text k rows cols width cells h a_cell.0 lt (sym a_cell.1) room)
               (faultless-more text k before (clean-cell text k rows cols width cells h a_cell.0 lt (sym a_cell.1) room))
@@ -108,11 +107,11 @@ first_fault-one text j k one other = elim (cases_lt j k) [
   | inr ge ↦ elim (cases_lt k j) [ inl lt ↦ absurd (one.none_before k lt other.here) | inr le ↦ omega arith ]
 ]
 
-pub first_fault-near : (text : List ℕ) (k : ℕ) → IsFirstFault text k → k < MAX_SIDE * (MAX_SIDE + 1)
+pub first_fault-near : (text : List ℕ) (k : ℕ) → IsFirstFault text k → k < 52 * 53
 first_fault-near text k first = elim (spells_or_fails text) [
   | inl spelled ↦ absurd (spelled-faultless text spelled.0 spelled.1 k first.here)
-  | inr found ↦ subst (λ n. n < MAX_SIDE * (MAX_SIDE + 1)) (first_fault-one text found.0 k found.1 first) found.2
+  | inr found ↦ subst (λ n. n < 52 * 53) (first_fault-one text found.0 k found.1 first) found.2
 ]
 
-pub faultless-spells : (text : List ℕ) → ((k : ℕ) → ¬ HasFault text k) → (grid : Grid) × Spells text grid
+pub faultless-spells : (text : List ℕ) → ((k : ℕ) → ¬ HasFault text k) → (grid : Grid) × SpellsPattern text grid
 faultless-spells text none = elim (spells_or_fails text) [ inl spelled ↦ spelled | inr found ↦ absurd (none found.0 found.1.here) ]

@@ -9,7 +9,7 @@ use Rattle.std.proofs.lemmas.List.Sums.{count_by_more_yes, count_by_more_no}
 use Rattle.pattern_images.specs.declared.cell.PatternCell.{PatternCell}
 use Rattle.pattern_images.specs.declared.cell.PatternCell.TheVariants as cell
 use Rattle.pattern_images.specs.Grid.{Grid, cell_in}
-use Rattle.pattern_syntax.specs.Text.{slash, cell_byte, Spells}
+use Rattle.pattern_syntax.specs.Text.{slash, cell_byte, SpellsPattern}
 use Rattle.pattern_syntax.specs.Faults.{HasFault, slashes_before}
 use Rattle.pattern_syntax.specs.Faults.HasFault.{unknown_byte, empty_row, uneven_row, long_row, many_rows}
 use Rattle.pattern_syntax.specs.Reading.{HasRows}
@@ -18,7 +18,7 @@ use Rattle.pattern_syntax.proofs.Rows.{EndsRow, ends-within}
 use Rattle.pattern_syntax.proofs.Steps.{clean-cell, clean-end}
 use Rattle.pattern_syntax.proofs.TextBytes.{IsLaidOut, pattern_text-laid_out, offset-place, not_last}
 
-pub laid_out : (text : List ℕ) (grid : Grid) → Spells text grid → IsLaidOut text grid
+pub laid_out : (text : List ℕ) (grid : Grid) → SpellsPattern text grid → IsLaidOut text grid
 laid_out text grid spells = subst (λ t. IsLaidOut t grid) (sym spells.same) (pattern_text-laid_out grid (omega (arith, spells.rows)))
 
 -- ---- one pattern
@@ -64,7 +64,7 @@ same_cells text a b one two some cols rows count_a count_b = same_lists a.cells 
     let same : get_or a.cells k cell.Any ≡ get_or b.cells k cell.Any = same_cell_at text a b one two cols rows place.0 place.1 k place.2 place.3 place.4 in
     get_or_default a.cells k d cell.Any lt ∙ same ∙ get_or_default b.cells k cell.Any d (subst (λ n. k < n) (count_a ∙ sym count_b) lt))
 
-pub spells-one : (text : List ℕ) (a b : Grid) → Spells text a → Spells text b → a ≡ b
+pub spells-one : (text : List ℕ) (a b : Grid) → SpellsPattern text a → SpellsPattern text b → a ≡ b
 spells-one text a b one two =
     let first : IsLaidOut text a = laid_out text a one in
     let second : IsLaidOut text b = laid_out text b two in
@@ -89,7 +89,7 @@ fault-within text k (uneven_row first from one row other) = ends-within text k r
 fault-within text k (long_row from to row at before) = omega (arith, ends-within text to row.ends)
 fault-within text k (many_rows there last) = omega (arith, there.0)
 
-module _ (text : List ℕ) (grid : Grid) (spells : Spells text grid) where
+module _ (text : List ℕ) (grid : Grid) (spells : SpellsPattern text grid) where
   is_laid_out : IsLaidOut text grid
   is_laid_out = laid_out text grid spells
 

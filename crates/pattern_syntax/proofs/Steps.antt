@@ -5,7 +5,6 @@ use Rattle.std.proofs.lemmas.Bool.Decides.{nat_tests}
 use Rattle.std.proofs.lemmas.Nat.{mul-add-lt, mul-le}
 use Rattle.std.proofs.lemmas.List.{get_or_append_left, get_or_push, length_push}
 use Rattle.std.proofs.lemmas.List.Sums.{count_by_more_yes, count_by_more_no}
-use Rattle.kb_geometry.specs.declared.shape.TheConstants.{MAX_SIDE}
 use Rattle.pattern_images.specs.declared.cell.PatternCell.{PatternCell}
 use Rattle.pattern_images.specs.declared.cell.PatternCell.TheVariants as cell
 use Rattle.pattern_syntax.specs.Text.{slash, cell_byte}
@@ -31,7 +30,7 @@ module _ (text : List ℕ) (k rows cols width : ℕ) (cells : List PatternCell) 
       uneven_row cols (rows * (cols + 1)) (first_closed text k rows cols width cells h some) row (λ e. other (omega (arith, h.place)))
 
   -- it has one more byte than it may have
-  pub fault-long : ¬ EndsRow text k → width ≡ MAX_SIDE → HasFault text k
+  pub fault-long : ¬ EndsRow text k → width ≡ 52 → HasFault text k
   fault-long goes_on full =
       let end = row_end (length text - k) text k (omega (arith, h.within)) in
       let row : IsRow text (rows * (cols + 1)) end.0 = begun-row text k rows cols width cells h end.0 end.1 end.2 end.3 in
@@ -39,12 +38,12 @@ module _ (text : List ℕ) (k rows cols width : ℕ) (cells : List PatternCell) 
       long_row (rows * (cols + 1)) end.0 row (omega (arith, h.place)) behind
 
   -- there may be no row behind the `/`
-  pub fault-many : HasSlash text k → rows + 1 ≡ MAX_SIDE → HasFault text k
+  pub fault-many : HasSlash text k → rows + 1 ≡ 52 → HasFault text k
   fault-many there last = many_rows there (omega (arith, h.slashes))
 
   -- ---- bytes without a fault
 
-  pub clean-cell : (c : PatternCell) → k < length text → get_or text k 0 ≡ cell_byte c → width < MAX_SIDE → ¬ HasFault text k
+  pub clean-cell : (c : PatternCell) → k < length text → get_or text k 0 ≡ cell_byte c → width < 52 → ¬ HasFault text k
   clean-cell c lt is room (unknown_byte below unknown) = unknown (inr (c, sym is))
   clean-cell c lt is room (empty_row row) = elim row.ends [ inl e ↦ omega arith | inr there ↦ no_slash text k c is there ]
   clean-cell c lt is room (uneven_row first from one row other) = elim row.ends [ inl e ↦ omega arith | inr there ↦ no_slash text k c is there ]
@@ -65,7 +64,7 @@ module _ (text : List ℕ) (k rows width : ℕ) (cells : List PatternCell) (h : 
     | inr some ↦ first_closed text k rows width width cells h (omega arith)
   ]
 
-  pub clean-end : EndsRow text k → 0 < width → (HasSlash text k → rows + 1 < MAX_SIDE) → ¬ HasFault text k
+  pub clean-end : EndsRow text k → 0 < width → (HasSlash text k → rows + 1 < 52) → ¬ HasFault text k
   clean-end ends some few (unknown_byte below unknown) = elim ends [ inl e ↦ omega arith | inr there ↦ unknown (inl there.1) ]
   clean-end ends some few (empty_row row) =
       let same : k ≡ rows * (width + 1) = row_from text k rows width width cells h k k row (omega arith) (omega arith) in
@@ -77,7 +76,7 @@ module _ (text : List ℕ) (k rows width : ℕ) (cells : List PatternCell) (h : 
   clean-end ends some few (long_row from to row at before) =
       let le : to ≤ k = ends-last text k from to row ends (omega arith) in
       omega arith
-  clean-end ends some few (many_rows there last) = let lt : rows + 1 < MAX_SIDE = few there in omega (arith, h.slashes)
+  clean-end ends some few (many_rows there last) = let lt : rows + 1 < 52 = few there in omega (arith, h.slashes)
 
 -- ---- one more byte
 
@@ -115,7 +114,7 @@ evened text k rows cols width cells h (inl none) =
     }
 
 module _ (text : List ℕ) (k rows cols width : ℕ) (cells : List PatternCell) (h : HasRows text k rows cols width cells) where
-  pub more-cell : (c : PatternCell) → k < length text → get_or text k 0 ≡ cell_byte c → width < MAX_SIDE → HasRows text (k + 1) rows cols (width + 1) (cells ++ c ∷ [])
+  pub more-cell : (c : PatternCell) → k < length text → get_or text k 0 ≡ cell_byte c → width < 52 → HasRows text (k + 1) rows cols (width + 1) (cells ++ c ∷ [])
   more-cell c lt is room = record {
     place = omega (arith, h.place);
     within = omega arith;
@@ -134,7 +133,7 @@ module _ (text : List ℕ) (k rows cols width : ℕ) (cells : List PatternCell) 
   }
 
 module _ (text : List ℕ) (k rows width : ℕ) (cells : List PatternCell) (h : HasRows text k rows width width cells) where
-  pub more-row : HasSlash text k → rows + 1 < MAX_SIDE → HasRows text (k + 1) (rows + 1) width 0 cells
+  pub more-row : HasSlash text k → rows + 1 < 52 → HasRows text (k + 1) (rows + 1) width 0 cells
   more-row there few = record {
     place = omega (arith, h.place);
     within = omega arith;
@@ -155,6 +154,6 @@ module _ (text : List ℕ) (k rows width : ℕ) (cells : List PatternCell) (h : 
   }
 
 -- what was read is short
-pub near : (text : List ℕ) (k rows cols width : ℕ) (cells : List PatternCell) → HasRows text k rows cols width cells → k < MAX_SIDE * (MAX_SIDE + 1)
+pub near : (text : List ℕ) (k rows cols width : ℕ) (cells : List PatternCell) → HasRows text k rows cols width cells → k < 52 * 53
 near text k rows cols width cells h =
-    omega (arith, h.place, h.few, h.narrow, h.short, mul-le rows (cols + 1) (MAX_SIDE - 1) (MAX_SIDE + 1) (omega (arith, h.few)) (omega (arith, h.narrow)))
+    omega (arith, h.place, h.few, h.narrow, h.short, mul-le rows (cols + 1) 51 53 (omega (arith, h.few)) (omega (arith, h.narrow)))

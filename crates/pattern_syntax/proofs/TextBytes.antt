@@ -9,49 +9,49 @@ use Rattle.pattern_images.specs.Grid.{Grid, cell_in}
 use Rattle.pattern_syntax.specs.Text.{slash, cell_byte, row_text, pattern_text}
 
 -- pieces with `/` between each two
-abbrev pub joined : (ℕ → List ℕ) → ℕ → ℕ → List ℕ
-joined f a n = join_with_byte slash (map f (range_with_len a n))
+abbrev pub with_slashes : (ℕ → List ℕ) → ℕ → ℕ → List ℕ
+with_slashes f a n = join_with_byte slash (map f (range_with_len a n))
 
 module _ (f : ℕ → List ℕ) (c : ℕ) (even : (y : ℕ) → length (f y) ≡ c) where
-  length-joined : (a n : ℕ) → length (joined f a (suc n)) + 1 ≡ suc n * (c + 1)
-  length-joined a zero = omega (arith, even a)
-  length-joined a (suc n) = omega (arith, even a, length-append (f a) (slash ∷ joined f (a + 1) (suc n)), length-joined (a + 1) n)
+  length-with_slashes : (a n : ℕ) → length (with_slashes f a (suc n)) + 1 ≡ suc n * (c + 1)
+  length-with_slashes a zero = omega (arith, even a)
+  length-with_slashes a (suc n) = omega (arith, even a, length-append (f a) (slash ∷ with_slashes f (a + 1) (suc n)), length-with_slashes (a + 1) n)
 
   -- the byte behind a piece and its `/` is one of the other pieces
-  behind : (a n p q : ℕ) → p ≡ c + 1 + q → get_or (joined f a (suc (suc n))) p 0 ≡ get_or (joined f (a + 1) (suc n)) q 0
+  behind : (a n p q : ℕ) → p ≡ c + 1 + q → get_or (with_slashes f a (suc (suc n))) p 0 ≡ get_or (with_slashes f (a + 1) (suc n)) q 0
   behind a n p q at =
-      get_or-append_right (f a) (slash ∷ joined f (a + 1) (suc n)) c p 0 (even a) (omega arith)
-      ∙ ap (λ i. get_or (slash ∷ joined f (a + 1) (suc n)) i 0) (let e : p - c ≡ suc q = omega arith in e)
+      get_or-append_right (f a) (slash ∷ with_slashes f (a + 1) (suc n)) c p 0 (even a) (omega arith)
+      ∙ ap (λ i. get_or (slash ∷ with_slashes f (a + 1) (suc n)) i 0) (let e : p - c ≡ suc q = omega arith in e)
 
-  get_or-joined : (a n x y p : ℕ) → x < c → y < n → p ≡ y * (c + 1) + x → get_or (joined f a n) p 0 ≡ get_or (f (a + y)) x 0
-  get_or-joined a zero x y p column row at = absurd (omega arith)
-  get_or-joined a (suc zero) x y p column row at =
+  get_or-with_slashes : (a n x y p : ℕ) → x < c → y < n → p ≡ y * (c + 1) + x → get_or (with_slashes f a n) p 0 ≡ get_or (f (a + y)) x 0
+  get_or-with_slashes a zero x y p column row at = absurd (omega arith)
+  get_or-with_slashes a (suc zero) x y p column row at =
       let none : y ≡ 0 = omega arith in
       let place : p ≡ x = at ∙ ap (λ m. m * (c + 1) + x) none ∙ omega arith in
       ap (λ i. get_or (f a) i 0) place ∙ ap (λ i. get_or (f i) x 0) (omega arith)
-  get_or-joined a (suc (suc n)) x zero p column row at =
-      get_or_append_left (f a) (slash ∷ joined f (a + 1) (suc n)) 0 p (omega (arith, even a))
+  get_or-with_slashes a (suc (suc n)) x zero p column row at =
+      get_or_append_left (f a) (slash ∷ with_slashes f (a + 1) (suc n)) 0 p (omega (arith, even a))
       ∙ ap (λ i. get_or (f a) i 0) (let e : p ≡ x = omega arith in e) ∙ ap (λ i. get_or (f i) x 0) (omega arith)
-  get_or-joined a (suc (suc n)) x (suc y) p column row at =
+  get_or-with_slashes a (suc (suc n)) x (suc y) p column row at =
       behind a n p (y * (c + 1) + x) (omega arith)
-      ∙ get_or-joined (a + 1) (suc n) x y (y * (c + 1) + x) column (omega arith) refl
+      ∙ get_or-with_slashes (a + 1) (suc n) x y (y * (c + 1) + x) column (omega arith) refl
       ∙ ap (λ i. get_or (f i) x 0) (omega arith)
 
-  slash-joined : (a n y p : ℕ) → y + 1 < n → p ≡ y * (c + 1) + c → get_or (joined f a n) p 0 ≡ slash
-  slash-joined a zero y p row at = absurd (omega arith)
-  slash-joined a (suc zero) y p row at = absurd (omega arith)
-  slash-joined a (suc (suc n)) zero p row at =
-      get_or-append_right (f a) (slash ∷ joined f (a + 1) (suc n)) c p 0 (even a) (omega arith)
-      ∙ ap (λ i. get_or (slash ∷ joined f (a + 1) (suc n)) i 0) (let e : p - c ≡ zero = omega arith in e)
-  slash-joined a (suc (suc n)) (suc y) p row at =
-      behind a n p (y * (c + 1) + c) (omega arith) ∙ slash-joined (a + 1) (suc n) y (y * (c + 1) + c) (omega arith) refl
+  slash-with_slashes : (a n y p : ℕ) → y + 1 < n → p ≡ y * (c + 1) + c → get_or (with_slashes f a n) p 0 ≡ slash
+  slash-with_slashes a zero y p row at = absurd (omega arith)
+  slash-with_slashes a (suc zero) y p row at = absurd (omega arith)
+  slash-with_slashes a (suc (suc n)) zero p row at =
+      get_or-append_right (f a) (slash ∷ with_slashes f (a + 1) (suc n)) c p 0 (even a) (omega arith)
+      ∙ ap (λ i. get_or (slash ∷ with_slashes f (a + 1) (suc n)) i 0) (let e : p - c ≡ zero = omega arith in e)
+  slash-with_slashes a (suc (suc n)) (suc y) p row at =
+      behind a n p (y * (c + 1) + c) (omega arith) ∙ slash-with_slashes (a + 1) (suc n) y (y * (c + 1) + c) (omega arith) refl
 
 -- one piece more
-pub joined-more : (f : ℕ → List ℕ) (a n b : ℕ) → a + suc n ≡ b → joined f a (suc n) ++ slash ∷ f b ≡ joined f a (suc (suc n))
-joined-more f a zero b at = ap (λ i. f a ++ slash ∷ f i) (sym at)
-joined-more f a (suc n) b at =
-    append_assoc (f a) (slash ∷ joined f (a + 1) (suc n)) (slash ∷ f b)
-    ∙ ap (λ rest. f a ++ slash ∷ rest) (joined-more f (a + 1) n b (omega arith))
+pub with_slashes-more : (f : ℕ → List ℕ) (a n b : ℕ) → a + suc n ≡ b → with_slashes f a (suc n) ++ slash ∷ f b ≡ with_slashes f a (suc (suc n))
+with_slashes-more f a zero b at = ap (λ i. f a ++ slash ∷ f i) (sym at)
+with_slashes-more f a (suc n) b at =
+    append_assoc (f a) (slash ∷ with_slashes f (a + 1) (suc n)) (slash ∷ f b)
+    ∙ ap (λ rest. f a ++ slash ∷ rest) (with_slashes-more f (a + 1) n b (omega arith))
 
 -- ---- what a printer appends
 
@@ -66,16 +66,16 @@ appended-more f before out new x byte so_far pushed is =
     ∙ ap (λ l. before ++ l) (sym (map-range_with_len_more f 0 x x (omega arith)))
 
 -- one piece more behind a list
-pub joined-appended : (f : ℕ → List ℕ) (before out parted new : List ℕ) (y : ℕ) → 1 ≤ y → out ≡ before ++ joined f 0 y → parted ≡ out ++ slash ∷ [] → new ≡ parted ++ f y →
-    new ≡ before ++ joined f 0 (y + 1)
-joined-appended f before out parted new zero some so_far pushed is = absurd (omega arith)
-joined-appended f before out parted new (suc y) some so_far pushed is =
+pub with_slashes-appended : (f : ℕ → List ℕ) (before out parted new : List ℕ) (y : ℕ) → 1 ≤ y → out ≡ before ++ with_slashes f 0 y → parted ≡ out ++ slash ∷ [] → new ≡ parted ++ f y →
+    new ≡ before ++ with_slashes f 0 (y + 1)
+with_slashes-appended f before out parted new zero some so_far pushed is = absurd (omega arith)
+with_slashes-appended f before out parted new (suc y) some so_far pushed is =
     is
     ∙ ap (λ l. l ++ f (suc y)) (pushed ∙ ap (λ l. l ++ slash ∷ []) so_far)
-    ∙ append_assoc (before ++ joined f 0 (suc y)) (slash ∷ []) (f (suc y))
-    ∙ append_assoc before (joined f 0 (suc y)) (slash ∷ f (suc y))
-    ∙ ap (λ l. before ++ l) (joined-more f 0 y (suc y) (omega arith))
-    ∙ ap (λ n. before ++ joined f 0 n) (let e : suc (suc y) ≡ suc y + 1 = omega arith in e)
+    ∙ append_assoc (before ++ with_slashes f 0 (suc y)) (slash ∷ []) (f (suc y))
+    ∙ append_assoc before (with_slashes f 0 (suc y)) (slash ∷ f (suc y))
+    ∙ ap (λ l. before ++ l) (with_slashes-more f 0 y (suc y) (omega arith))
+    ∙ ap (λ n. before ++ with_slashes f 0 n) (let e : suc (suc y) ≡ suc y + 1 = omega arith in e)
 
 -- The bytes of a text: those of the cells of each row, and a `/` behind each row but the last.
 pub record IsLaidOut (text : List ℕ) (grid : Grid) : Type 0 where
@@ -92,12 +92,12 @@ pattern_text-laid_out grid some = record {
   size =
       let n : ℕ = grid.rows - 1 in
       let all : grid.rows ≡ suc n = omega arith in
-      subst (λ rows. length (joined (row_text grid) 0 rows) + 1 ≡ rows * (grid.cols + 1)) (sym all) (length-joined (row_text grid) grid.cols (length-row_text grid) 0 n);
+      subst (λ rows. length (with_slashes (row_text grid) 0 rows) + 1 ≡ rows * (grid.cols + 1)) (sym all) (length-with_slashes (row_text grid) grid.cols (length-row_text grid) 0 n);
   cells = λ x y column row.
-      get_or-joined (row_text grid) grid.cols (length-row_text grid) 0 grid.rows x y (y * (grid.cols + 1) + x) column row refl
+      get_or-with_slashes (row_text grid) grid.cols (length-row_text grid) 0 grid.rows x y (y * (grid.cols + 1) + x) column row refl
       ∙ ap (λ i. get_or (row_text grid i) x 0) (omega arith)
       ∙ get_or-map-range_with_len (λ x. cell_byte (cell_in grid x y)) 0 grid.cols x x 0 column (omega arith);
-  parted = λ y row. slash-joined (row_text grid) grid.cols (length-row_text grid) 0 grid.rows y (y * (grid.cols + 1) + grid.cols) row refl;
+  parted = λ y row. slash-with_slashes (row_text grid) grid.cols (length-row_text grid) 0 grid.rows y (y * (grid.cols + 1) + grid.cols) row refl;
 }
 
 -- the row and the column of an offset: the column may be that of the `/`

@@ -2,7 +2,6 @@
 -- has its length for an offset.
 use Rattle.std.specs.Prelude.{◌≡◌, ◌≢◌, ℕ, ◌+◌, ◌<◌, ◌≤◌, ◌⊎◌, ◌==◌, List, length, take, slice_index}
 use Rattle.std.specs.List.{count_by}
-use Rattle.kb_geometry.specs.declared.shape.TheConstants.{MAX_SIDE}
 use Rattle.pattern_images.specs.declared.cell.PatternCell.{PatternCell}
 use Rattle.pattern_syntax.specs.Text.{slash, cell_byte}
 
@@ -34,10 +33,10 @@ pub data HasFault (text : List ℕ) (k : ℕ) : Type 0 where
   empty_row : IsRow text k k → HasFault text k
   -- the `/` or the end behind a row of another length than the first
   uneven_row : (first from : ℕ) → IsRow text 0 first → IsRow text from k → from + first ≢ k → HasFault text k
-  -- the byte of a row behind its first `MAX_SIDE`
-  long_row : (from to : ℕ) → IsRow text from to → from + MAX_SIDE ≡ k → k < to → HasFault text k
-  -- the `/` before a row that has `MAX_SIDE` rows before it
-  many_rows : HasSlash text k → slashes_before text k + 1 ≡ MAX_SIDE → HasFault text k
+  -- the 53rd byte of a row
+  long_row : (from to : ℕ) → IsRow text from to → from + 52 ≡ k → k < to → HasFault text k
+  -- the `/` before a 53rd row
+  many_rows : HasSlash text k → slashes_before text k + 1 ≡ 52 → HasFault text k
 
 -- The text has a fault at this offset, and none before it.
 pub record IsFirstFault (text : List ℕ) (k : ℕ) : Type 0 where

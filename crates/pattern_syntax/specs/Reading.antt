@@ -1,7 +1,6 @@
 -- Words of the private functions that read a text: what is known of a text once its first bytes were read.
 use Rattle.std.specs.Prelude.{◌≡◌, ℕ, ◌+◌, ◌*◌, ◌<◌, ◌≤◌, List, length, slice_index, slice_index_or, Option, None, Some}
 use Rattle.kb_geometry.specs.declared.shape.Shape.{Shape}
-use Rattle.kb_geometry.specs.declared.shape.TheConstants.{MAX_SIDE}
 use Rattle.kb_geometry.specs.Board.{cols_of, rows_of}
 use Rattle.pattern_images.specs.declared.cell.PatternCell.{PatternCell}
 use Rattle.pattern_images.specs.declared.cell.PatternCell.TheVariants as cell
@@ -14,9 +13,9 @@ use Rattle.pattern_syntax.specs.Faults.{HasFault, slashes_before}
 pub record HasRows (text : List ℕ) (k rows cols width : ℕ) (cells : List PatternCell) : Type 0 where
   pub place : rows * (cols + 1) + width ≡ k
   pub within : k ≤ length text
-  pub few : rows < MAX_SIDE
-  pub narrow : cols ≤ MAX_SIDE
-  pub short : width ≤ MAX_SIDE
+  pub few : rows < 52
+  pub narrow : cols ≤ 52
+  pub short : width ≤ 52
   pub count : length cells ≡ rows * cols + width
   pub closed : (x y : ℕ) → x < cols → y < rows → slice_index text (y * (cols + 1) + x) ≡ cell_byte (slice_index_or cells (y * cols + x) cell.Any)
   pub begun : (x : ℕ) → x < width → slice_index text (rows * (cols + 1) + x) ≡ cell_byte (slice_index_or cells (rows * cols + x) cell.Any)

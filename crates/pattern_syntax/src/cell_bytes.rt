@@ -16,6 +16,8 @@ pub(crate) fn cell_of(byte: u8) -> Option<PatternCell>
         b'.' => Some(PatternCell::Empty),
         b'X' => Some(PatternCell::Black),
         b'O' => Some(PatternCell::White),
+        b'x' => Some(PatternCell::NotWhite),
+        b'o' => Some(PatternCell::NotBlack),
         b'*' => Some(PatternCell::Any),
         _ => None,
     }
@@ -29,6 +31,8 @@ pub(crate) fn byte_of(cell: PatternCell) -> u8
         PatternCell::Empty => b'.',
         PatternCell::Black => b'X',
         PatternCell::White => b'O',
+        PatternCell::NotWhite => b'x',
+        PatternCell::NotBlack => b'o',
         PatternCell::Any => b'*',
     }
 }

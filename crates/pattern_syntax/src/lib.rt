@@ -1,4 +1,4 @@
-//! Pattern texts: the rows of a pattern as `.`, `X`, `O` and `*`, with `/` between.
+//! Pattern texts: the rows of a pattern as `.`, `X`, `O`, `x`, `o` and `*`, with `/` between.
 //!
 //! Stands on pattern_images for patterns, and on kb_geometry. In `specs/` are the words for the text of a pattern, and
 //! for the faults of a text. The layers above use that [`read_pattern`] gives the one pattern that a text spells, or the

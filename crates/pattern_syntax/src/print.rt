@@ -1,18 +1,18 @@
 // From a pattern to its text.
 ghost use Rattle.std.specs.Prelude.{◌≡◌, ◌+◌, ◌<◌, ◌≤◌, ◌++◌, OnOk, OnErr, vec_len, vec_capacity};
 ghost use Rattle.pattern_images.specs.Pattern.{grid_of};
-ghost use Rattle.pattern_syntax.specs.Text.{Spells, pattern_text, row_text};
+ghost use Rattle.pattern_syntax.specs.Text.{SpellsPattern, pattern_text, row_text};
 
 use crate::cell_bytes::{SLASH, byte_of};
 use kb_geometry::NoMemory;
 use pattern_images::Pattern;
 
-/// Appends the text of a pattern: its rows with `/` between, a cell as `.`, `X`, `O` or `*`. It is the one text that
+/// Appends the text of a pattern: its rows with `/` between, a cell as `.`, `X`, `O`, `x`, `o` or `*`. It is the one text that
 /// [`read_pattern`](crate::read_pattern) reads as this pattern. The only error is `NoMemory`, and then `out` is as before.
 pub fn print_pattern(pattern: &Pattern, out: &mut Vec<u8>) -> Result<(), NoMemory>
     ensures ok { OnOk result (out.new.items ≡ out.old.items ++ pattern_text (grid_of pattern.now)) }
     ensures refused { OnErr result (out.new.items ≡ out.old.items) }
-    ensures read_back { Spells (pattern_text (grid_of pattern.now)) (grid_of pattern.now) }
+    ensures read_back { SpellsPattern (pattern_text (grid_of pattern.now)) (grid_of pattern.now) }
 {
     // Room comes first, so that a refusal changes nothing: for the cells of each row, and a `/`.
     let row = usize::from(pattern.cols()) + 1;

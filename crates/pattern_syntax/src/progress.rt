@@ -42,10 +42,12 @@ impl Progress {
     // The size of all rows, with the one that isn't closed as the last one. `None` where that one is empty, or where
     // it isn't as long as the others.
     pub(crate) fn size(self) -> Option<Shape>
-        requires { closed_rows self.closed < MAX_SIDE }
+        requires { closed_rows self.closed < 52 }
         ensures { MatchOption result
-            ((self.width ≡ 0) ⊎ (MAX_SIDE < self.width) ⊎ ((0 < closed_rows self.closed) × (closed_cols self.closed ≢ self.width)))
-            (λ size. (rows_of size ≡ closed_rows self.closed + 1) × (cols_of size ≡ self.width) × ((closed_rows self.closed ≡ 0) ⊎ (closed_cols self.closed ≡ self.width))) }
+            ((self.width ≡ 0) ⊎ (52 < self.width)
+            ⊎ ((0 < closed_rows self.closed) × (closed_cols self.closed ≢ self.width)))
+            (λ size. (rows_of size ≡ closed_rows self.closed + 1) × (cols_of size ≡ self.width)
+            × ((closed_rows self.closed ≡ 0) ⊎ (closed_cols self.closed ≡ self.width))) }
     {
         let rows = match self.closed {
             None => 0,
@@ -61,7 +63,7 @@ impl Progress {
 
     // What the next byte of the text does. `None` where it is a fault.
     pub(crate) fn after(self, byte: u8) -> Option<Step>
-        requires { closed_rows self.closed < MAX_SIDE }
+        requires { closed_rows self.closed < 52 }
         ensures { (text : List ℕ) (k : ℕ) (cells : List PatternCell) → IsReadTo text k self cells → k < length text → slice_index text k ≡ byte →
             MatchOption result (HasFault text k) (λ step. IsReadTo text (k + 1) step.next (cells ++ option_to_list step.cell)) }
     {
@@ -74,7 +76,7 @@ impl Progress {
 
     // What a `/` does.
     fn after_slash(self) -> Option<Step>
-        requires { closed_rows self.closed < MAX_SIDE }
+        requires { closed_rows self.closed < 52 }
         ensures { (text : List ℕ) (k : ℕ) (cells : List PatternCell) → IsReadTo text k self cells → k < length text → slice_index text k ≡ slash →
             MatchOption result (HasFault text k) (λ step. IsReadTo text (k + 1) step.next (cells ++ option_to_list step.cell)) }
     {
@@ -109,7 +111,7 @@ impl Progress {
 
 // The length of a row with one cell more. `None` where it has as many as a row may have.
 fn one_wider(width: u8) -> Option<u8>
-    ensures { MatchOption result (MAX_SIDE ≤ width) (λ wider. (width < MAX_SIDE) × (wider ≡ width + 1)) }
+    ensures { MatchOption result (52 ≤ width) (λ wider. (width < 52) × (wider ≡ width + 1)) }
 {
     if width < MAX_SIDE {
         Some(width + 1)

@@ -1,9 +1,11 @@
 // Texts that spell a pattern and texts that have a fault, worked out by hand from the grammar.
 use crate::{PatternError, PatternFault, print_pattern, read_pattern};
-use kb_geometry::MAX_SIDE;
 use pattern_images::{Pattern, PatternCell};
 use std::alloc::Global;
 use std::test::Fail;
+
+// A row of as many cells as a row may have.
+const LONGEST: &str = "XXXXXXXXXXXXXXXXXXXXXXXXXXXXXXXXXXXXXXXXXXXXXXXXXXXX";
 
 // So many rows of this text, with `/` between.
 fn repeated(alloc: Global, row: &str, rows: u32) -> Result<String, Fail> {
@@ -45,12 +47,17 @@ fn a_pattern_is_read_and_printed_back(rt: HostRuntime) -> Result<(), Fail> {
         ("XO*.", 4, 1),
         ("X/O/*/.", 1, 4),
         ("*.X/O**", 3, 2),
-        (".X.XO.*O.X.*.X.*.X.", 19, 1),
+        ("x", 1, 1),
+        ("o", 1, 1),
+        ("xo/.*", 2, 2),
+        ("X.O*xo", 6, 1),
+        ("x/X/o/O", 1, 4),
         (
-            "XX/XX/XX/XX/XX/XX/XX/XX/XX/XX/XX/XX/XX/XX/XX/XX/XX/XX/XO",
-            2,
-            19,
+            ".X.XO.*O.X.*.X.*.X.xoxxoo.X.XO.*O.X.*.X.*.X.xoxxoo*.",
+            52,
+            1,
         ),
+        (LONGEST, 52, 1),
     ];
     for (text, cols, rows) in cases {
         assert_eq!(rt; size_of(alloc, text)?, Ok((cols, rows)), "{text}");
@@ -60,26 +67,27 @@ fn a_pattern_is_read_and_printed_back(rt: HostRuntime) -> Result<(), Fail> {
 }
 
 #[test]
-fn the_greatest_pattern_is_read_and_printed_back(rt: HostRuntime) -> Result<(), Fail> {
-    let text = repeated(rt.alloc(), "*******************", u32::from(MAX_SIDE))?;
-    assert_eq!(rt; size_of(rt.alloc(), text.as_str())?, Ok((19, 19)));
-    assert_eq!(rt;
-        printed(rt.alloc(), text.as_str())?.as_slice(),
-        text.as_bytes()
-    );
+fn the_greatest_patterns_are_read_and_printed_back(rt: HostRuntime) -> Result<(), Fail> {
+    let cases = [("x", 1u8), ("XO", 2), (LONGEST, 52)];
+    for (row, cols) in cases {
+        let text = repeated(rt.alloc(), row, 52)?;
+        assert_eq!(rt; size_of(rt.alloc(), text.as_str())?, Ok((cols, 52)));
+        let again = printed(rt.alloc(), text.as_str())?;
+        assert_eq!(rt; again.as_slice(), text.as_bytes(), "{cols}");
+    }
     Ok(())
 }
 
 #[test]
 fn cells_stand_in_their_columns_and_rows(rt: HostRuntime) -> Result<(), Fail> {
-    let pattern = read_pattern(rt.alloc(), ".X/O*/XX")?;
+    let pattern = read_pattern(rt.alloc(), ".X/O*/xo")?;
     let cells = [
         (0u8, 0u8, PatternCell::Empty),
         (1, 0, PatternCell::Black),
         (0, 1, PatternCell::White),
         (1, 1, PatternCell::Any),
-        (0, 2, PatternCell::Black),
-        (1, 2, PatternCell::Black),
+        (0, 2, PatternCell::NotWhite),
+        (1, 2, PatternCell::NotBlack),
     ];
     for (x, y, cell) in cells {
         assert!(rt; x < pattern.cols() && y < pattern.rows());
@@ -91,10 +99,12 @@ fn cells_stand_in_their_columns_and_rows(rt: HostRuntime) -> Result<(), Fail> {
 #[test]
 fn the_first_fault_is_answered(rt: HostRuntime) -> Result<(), Fail> {
     let cases = [
-        // A byte that is none of the five.
+        // A byte that is none of the seven.
         ("X?", 1u32),
-        ("x", 0),
-        (".X/o.", 3),
+        ("y", 0),
+        (".X/b.", 3),
+        ("xo0", 2),
+        ("xw", 1),
         (" X", 0),
         ("X ", 1),
         ("X\nX", 1),
@@ -116,21 +126,12 @@ fn the_first_fault_is_answered(rt: HostRuntime) -> Result<(), Fail> {
         ("X/XX", 4),
         ("X/XX/X", 4),
         ("XX/XX/X/XX", 7),
-        // A row's twentieth byte.
-        ("XXXXXXXXXXXXXXXXXXXX", 19),
-        ("XXXXXXXXXXXXXXXXXXX?", 19),
-        ("X/XXXXXXXXXXXXXXXXXXXX", 21),
-        // The `/` before a twentieth row.
-        ("X/X/X/X/X/X/X/X/X/X/X/X/X/X/X/X/X/X/X/X", 37),
-        ("X/X/X/X/X/X/X/X/X/X/X/X/X/X/X/X/X/X/X/", 37),
         // Several faults.
         ("XX/X?", 4),
         ("XX/XXX?", 6),
         ("XX/X/?", 4),
         ("X//?", 2),
         ("?//", 0),
-        ("XXXXXXXXXXXXXXXXXXX/", 20),
-        ("XXXXXXXXXXXXXXXXXXX/X", 21),
     ];
     for (text, column) in cases {
         assert_eq!(rt; size_of(rt.alloc(), text)?, Err(column), "{text}");
@@ -138,13 +139,52 @@ fn the_first_fault_is_answered(rt: HostRuntime) -> Result<(), Fail> {
     Ok(())
 }
 
+// What follows so many rows of so many cells, and where the fault is.
+#[test]
+fn the_first_fault_past_the_bounds_is_answered(rt: HostRuntime) -> Result<(), Fail> {
+    let cases = [
+        // The 53rd byte of a row.
+        (LONGEST, 1u32, "X", 52u32),
+        (LONGEST, 1, "?", 52),
+        (LONGEST, 1, "XX/X", 52),
+        (LONGEST, 2, "o", 105),
+        (
+            "X",
+            1,
+            "/XXXXXXXXXXXXXXXXXXXXXXXXXXXXXXXXXXXXXXXXXXXXXXXXXXXXX",
+            54,
+        ),
+        // The end behind an empty row, and behind one of another length than the first.
+        (LONGEST, 1, "/", 53),
+        (LONGEST, 1, "/X", 54),
+        ("X", 51, "/", 102),
+        ("X", 51, "/XX", 104),
+        // The `/` before a 53rd row.
+        ("X", 52, "/X", 103),
+        ("X", 52, "/", 103),
+        ("X", 52, "//", 103),
+        (LONGEST, 52, "/", 2_755),
+    ];
+    for (row, rows, rest, column) in cases {
+        let mut text = repeated(rt.alloc(), row, rows)?;
+        text.push_str(rest)?;
+        let found = size_of(rt.alloc(), text.as_str())?;
+        assert_eq!(rt; found, Err(column), "{rows} rows and {rest}");
+    }
+    Ok(())
+}
+
 #[test]
 fn a_long_text_has_its_fault_near_the_beginning(rt: HostRuntime) -> Result<(), Fail> {
     let cases = [
-        ("XXXXXXXXXXXXXXXXXXXX", 1_000u32, 19u32),
-        ("X", 20_000, 37),
+        (
+            "XXXXXXXXXXXXXXXXXXXXXXXXXXXXXXXXXXXXXXXXXXXXXXXXXXXXXXX",
+            1_000u32,
+            52u32,
+        ),
+        ("X", 20_000, 103),
         // All that a text may have, and then one row more.
-        ("*******************", 20, 379),
+        (LONGEST, 53, 2_755),
     ];
     for (row, rows, column) in cases {
         let text = repeated(rt.alloc(), row, rows)?;

@@ -5,8 +5,8 @@ use Rattle.std.proofs.lemmas.Bool.{cases_lt, cases_order}
 use Rattle.std.proofs.lemmas.List.{get_or_past}
 use Rattle.std.proofs.lemmas.List.Elements.{All-nil}
 use Rattle.query_script.specs.Lines.{IsLine}
-use Rattle.query_script.specs.Progress.{IsBegun}
-use Rattle.query_script.specs.Script.{IsBadLine, IsFaulty, IsLeastBadLine, IsWithin, block_inside_block, ends_empty_block, ends_no_block, line_at, never_ended, one_search_too_many, spells_nothing, statement_inside_block}
+use Rattle.query_script.specs.Progress.{IsBlockBegun}
+use Rattle.query_script.specs.Script.{IsBadLine, IsFaultyLine, IsLeastBadLine, IsWithin, block_inside_block, ends_empty_block, ends_no_block, line_at, never_ended, one_search_too_many, spells_nothing, statement_inside_block}
 use Rattle.query_script.specs.Statements.{SpellsEnd, SpellsTogether}
 use Rattle.query_script.specs.Words as words
 use Rattle.query_script.specs.Words.{AreWords, IsBlank}
@@ -49,16 +49,16 @@ module _ (lines : List (List ℕ)) where
       (lt_or_same j k within.before)
 
   -- one line more that is not bad
-  pub good_after : (k : ℕ) → ((m : ℕ) → m < k → ¬ IsBadLine lines m) → ¬ IsFaulty lines k → (m : ℕ) → m < k + 1 → ¬ IsBadLine lines m
+  pub good_after : (k : ℕ) → ((m : ℕ) → m < k → ¬ IsBadLine lines m) → ¬ IsFaultyLine lines k → (m : ℕ) → m < k + 1 → ¬ IsBadLine lines m
   good_after k good fine m below bad =
       ⊎_elim (λ before. good m before bad) (λ same. fine (rw same at bad.faulty)) (lt_or_same m k below)
 
   -- a bad line before which none is bad
-  pub least_bad : (k : ℕ) → 1 ≤ k → k ≤ length lines → ((m : ℕ) → m < k → ¬ IsBadLine lines m) → IsFaulty lines k → IsLeastBadLine lines k
+  pub least_bad : (k : ℕ) → 1 ≤ k → k ≤ length lines → ((m : ℕ) → m < k → ¬ IsBadLine lines m) → IsFaultyLine lines k → IsLeastBadLine lines k
   least_bad k from_one to_last good faulty = record { bad = record { from_one = from_one; to_last = to_last; faulty = faulty }; least = good }
 
   -- a skipped line is not bad
-  pub skipped_fine : (k : ℕ) → IsLine (line_at lines k) line.Skipped → ¬ IsFaulty lines k
+  pub skipped_fine : (k : ℕ) → IsLine (line_at lines k) line.Skipped → ¬ IsFaultyLine lines k
   skipped_fine k is (spells_nothing some _ _ _) = some is.0
   skipped_fine k is (ends_no_block ends _) = is.2 ends
   skipped_fine k is (ends_empty_block j ends _ _) = is.2 ends
@@ -68,7 +68,7 @@ module _ (lines : List (List ℕ)) where
   skipped_fine k is (never_ended begins _) = is.1 begins
 
   -- a statement outside blocks is not bad
-  pub alone_fine : (k : ℕ) (s : Statement) → ((j : ℕ) → ¬ IsWithin lines j k) → IsLine (line_at lines k) (line.Statement s) → ¬ IsFaulty lines k
+  pub alone_fine : (k : ℕ) (s : Statement) → ((j : ℕ) → ¬ IsWithin lines j k) → IsLine (line_at lines k) (line.Statement s) → ¬ IsFaultyLine lines k
   alone_fine k s outside is (spells_nothing _ _ _ nothing) = nothing s is.0
   alone_fine k s outside is (ends_no_block ends _) = is.3 ends
   alone_fine k s outside is (ends_empty_block j ends _ _) = is.3 ends
@@ -78,7 +78,7 @@ module _ (lines : List (List ℕ)) where
   alone_fine k s outside is (never_ended begins _) = is.2 begins
 
   -- the first line of a block that has an end is not bad
-  pub ended_fine : (j e : ℕ) → ((i : ℕ) → ¬ IsWithin lines i j) → IsLine (line_at lines j) line.Together → j < e → SpellsEnd (line_at lines e) → ¬ IsFaulty lines j
+  pub ended_fine : (j e : ℕ) → ((i : ℕ) → ¬ IsWithin lines i j) → IsLine (line_at lines j) line.Together → j < e → SpellsEnd (line_at lines e) → ¬ IsFaultyLine lines j
   ended_fine j e outside is behind end (spells_nothing _ other _ _) = other is.0
   ended_fine j e outside is behind end (ends_no_block ends _) = is.2 ends
   ended_fine j e outside is behind end (ends_empty_block i ends _ _) = is.2 ends
@@ -87,13 +87,13 @@ module _ (lines : List (List ℕ)) where
   ended_fine j e outside is behind end (statement_inside_block i s spelled _ _) = is.3 s spelled
   ended_fine j e outside is behind end (never_ended _ none) = none e behind end
 
-  module _ (j k : ℕ) (placed : List Placed) (begun : IsBegun lines j k placed) where
+  module _ (j k : ℕ) (placed : List Placed) (begun : IsBlockBegun lines j k placed) where
     -- each line of the block stands in it, and line k, too
     pub within_begun : (m : ℕ) → j < m → m ≤ k → IsWithin lines j m
     within_begun m after to = record { before = after; begins = begun.begins.0; goes_on = λ n behind below. begun.goes_on n behind (omega arith) }
 
     -- the block goes on behind a line that doesn't end it
-    pub begun_after : ¬ SpellsEnd (line_at lines k) → IsBegun lines j (k + 1) placed
+    pub begun_after : ¬ SpellsEnd (line_at lines k) → IsBlockBegun lines j (k + 1) placed
     begun_after goes_on = record {
       read = begun.read;
       to_last = begun.to_last;
@@ -103,7 +103,7 @@ module _ (lines : List (List ℕ)) where
     }
 
     -- no bad line stands before line m, if none stands in the block before it and the block has an end
-    pub good_before : (m e : ℕ) → ((i : ℕ) → j < i → i < m → ¬ IsFaulty lines i) → j < e → SpellsEnd (line_at lines e) → (i : ℕ) → i < m → ¬ IsBadLine lines i
+    pub good_before : (m e : ℕ) → ((i : ℕ) → j < i → i < m → ¬ IsFaultyLine lines i) → j < e → SpellsEnd (line_at lines e) → (i : ℕ) → i < m → ¬ IsBadLine lines i
     good_before m e good behind end i below bad =
         elim (cases_order i j) [
           | inr (inl before) ↦ begun.read.good i before bad
@@ -118,7 +118,7 @@ module _ (lines : List (List ℕ)) where
         (never_ended begun.begins.0 (λ m after. ⊎_elim (λ before. begun.goes_on m after before) (λ past. none m past) (cases_lt m k)))
 
     -- line k stands in no other block, if no line of this one is bad
-    pub one_block : ((m : ℕ) → j < m → m < k → ¬ IsFaulty lines m) → (i : ℕ) → IsWithin lines i k → i ≡ j
+    pub one_block : ((m : ℕ) → j < m → m < k → ¬ IsFaultyLine lines m) → (i : ℕ) → IsWithin lines i k → i ≡ j
     one_block good i within =
         elim (cases_order i j) [
           | inr (inl before) ↦ absurd (begun.read.outside i (record { before = before; begins = within.begins; goes_on = λ m after below. within.goes_on m after (omega (arith, begun.before)) }))

@@ -11,3 +11,9 @@ pub mod SearchWords
 pub mod PatternWords
 pub mod SearchBodies
 pub mod LineStatements
+pub mod ToldWords
+pub mod OnePattern
+pub mod ToldSearches
+pub mod ToldStatements
+pub mod SomeStatements
+pub mod OneList

@@ -9,7 +9,7 @@ use Rattle.query_script.specs.Lines.{IsLine}
 use Rattle.query_script.specs.Reading.{BeginsWithNoBlank}
 use Rattle.query_script.specs.Script.{IsSearch}
 use Rattle.query_script.specs.Search.{IsBody}
-use Rattle.query_script.specs.Statements.{IsRemark, IsSkipped, IsStatement, Spells}
+use Rattle.query_script.specs.Statements.{IsRemark, IsSkipped, IsStatement, SpellsStatement}
 use Rattle.query_script.specs.Words.{AreWords, bare}
 use Rattle.query_script.proofs.LineWords.{AreWords-once, IsBehindBlanks, behind_blanks-once, remark-begins, skipped_words}
 
@@ -35,7 +35,7 @@ no_statement words search import_ wait until game (statement.Together searches) 
 no_statement words search import_ wait until game (statement.Game number) is = game number is
 
 -- The bare word with which a statement begins.
-data IsKeyword : List ℕ → Type 0 where
+pub data IsKeyword : List ℕ → Type 0 where
   import_word : IsKeyword (codes "import")
   wait_word : IsKeyword (codes "wait")
   until_word : IsKeyword (codes "until")
@@ -50,7 +50,7 @@ keyword_of words (statement.Search query) (body, is, spelled) = (codes "search",
 keyword_of words (statement.Together searches) is = absurd is
 keyword_of words (statement.Game number) (w, is, number_is, bound) = (codes "game", w ∷ [], is, game_word)
 
-not_together : (name : List ℕ) → IsKeyword name → name ≢ codes "together"
+pub not_together : (name : List ℕ) → IsKeyword name → name ≢ codes "together"
 not_together _ import_word e = cc e
 not_together _ wait_word e = cc e
 not_together _ until_word e = cc e
@@ -75,7 +75,7 @@ not_comment _ rest search_word = other_first 115 35 _ rest (λ e. omega (arith, 
 not_comment _ rest game_word = other_first 103 35 _ rest (λ e. omega (arith, e))
 
 -- one word is no statement but for its own name
-one_word : (words : List Word) (name : List ℕ) (s : Statement) → ((other : List ℕ) → IsKeyword other → other ≢ name) → words ≡ bare name ∷ [] → ¬ IsStatement words s
+pub one_word : (words : List Word) (name : List ℕ) (s : Statement) → ((other : List ℕ) → IsKeyword other → other ≢ name) → words ≡ bare name ∷ [] → ¬ IsStatement words s
 one_word words name s differs is spelled =
     let (other, rest, begins, key) = keyword_of words s spelled in
     let both : bare other ∷ rest ≡ bare name ∷ [] = sym begins ∙ is in
@@ -83,7 +83,7 @@ one_word words name s differs is spelled =
     differs other key same
 
 -- words with different names
-two_names : (a b : ℕ) (x y : List ℕ) (words one other : List Word) → words ≡ bare (a ∷ x) ∷ one → words ≡ bare (b ∷ y) ∷ other → a ≢ b → ⊥
+pub two_names : (a b : ℕ) (x y : List ℕ) (words one other : List Word) → words ≡ bare (a ∷ x) ∷ one → words ≡ bare (b ∷ y) ∷ other → a ≢ b → ⊥
 two_names a b x y words one other is is' differ =
     let both : bare (a ∷ x) ∷ one ≡ bare (b ∷ y) ∷ other = sym is ∙ is' in
     let first : a ≡ b = cc in
@@ -99,8 +99,8 @@ search_alone words body (statement.Together searches) name is = absurd is
 search_alone words body (statement.Game number) name (w, is, number_is, bound) = absurd (two_names 115 103 _ _ words body _ name is (λ e. omega (arith, e)))
 
 -- a line that spells a search spells no other statement
-pub Spells-search : (text : List ℕ) (s other : Statement) → Spells text s → Spells text other → IsSearch other → IsSearch s
-Spells-search text s other (words, are, spelled) (others, are_others, spelled_other) (query, is) =
+pub SpellsStatement-search : (text : List ℕ) (s other : Statement) → SpellsStatement text s → SpellsStatement text other → IsSearch other → IsSearch s
+SpellsStatement-search text s other (words, are, spelled) (others, are_others, spelled_other) (query, is) =
     let (body, name, is_body) = subst (IsStatement others) is spelled_other in
     search_alone words body s (AreWords-once text words others are are_others ∙ name) spelled
 
@@ -161,7 +161,7 @@ statement-line text words s are shown no_together no_end spelled = (
   shown,
   (λ together. no_together (sym (AreWords-once text (bare (codes "together") ∷ []) words together are))),
   (λ end. no_end (sym (AreWords-once text (bare (codes "end") ∷ []) words end are))),
-  (λ other spelled_other. Spells-search text s other (words, are, spelled) spelled_other),
+  (λ other spelled_other. SpellsStatement-search text s other (words, are, spelled) spelled_other),
 )
 
 -- words that spell nothing

@@ -1,11 +1,10 @@
 -- Bytes between quotes: a text has them in one way only.
 use Rattle.std.proofs.Common.{◌≡◌, ◌≢◌, ◌⊎◌, ◌++◌, ◌∙◌, ℕ, List, [], ◌∷◌, refl, sym, ap, inl, inr, append_assoc, arith}
 use Rattle.std.proofs.lemmas.Bool.{cases_eq, eq-eqb, ne_eqb}
-use Rattle.query_script.specs.Reading.{escaped_byte}
-use Rattle.query_script.specs.Words.{escaped}
+use Rattle.query_script.specs.Words.{escaped, escaped_byte}
 
 -- how a byte stands between quotes
-escaped_byte-cases : (c : ℕ) → ((escaped_byte c ≡ 92 ∷ c ∷ []) × ((c ≡ 34) ⊎ (c ≡ 92))) ⊎ ((escaped_byte c ≡ c ∷ []) × (c ≢ 34) × (c ≢ 92))
+pub escaped_byte-cases : (c : ℕ) → ((escaped_byte c ≡ 92 ∷ c ∷ []) × ((c ≡ 34) ⊎ (c ≡ 92))) ⊎ ((escaped_byte c ≡ c ∷ []) × (c ≢ 34) × (c ≢ 92))
 escaped_byte-cases c = elim (cases_eq c 34) [
   | inl quote ↦ inl (rw (eq-eqb c 34 quote) refl, inl quote)
   | inr no_quote ↦ elim (cases_eq c 92) [

@@ -4,7 +4,7 @@ use Rattle.std.proofs.lemmas.List.Elements.{All-nil, All-push, All-weaker}
 use Rattle.std.proofs.lemmas.List.Quantifiers.{Any-push}
 use Rattle.query_script.specs.Progress.{AreReadBefore, IsLineAt, IsPlacedBefore}
 use Rattle.query_script.specs.Script.{AreStatements, IsLeastBadLine, IsPlacedAt, IsWithin, StandsAlone, StandsAt, ends_no_block, line_at, spells_nothing}
-use Rattle.query_script.specs.Statements.{Spells, SpellsTogether}
+use Rattle.query_script.specs.Statements.{SpellsStatement, SpellsTogether}
 use Rattle.query_script.specs.declared.line.Line.TheVariants as line
 use Rattle.query_script.specs.declared.statement.Placed.{Placed}
 use Rattle.query_script.specs.declared.statement.Statement.{Statement}
@@ -22,7 +22,7 @@ stands_cases (statement.Together searches) h = inr h.0
 stands_cases (statement.Game number) h = inl h
 
 -- what a line outside blocks spells stands there alone
-stands_there : {lines : List (List ℕ)} {k : ℕ} (s : Statement) → Spells (line_at lines k) s → ((j : ℕ) → ¬ IsWithin lines j k) → StandsAt lines k s
+stands_there : {lines : List (List ℕ)} {k : ℕ} (s : Statement) → SpellsStatement (line_at lines k) s → ((j : ℕ) → ¬ IsWithin lines j k) → StandsAt lines k s
 stands_there (statement.Import path) h outside = record { spelled = h; outside = outside }
 stands_there statement.Wait h outside = record { spelled = h; outside = outside }
 stands_there (statement.Until number) h outside = record { spelled = h; outside = outside }

@@ -14,7 +14,7 @@ use Rattle.query_script.proofs.PatternWords.{pattern-begins}
 
 -- ---- which option the words begin with
 
-begins-otherwise : (k : ℕ) (name : List ℕ) (words : List Word) → BeginsFrom k words → place_of_option name < k → BeginsOtherwise name words
+pub begins-otherwise : (k : ℕ) (name : List ℕ) (words : List Word) → BeginsFrom k words → place_of_option name < k → BeginsOtherwise name words
 begins-otherwise k name words from before more is =
     let at : BeginsFrom k (bare name ∷ more) = subst (BeginsFrom k) is from in
     omega (arith, at, before)
@@ -48,19 +48,19 @@ parted-begins : {A : Type 0} (Says : A → List Word → Type 0) (k : ℕ) (word
 parted-begins Says k words value rest begins parted behind =
     subst (BeginsFrom k) (sym parted.split) (begins-append k parted.own rest (begins parted.own parted.says) (begins-earlier k (1 + k) rest (omega arith) behind))
 
-from_at-begins : (words : List Word) (query : Query) → AreFromAt words query → BeginsFrom 5 words
+pub from_at-begins : (words : List Word) (query : Query) → AreFromAt words query → BeginsFrom 5 words
 from_at-begins words query (rest, parted, pattern) = parted-begins IsAt 5 words query.at rest (at-begins query.at) parted (pattern-begins query.pattern rest pattern)
 
-from_moves-begins : (words : List Word) (query : Query) → AreFromMoves words query → BeginsFrom 4 words
+pub from_moves-begins : (words : List Word) (query : Query) → AreFromMoves words query → BeginsFrom 4 words
 from_moves-begins words query (rest, parted, at) = parted-begins AreMovesOf 4 words (record { from = query.from_move; to = query.to_move }) rest (moves-begins query.from_move query.to_move) parted (from_at-begins rest query at)
 
-from_board-begins : (words : List Word) (query : Query) → AreFromBoard words query → BeginsFrom 3 words
+pub from_board-begins : (words : List Word) (query : Query) → AreFromBoard words query → BeginsFrom 3 words
 from_board-begins words query (rest, parted, moves) = parted-begins IsBoard 3 words query.board rest (board-begins query.board) parted (from_moves-begins rest query moves)
 
-from_main-begins : (words : List Word) (query : Query) → AreFromMain words query → BeginsFrom 2 words
+pub from_main-begins : (words : List Word) (query : Query) → AreFromMain words query → BeginsFrom 2 words
 from_main-begins words query (rest, parted, board) = parted-begins (IsFlag (codes "main")) 2 words query.main rest (flag-begins (codes "main") query.main) parted (from_board-begins rest query board)
 
-from_fixed-begins : (words : List Word) (query : Query) → AreFromFixed words query → BeginsFrom 1 words
+pub from_fixed-begins : (words : List Word) (query : Query) → AreFromFixed words query → BeginsFrom 1 words
 from_fixed-begins words query (rest, parted, main) = parted-begins (IsFlag (codes "fixed")) 1 words query.fixed rest (flag-begins (codes "fixed") query.fixed) parted (from_main-begins rest query main)
 
 -- ---- a search by its options

@@ -16,11 +16,20 @@ use Rattle.query_script.proofs.Numbers.{IsNumber-once}
 -- ---- the board
 
 -- a board
-pub board-present : (words behind rest : List Word) (c r : Word) (shape : Shape) → words ≡ bare (codes "board") ∷ behind → behind ≡ c ∷ r ∷ rest → IsNumber c (cols_of shape) → IsNumber r (rows_of shape) → AreParted IsBoard words (Some shape) rest
+pub board-present : (words behind rest : List Word) (c r : Word) (shape : Shape) →
+    words ≡ bare (codes "board") ∷ behind → behind ≡ c ∷ r ∷ rest →
+    IsNumber c (cols_of shape) → IsNumber r (rows_of shape) →
+    AreParted IsBoard words (Some shape) rest
 board-present words behind rest c r shape name is cols rows = record {
   own = bare (codes "board") ∷ c ∷ r ∷ [];
   split = name ∙ ap (λ l. bare (codes "board") ∷ l) is;
-  says = (c, r, refl, cols, rows);
+  says = (
+    c,
+    r,
+    refl,
+    (cols, shape.in_range.0.0, shape.in_range.0.1),
+    (rows, shape.in_range.1.0, shape.in_range.1.1),
+  );
 }
 
 -- what a board is where the words begin with its name
@@ -32,7 +41,7 @@ board_there words behind (Some shape) rest name parted otherwise =
     let (c, r, is, cols, rows) = parted.says in
     let both : bare (codes "board") ∷ behind ≡ bare (codes "board") ∷ c ∷ r ∷ rest = sym name ∙ parted.split ∙ ap (λ l. l ++ rest) is in
     let behind_is : behind ≡ c ∷ r ∷ rest = cc in
-    (shape, c, r, refl, behind_is, cols, rows)
+    (shape, c, r, refl, behind_is, cols.0, rows.0)
 
 pub board-only : (words behind rest : List Word) (c r : Word) (shape : Shape) → words ≡ bare (codes "board") ∷ behind → behind ≡ c ∷ r ∷ rest → IsNumber c (cols_of shape) → IsNumber r (rows_of shape) →
     (board : Option Shape) (others : List Word) → AreParted IsBoard words board others → BeginsOtherwise (codes "board") others → (board ≡ Some shape) × (others ≡ rest)
@@ -91,11 +100,11 @@ at-rectangle words behind behind_first behind_to rest x y x1 y1 name first to la
 }
 
 -- what a place is where the words begin with its name
-data IsPlaceThere (behind : List Word) (at : Option Rect) (rest : List Word) : Type 0 where
+pub data IsPlaceThere (behind : List Word) (at : Option Rect) (rest : List Word) : Type 0 where
   point_there : (x y : ℕ) → at ≡ Some (rect x y x y) → IsPointAt behind x y rest → IsPlaceThere behind at rest
   rectangle_there : (x y x1 y1 : ℕ) (behind_to : List Word) → at ≡ Some (rect x y x1 y1) → IsPointAt behind x y (bare (codes "to") ∷ behind_to) → IsPointAt behind_to x1 y1 rest → x ≤ x1 → y ≤ y1 → IsPlaceThere behind at rest
 
-place_there : (words behind own : List Word) (at : Option Rect) (rest : List Word) → words ≡ bare (codes "at") ∷ behind → words ≡ own ++ rest → IsAt at own → BeginsOtherwise (codes "at") rest → IsPlaceThere behind at rest
+pub place_there : (words behind own : List Word) (at : Option Rect) (rest : List Word) → words ≡ bare (codes "at") ∷ behind → words ≡ own ++ rest → IsAt at own → BeginsOtherwise (codes "at") rest → IsPlaceThere behind at rest
 place_there words behind _ _ rest name split no_place otherwise = absurd (otherwise behind (sym split ∙ name))
 place_there words behind _ _ rest name split (one_point {x = x} {y = y} a b at_x at_y) otherwise =
     let both : bare (codes "at") ∷ behind ≡ bare (codes "at") ∷ a ∷ b ∷ rest = sym name ∙ split in
@@ -129,7 +138,7 @@ at-no_point words behind name without at rest parted otherwise =
     ]
 
 -- where `to` stands behind the first point, a rectangle is meant
-rectangle_must : (words behind behind_first behind_to : List Word) (x y : ℕ) → words ≡ bare (codes "at") ∷ behind → IsPointAt behind x y behind_first → behind_first ≡ bare (codes "to") ∷ behind_to →
+pub rectangle_must : (words behind behind_first behind_to : List Word) (x y : ℕ) → words ≡ bare (codes "at") ∷ behind → IsPointAt behind x y behind_first → behind_first ≡ bare (codes "to") ∷ behind_to →
     (at : Option Rect) (rest : List Word) → AreParted IsAt words at rest → BeginsOtherwise (codes "at") rest → BeginsOtherwise (codes "to") rest →
     (x1 y1 : ℕ) × (at ≡ Some (rect x y x1 y1)) × IsPointAt behind_to x1 y1 rest × (x ≤ x1) × (y ≤ y1)
 rectangle_must words behind behind_first behind_to x y name first to at rest parted otherwise no_to =

@@ -2,14 +2,13 @@
 use Rattle.std.specs.Prelude.{◌≡◌, ℕ, ◌<◌, ◌≤◌, List, length, All, AllPairs, Any}
 use Rattle.query_script.specs.declared.line.Line.{Line}
 use Rattle.query_script.specs.declared.line.Line.TheVariants as line
-use Rattle.query_script.specs.declared.progress.Block.{Block}
 use Rattle.query_script.specs.declared.progress.Progress.{Progress}
 use Rattle.query_script.specs.declared.progress.Progress.TheVariants as progress
 use Rattle.query_script.specs.declared.statement.Placed.{Placed}
 use Rattle.query_script.specs.declared.statement.PlacedSearch.{PlacedSearch}
 use Rattle.query_script.specs.declared.statement.Statement.{Statement}
 use Rattle.query_script.specs.Lines.{IsLine}
-use Rattle.query_script.specs.Script.{IsBadLine, IsFaulty, IsPlacedAt, IsSearchOf, IsWithin, StandsAt, line_at, most_searches}
+use Rattle.query_script.specs.Script.{IsBadLine, IsFaultyLine, IsPlacedAt, IsSearchOf, IsWithin, StandsAt, line_at, most_searches}
 use Rattle.query_script.specs.Statements.{SpellsEnd, SpellsSearch}
 
 -- a statement stands at a line before line k
@@ -27,7 +26,7 @@ pub record AreReadBefore (lines : List (List ℕ)) (k : ℕ) (placed : List Plac
   pub complete : (m : ℕ) (s : Statement) → 1 ≤ m → m < k → StandsAt lines m s → Any (λ (p : Placed). p.line ≡ m) placed
 
 -- Line j begins a block that goes on before line k, and the lines before it are read.
-pub record IsBegun (lines : List (List ℕ)) (j k : ℕ) (placed : List Placed) : Type 0 where
+pub record IsBlockBegun (lines : List (List ℕ)) (j k : ℕ) (placed : List Placed) : Type 0 where
   pub read : AreReadBefore lines j placed
   pub to_last : j ≤ length lines
   pub begins : IsLine (line_at lines j) line.Together
@@ -39,27 +38,31 @@ pub record IsSearchBefore (lines : List (List ℕ)) (j k : ℕ) (s : PlacedSearc
   pub before : s.line < k
   pub search : IsSearchOf lines j s
 
--- The block goes on before line k, no line behind its first one is bad so far, and these are its searches.
-pub record IsInside (lines : List (List ℕ)) (k : ℕ) (placed : List Placed) (block : Block) : Type 0 where
-  pub begun : IsBegun lines block.line k placed
-  pub good : (m : ℕ) → block.line < m → m < k → ¬ IsFaulty lines m
-  pub few : length block.searches.items ≤ most_searches
-  pub ordered : AllPairs (λ (a : PlacedSearch) (b : PlacedSearch). a.line < b.line) block.searches.items
-  pub sound : All (IsSearchBefore lines block.line k) block.searches.items
-  pub complete : (m : ℕ) → block.line < m → m < k → ((query : _) × SpellsSearch (line_at lines m) query) → Any (λ (s : PlacedSearch). s.line ≡ m) block.searches.items
+-- The block that a first line begins goes on before line k, no line behind the first one is bad so far, and these are its
+-- searches.
+pub record IsInside (lines : List (List ℕ)) (k : ℕ) (placed : List Placed)
+    (first : ℕ) (searches : List PlacedSearch) : Type 0 where
+  pub begun : IsBlockBegun lines first k placed
+  pub good : (m : ℕ) → first < m → m < k → ¬ IsFaultyLine lines m
+  pub few : length searches ≤ most_searches
+  pub ordered : AllPairs (λ (a : PlacedSearch) (b : PlacedSearch). a.line < b.line) searches
+  pub sound : All (IsSearchBefore lines first k) searches
+  pub complete : (m : ℕ) → first < m → m < k →
+      ((query : _) × SpellsSearch (line_at lines m) query) → Any (λ (s : PlacedSearch). s.line ≡ m) searches
 
 -- The block that line j begins goes on before line k, and one of its lines is bad: the least one behind line j.
 pub record IsBroken (lines : List (List ℕ)) (k : ℕ) (placed : List Placed) (j bad : ℕ) : Type 0 where
-  pub begun : IsBegun lines j k placed
+  pub begun : IsBlockBegun lines j k placed
   pub behind : j < bad
   pub to_last : bad ≤ length lines
-  pub good : (m : ℕ) → j < m → m < bad → ¬ IsFaulty lines m
-  pub faulty : IsFaulty lines bad
+  pub good : (m : ℕ) → j < m → m < bad → ¬ IsFaultyLine lines m
+  pub faulty : IsFaultyLine lines bad
 
 -- The lines before line k are read, and reading stands there.
 abbrev pub IsReadBefore : List (List ℕ) → ℕ → List Placed → Progress → Type 0
 IsReadBefore lines k placed progress.Outside = AreReadBefore lines k placed
-IsReadBefore lines k placed (progress.Inside block) = IsInside lines k placed block
+IsReadBefore lines k placed (progress.Inside block) =
+    IsInside lines k placed block.line block.searches.items
 IsReadBefore lines k placed (progress.Broken begun bad) = IsBroken lines k placed begun bad
 
 -- line k of the script is this

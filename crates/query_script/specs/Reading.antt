@@ -4,12 +4,9 @@ use Rattle.pattern_images.specs.declared.query.Query.{Query}
 use Rattle.query_script.specs.declared.search_words.Moves.{Moves}
 use Rattle.query_script.specs.declared.word.Word.{Word}
 use Rattle.query_script.specs.declared.word.Word.TheVariants as word
+use Rattle.query_script.specs.Bytes.{letter_a, letter_b, letter_f, letter_m, letter_s, letter_t}
 use Rattle.query_script.specs.Search.{AreMoves, IsAt, IsBoard, IsCoordinate, IsFlag, IsPattern}
 use Rattle.query_script.specs.Words.{AreWords, IsBareByte, IsBlank, bare}
-
--- how a byte stands between quotes
-abbrev pub escaped_byte : ℕ → List ℕ
-escaped_byte c = if (c == 34) || (c == 92) then 92 ∷ c ∷ [] else c ∷ []
 
 -- the text begins with no space and no tab, or it is empty
 abbrev pub BeginsWithNoBlank : List ℕ → Type 0
@@ -77,7 +74,13 @@ abbrev pub place_of_option : List ℕ → ℕ
 place_of_option [] = 6
 place_of_option (a ∷ []) = 6
 place_of_option (a ∷ b ∷ rest) =
-    if a == 115 then 0 else (if a == 102 then 1 else (if (a == 109) && (b == 97) then 2 else (if a == 98 then 3 else (if a == 109 then 4 else (if (a == 97) || (a == 116) then 5 else 6)))))
+    if a == letter_s then 0
+    else (if a == letter_f then 1
+    else (if (a == letter_m) && (b == letter_a) then 2
+    else (if a == letter_b then 3
+    else (if a == letter_m then 4
+    else (if (a == letter_a) || (a == letter_t) then 5
+    else 6)))))
 
 abbrev pub place_of_word : Word → ℕ
 place_of_word (word.Bare bytes) = place_of_option bytes

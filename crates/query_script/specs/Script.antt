@@ -6,7 +6,8 @@ use Rattle.query_script.specs.declared.statement.Placed.{Placed}
 use Rattle.query_script.specs.declared.statement.PlacedSearch.{PlacedSearch}
 use Rattle.query_script.specs.declared.statement.Statement.{Statement}
 use Rattle.query_script.specs.declared.statement.Statement.TheVariants as statement
-use Rattle.query_script.specs.Statements.{IsSkipped, Spells, SpellsEnd, SpellsSearch, SpellsTogether}
+use Rattle.query_script.specs.Bytes.{carriage_return, line_feed}
+use Rattle.query_script.specs.Statements.{IsSkipped, SpellsStatement, SpellsEnd, SpellsSearch, SpellsTogether}
 
 -- the bytes without the last one, if that is this byte
 abbrev pub without_last : ℕ → List ℕ → List ℕ
@@ -14,7 +15,11 @@ without_last c bytes = if nat_lt 0 (length bytes) && (slice_index_or bytes (leng
 
 -- a line without its line feed, and without one carriage return before that or before the end
 abbrev pub without_end : List ℕ → List ℕ
-without_end line = without_last 13 (without_last 10 line)
+without_end line = without_last carriage_return (without_last line_feed line)
+
+-- the most bytes of a script
+abbrev pub most_bytes : ℕ
+most_bytes = 1048576
 
 -- the lines of a script: each ends with a line feed, the last one perhaps with the text
 abbrev pub script_lines : List ℕ → List (List ℕ)
@@ -52,22 +57,48 @@ IsSearch s = (query : Query) × (s ≡ statement.Search query)
 abbrev pub most_searches : ℕ
 most_searches = 8
 
--- Why a line is bad: it spells nothing; it ends no block, or one without a search; it is the ninth search of a block, or
--- another statement inside a block; or it begins a block that no later line ends.
-pub data IsFaulty (lines : List (List ℕ)) (k : ℕ) : Type 0 where
-  spells_nothing : ¬ IsSkipped (line_at lines k) → ¬ SpellsTogether (line_at lines k) → ¬ SpellsEnd (line_at lines k) → ((s : Statement) → ¬ Spells (line_at lines k) s) → IsFaulty lines k
-  ends_no_block : SpellsEnd (line_at lines k) → ((j : ℕ) → ¬ IsWithin lines j k) → IsFaulty lines k
-  ends_empty_block : (j : ℕ) → SpellsEnd (line_at lines k) → IsWithin lines j k → ((m : ℕ) → ¬ IsSearchBetween lines j k m) → IsFaulty lines k
-  one_search_too_many : (j : ℕ) (query : Query) → SpellsSearch (line_at lines k) query → IsWithin lines j k → AreSearchesBetween lines j k most_searches → IsFaulty lines k
-  block_inside_block : (j : ℕ) → SpellsTogether (line_at lines k) → IsWithin lines j k → IsFaulty lines k
-  statement_inside_block : (j : ℕ) (s : Statement) → Spells (line_at lines k) s → ¬ IsSearch s → IsWithin lines j k → IsFaulty lines k
-  never_ended : SpellsTogether (line_at lines k) → ((m : ℕ) → k < m → ¬ SpellsEnd (line_at lines m)) → IsFaulty lines k
+-- Why a line is bad: it spells nothing; it ends no block, or one without a search; it is the ninth search of a block or a later one,
+-- or another statement inside a block; or it begins a block that no later line ends.
+pub data IsFaultyLine (lines : List (List ℕ)) (k : ℕ) : Type 0 where
+  spells_nothing :
+      ¬ IsSkipped (line_at lines k) →
+      ¬ SpellsTogether (line_at lines k) →
+      ¬ SpellsEnd (line_at lines k) →
+      ((s : Statement) → ¬ SpellsStatement (line_at lines k) s) →
+      IsFaultyLine lines k
+  ends_no_block :
+      SpellsEnd (line_at lines k) →
+      ((j : ℕ) → ¬ IsWithin lines j k) →
+      IsFaultyLine lines k
+  ends_empty_block : (j : ℕ) →
+      SpellsEnd (line_at lines k) →
+      IsWithin lines j k →
+      ((m : ℕ) → ¬ IsSearchBetween lines j k m) →
+      IsFaultyLine lines k
+  one_search_too_many : (j : ℕ) (query : Query) →
+      SpellsSearch (line_at lines k) query →
+      IsWithin lines j k →
+      AreSearchesBetween lines j k most_searches →
+      IsFaultyLine lines k
+  block_inside_block : (j : ℕ) →
+      SpellsTogether (line_at lines k) →
+      IsWithin lines j k →
+      IsFaultyLine lines k
+  statement_inside_block : (j : ℕ) (s : Statement) →
+      SpellsStatement (line_at lines k) s →
+      ¬ IsSearch s →
+      IsWithin lines j k →
+      IsFaultyLine lines k
+  never_ended :
+      SpellsTogether (line_at lines k) →
+      ((m : ℕ) → k < m → ¬ SpellsEnd (line_at lines m)) →
+      IsFaultyLine lines k
 
 -- a bad line, by its number from 1
 pub record IsBadLine (lines : List (List ℕ)) (k : ℕ) : Type 0 where
   pub from_one : 1 ≤ k
   pub to_last : k ≤ length lines
-  pub faulty : IsFaulty lines k
+  pub faulty : IsFaultyLine lines k
 
 -- the least bad line
 pub record IsLeastBadLine (lines : List (List ℕ)) (k : ℕ) : Type 0 where
@@ -92,7 +123,7 @@ pub record AreSearchesOf (lines : List (List ℕ)) (j : ℕ) (searches : List Pl
 
 -- the line spells the statement by itself, outside blocks
 pub record StandsAlone (lines : List (List ℕ)) (k : ℕ) (s : Statement) : Type 0 where
-  pub spelled : Spells (line_at lines k) s
+  pub spelled : SpellsStatement (line_at lines k) s
   pub outside : (j : ℕ) → ¬ IsWithin lines j k
 
 -- The statement is that of line k: it stands there alone, or it is the block that begins there.

@@ -15,10 +15,16 @@ abbrev pub IsFlag : List ℕ → Bool → List Word → Type 0
 IsFlag name true words = words ≡ bare name ∷ []
 IsFlag name false words = words ≡ []
 
+-- a number of columns or rows of a board: 1 to 52
+abbrev pub IsSideNumber : Word → ℕ → Type 0
+IsSideNumber w n = IsNumber w n × (1 ≤ n) × (n ≤ 52)
+
 -- `board C R`, or nothing
 abbrev pub IsBoard : Option Shape → List Word → Type 0
 IsBoard None words = words ≡ []
-IsBoard (Some shape) words = (c : Word) × (r : Word) × (words ≡ bare (codes "board") ∷ c ∷ r ∷ []) × IsNumber c (cols_of shape) × IsNumber r (rows_of shape)
+IsBoard (Some shape) words =
+    (c : Word) × (r : Word) × (words ≡ bare (codes "board") ∷ c ∷ r ∷ []) ×
+    IsSideNumber c (cols_of shape) × IsSideNumber r (rows_of shape)
 
 -- the greatest move number
 abbrev pub most_moves : ℕ
@@ -27,11 +33,12 @@ most_moves = 65536
 -- `moves A B`, or nothing, and then from 0 to the greatest move number
 pub data AreMoves (from to : ℕ) : List Word → Type 0 where
   not_given : from ≡ 0 → to ≡ most_moves → AreMoves from to []
-  given : (a b : Word) → IsNumber a from → IsNumber b to → from ≤ to → to ≤ most_moves → AreMoves from to (bare (codes "moves") ∷ a ∷ b ∷ [])
+  given : (a b : Word) → IsNumber a from → IsNumber b to → from ≤ to → to ≤ most_moves →
+      AreMoves from to (bare (codes "moves") ∷ a ∷ b ∷ [])
 
--- a column or row of a board
+-- a column or row of a board: 0 to 51
 abbrev pub IsCoordinate : Word → ℕ → Type 0
-IsCoordinate w n = IsNumber w n × (n ≤ 18)
+IsCoordinate w n = IsNumber w n × (n ≤ 51)
 
 -- the rectangle of these corners
 abbrev pub rect : ℕ → ℕ → ℕ → ℕ → Rect
@@ -40,13 +47,16 @@ rect x0 y0 x1 y1 = record { x0 = x0; y0 = y0; x1 = x1; y1 = y1 }
 -- `at X Y`, which is the rectangle of that one point, `at X Y to X1 Y1`, or nothing
 pub data IsAt : Option Rect → List Word → Type 0 where
   not_given : IsAt None []
-  one_point : {x y : ℕ} (a b : Word) → IsCoordinate a x → IsCoordinate b y → IsAt (Some (rect x y x y)) (bare (codes "at") ∷ a ∷ b ∷ [])
-  rectangle : {x0 y0 x1 y1 : ℕ} (a b c d : Word) → IsCoordinate a x0 → IsCoordinate b y0 → IsCoordinate c x1 → IsCoordinate d y1 → x0 ≤ x1 → y0 ≤ y1 →
+  one_point : {x y : ℕ} (a b : Word) → IsCoordinate a x → IsCoordinate b y →
+      IsAt (Some (rect x y x y)) (bare (codes "at") ∷ a ∷ b ∷ [])
+  rectangle : {x0 y0 x1 y1 : ℕ} (a b c d : Word) → IsCoordinate a x0 → IsCoordinate b y0 → IsCoordinate c x1 →
+      IsCoordinate d y1 → x0 ≤ x1 → y0 ≤ y1 →
       IsAt (Some (rect x0 y0 x1 y1)) (bare (codes "at") ∷ a ∷ b ∷ bare (codes "to") ∷ c ∷ d ∷ [])
 
 -- the word spells the pattern
 abbrev pub IsPattern : Pattern → List Word → Type 0
-IsPattern spelled words = (text : List ℕ) × (words ≡ bare text ∷ []) × pattern.Spells text (grid_of spelled)
+IsPattern spelled words =
+    (text : List ℕ) × (words ≡ bare text ∷ []) × pattern.SpellsPattern text (grid_of spelled)
 
 -- The words spell the query: its options in this order, and then its pattern.
 pub record IsBody (words : List Word) (query : Query) : Type 0 where

@@ -4,6 +4,7 @@ use Rattle.pattern_images.specs.declared.query.Query.{Query}
 use Rattle.query_script.specs.declared.statement.Statement.{Statement}
 use Rattle.query_script.specs.declared.statement.Statement.TheVariants as statement
 use Rattle.query_script.specs.declared.word.Word.{Word}
+use Rattle.query_script.specs.Bytes.{number_sign}
 use Rattle.query_script.specs.Search.{IsBody}
 use Rattle.query_script.specs.Words.{AreBlanks, AreWords, IsNumber, bare, bytes_of}
 
@@ -27,12 +28,12 @@ IsStatement words (statement.Together searches) = ⊥
 IsStatement words (statement.Game number) = (w : Word) × (words ≡ bare (codes "game") ∷ w ∷ []) × IsNumber w number × (number ≤ most_number)
 
 -- the line spells the statement
-abbrev pub Spells : List ℕ → Statement → Type 0
-Spells line s = (words : List Word) × AreWords line words × IsStatement words s
+abbrev pub SpellsStatement : List ℕ → Statement → Type 0
+SpellsStatement line s = (words : List Word) × AreWords line words × IsStatement words s
 
 -- the line spells a search
 abbrev pub SpellsSearch : List ℕ → Query → Type 0
-SpellsSearch line query = Spells line (statement.Search query)
+SpellsSearch line query = SpellsStatement line (statement.Search query)
 
 -- the line begins a block
 abbrev pub SpellsTogether : List ℕ → Type 0
@@ -44,7 +45,7 @@ SpellsEnd line = AreWords line (bare (codes "end") ∷ [])
 
 -- nothing, or a comment, which begins with `#`
 abbrev pub IsRemark : List ℕ → Type 0
-IsRemark rest = (rest ≡ []) ⊎ ((text : List ℕ) × (rest ≡ 35 ∷ text))
+IsRemark rest = (rest ≡ []) ⊎ ((text : List ℕ) × (rest ≡ number_sign ∷ text))
 
 -- The line is skipped: it is empty, of spaces and tabs alone, or its first other byte is `#`.
 pub record IsSkipped (line : List ℕ) : Type 0 where

@@ -10,10 +10,11 @@ use Rattle.pattern_images.specs.declared.hit.Next.{Next}
 use Rattle.continuation_table.specs.declared.table.Row.{Row}
 use Rattle.continuation_table.specs.declared.tally.Tally.{Tally}
 use Rattle.continuation_table.specs.Table.{TableView}
+use Rattle.query_script.specs.Bytes.{line_feed}
 
 -- a line: these pieces and a line feed
 abbrev pub line_text : List (List ℕ) → List ℕ
-line_text [] = 10 ∷ []
+line_text [] = line_feed ∷ []
 line_text (piece ∷ pieces) = piece ++ line_text pieces
 
 -- `LINE import PATH`

@@ -4,10 +4,11 @@ use Rattle.std.specs.List.{flat_map}
 use Rattle.std.specs.Str.Parse.{IsNumeral, digits_value}
 use Rattle.query_script.specs.declared.word.Word.{Word}
 use Rattle.query_script.specs.declared.word.Word.TheVariants as word
+use Rattle.query_script.specs.Bytes.{space, tab, quote, backslash}
 
 -- a space or a tab
 abbrev pub IsBlank : ℕ → Type 0
-IsBlank c = (c ≡ 32) ⊎ (c ≡ 9)
+IsBlank c = (c ≡ space) ⊎ (c ≡ tab)
 
 -- spaces and tabs alone
 abbrev pub AreBlanks : List ℕ → Type 0
@@ -15,16 +16,20 @@ AreBlanks bytes = All IsBlank bytes
 
 -- a byte of a bare word: no space, no tab and no `"`
 abbrev pub IsBareByte : ℕ → Type 0
-IsBareByte c = (c ≢ 32) × (c ≢ 9) × (c ≢ 34)
+IsBareByte c = (c ≢ space) × (c ≢ tab) × (c ≢ quote)
 
--- what stands between the quotes of a quoted word: a `\` before each `"` and each `\`
+-- how a byte stands between quotes: a `\` before each `"` and each `\`
+abbrev pub escaped_byte : ℕ → List ℕ
+escaped_byte c = if (c == quote) || (c == backslash) then backslash ∷ c ∷ [] else c ∷ []
+
+-- what stands between the quotes of a quoted word
 abbrev pub escaped : List ℕ → List ℕ
-escaped bytes = flat_map (λ c. if (c == 34) || (c == 92) then 92 ∷ c ∷ [] else c ∷ []) bytes
+escaped bytes = flat_map escaped_byte bytes
 
 -- a word as it stands in a line
 abbrev pub word_text : Word → List ℕ
 word_text (word.Bare bytes) = bytes
-word_text (word.Quoted bytes) = 34 ∷ escaped bytes ++ 34 ∷ []
+word_text (word.Quoted bytes) = quote ∷ escaped bytes ++ quote ∷ []
 
 -- a bare word has a byte, and none that would end it or begin a quoted word; a quoted one may have any bytes
 abbrev pub IsWord : Word → Type 0
@@ -45,7 +50,8 @@ IsWordEnd (c ∷ rest) = IsBlank c
 -- stands between two.
 pub data AreWords : List ℕ → List Word → Type 0 where
   none : {blanks : List ℕ} → AreBlanks blanks → AreWords blanks []
-  one_more : {words : List Word} (blanks rest : List ℕ) (w : Word) → AreBlanks blanks → IsWord w → IsWordEnd rest → AreWords rest words → AreWords (blanks ++ (word_text w ++ rest)) (w ∷ words)
+  one_more : {words : List Word} (blanks rest : List ℕ) (w : Word) → AreBlanks blanks → IsWord w →
+      IsWordEnd rest → AreWords rest words → AreWords (blanks ++ (word_text w ++ rest)) (w ∷ words)
 
 -- a bare word of these letters
 abbrev pub bare : List ℕ → Word

@@ -5,6 +5,7 @@
 //! bad line, and that `print_hits` and the other printers append the texts.
 #![tactic(auto)]
 
+mod laws;
 mod line;
 mod number;
 mod print;
@@ -17,6 +18,7 @@ mod statements;
 mod word;
 mod words;
 
+pub use laws::{a_script_has_its_statements_or_a_bad_line, the_longest_script_has_1048576_bytes};
 pub use print::{print_game, print_import, print_no_game, print_until, print_wait};
 pub use script::read_script;
 pub use search_text::print_hits;

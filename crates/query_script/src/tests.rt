@@ -184,9 +184,10 @@ fn options_of_searches_are_read(rt: HostRuntime) -> Result<(), Fail> {
             ),
             ("search board 1 1 X", "1 search board 1 1 moves 0 65536 X"),
             (
-                "search board 19 19 X",
-                "1 search board 19 19 moves 0 65536 X",
+                "search board 52 52 X",
+                "1 search board 52 52 moves 0 65536 X",
             ),
+            ("search board 1 52 X", "1 search board 1 52 moves 0 65536 X"),
             ("search board 13 9 X", "1 search board 13 9 moves 0 65536 X"),
             ("search moves 0 0 X", "1 search moves 0 0 X"),
             ("search moves 5 5 X", "1 search moves 5 5 X"),
@@ -194,16 +195,23 @@ fn options_of_searches_are_read(rt: HostRuntime) -> Result<(), Fail> {
             ("search moves 000 0000065536 X", "1 search moves 0 65536 X"),
             ("search at 0 0 X", "1 search moves 0 65536 at 0 0 0 0 X"),
             (
-                "search at 18 17 X",
-                "1 search moves 0 65536 at 18 17 18 17 X",
+                "search at 51 50 X",
+                "1 search moves 0 65536 at 51 50 51 50 X",
             ),
             (
-                "search at 0 0 to 18 18 X",
-                "1 search moves 0 65536 at 0 0 18 18 X",
+                "search at 0 0 to 51 51 X",
+                "1 search moves 0 65536 at 0 0 51 51 X",
             ),
             (
                 "search at 3 4 to 3 4 X",
                 "1 search moves 0 65536 at 3 4 3 4 X",
+            ),
+            // Patterns with half wildcards, and one of the greatest width.
+            ("search x", "1 search moves 0 65536 x"),
+            ("search same xo/.* ", "1 search same moves 0 65536 xo/.*"),
+            (
+                "search XXXXXXXXXXXXXXXXXXXXXXXXXXXXXXXXXXXXXXXXXXXXXXXXXXXX",
+                "1 search moves 0 65536 XXXXXXXXXXXXXXXXXXXXXXXXXXXXXXXXXXXXXXXXXXXXXXXXXXXX",
             ),
         ],
     )
@@ -313,10 +321,10 @@ fn other_searches_are_bad(rt: HostRuntime) -> Result<(), Fail> {
             "search X X",
             "search X same",
             "search X?",
-            "search x",
+            "search y",
             "search X/",
             "search XX/X",
-            "search XXXXXXXXXXXXXXXXXXXX",
+            "search XXXXXXXXXXXXXXXXXXXXXXXXXXXXXXXXXXXXXXXXXXXXXXXXXXXXX",
             // Options twice, or in another order.
             "search same same X",
             "search fixed same X",
@@ -331,8 +339,8 @@ fn other_searches_are_bad(rt: HostRuntime) -> Result<(), Fail> {
             // Numbers out of range.
             "search board 0 1 X",
             "search board 1 0 X",
-            "search board 20 1 X",
-            "search board 1 20 X",
+            "search board 53 1 X",
+            "search board 1 53 X",
             "search board 256 256 X",
             "search board 9 X",
             "search board \"9\" 9 X",
@@ -342,14 +350,14 @@ fn other_searches_are_bad(rt: HostRuntime) -> Result<(), Fail> {
             "search moves 0 4294967296 X",
             "search moves 1 X",
             "search moves 0 \"1\" X",
-            "search at 19 0 X",
-            "search at 0 19 X",
+            "search at 52 0 X",
+            "search at 0 52 X",
             "search at 256 0 X",
             "search at 0 X",
             "search at 0 0 to X",
             "search at 0 0 to 1 X",
-            "search at 0 0 to 19 0 X",
-            "search at 0 0 to 0 19 X",
+            "search at 0 0 to 52 0 X",
+            "search at 0 0 to 0 52 X",
             "search at 3 4 to 2 4 X",
             "search at 3 4 to 3 3 X",
             "search at 0 0 \"to\" 1 1 X",
@@ -459,9 +467,9 @@ fn bytes_that_are_no_text_are_read_in_remarks_alone(rt: HostRuntime) -> Result<(
 #[test]
 fn a_script_of_the_greatest_length_is_read(rt: HostRuntime) -> Result<(), Fail> {
     let last = b"until 5\n".as_slice();
-    let mut script = vec![in rt.alloc(); b'\n'; MAX_SCRIPT - last.len()]?;
+    let mut script = vec![in rt.alloc(); b'\n'; 1_048_568]?;
     script.extend_from_slice(last)?;
-    assert_eq!(rt; script.len(), MAX_SCRIPT);
+    assert_eq!(rt; (script.len(), MAX_SCRIPT), (1_048_576, 1_048_576));
     assert_eq!(rt;
         read(rt.alloc(), script.as_slice())?.as_str(),
         "1048569 until 5"

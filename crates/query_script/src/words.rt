@@ -1,8 +1,10 @@
 // Splits a line into its words.
-ghost use Rattle.std.specs.Prelude.{◌≡◌, ◌≢◌, ◌++◌, ◌∷◌, ◌<◌, ◌≤◌, ◌↔◌, ◌⊎◌, ℕ, List, [], All, length, Option, Some, None, IfOk, IfSome, IfNone, IsTrue};
+ghost use Rattle.std.specs.Prelude.{◌≡◌, ◌≢◌, ◌++◌, ◌∷◌, ◌<◌, ◌≤◌, ◌↔◌, ◌⊎◌};
+ghost use Rattle.std.specs.Prelude.{ℕ, List, [], All, length, Option, Some, None, IfOk, IfSome, IfNone, IsTrue};
 ghost use Rattle.query_script.specs.declared.word.Word.{Word};
-ghost use Rattle.query_script.specs.Words.{AreBlanks, AreWords, IsBareByte, IsBlank, IsWordEnd, escaped};
-ghost use Rattle.query_script.specs.Reading.{BeginsWithNoBareByte, BeginsWithNoBlank, BeginsWithWord, escaped_byte};
+ghost use Rattle.query_script.specs.Bytes.{backslash, quote};
+ghost use Rattle.query_script.specs.Words.{AreBlanks, AreWords, IsBareByte, IsBlank, IsWordEnd, escaped, escaped_byte};
+ghost use Rattle.query_script.specs.Reading.{BeginsWithNoBareByte, BeginsWithNoBlank, BeginsWithWord};
 
 use crate::word::Word;
 use game_tree::Bytes;
@@ -67,9 +69,11 @@ fn first_word(alloc: Global, text: &[u8]) -> Result<Option<(Word, &[u8])>, NoMem
 
 // The quoted word that begins before these bytes, and what stands behind it. The only error is `NoMemory`.
 fn quoted_word(alloc: Global, inner: &[u8]) -> Result<Option<(Word, &[u8])>, NoMemory>
-    ensures some { IfOk result (λ found. IfSome found (λ r. BeginsWithWord (34 ∷ inner.now) r.0 r.1.now)) }
+    ensures some { IfOk result (λ found. IfSome found (λ r.
+        BeginsWithWord (quote ∷ inner.now) r.0 r.1.now)) }
     ensures shorter { IfOk result (λ found. IfSome found (λ r. length r.1.now < length inner.now)) }
-    ensures none { IfOk result (λ found. IfNone found ((words : List Word) → ¬ AreWords (34 ∷ inner.now) words)) }
+    ensures none { IfOk result (λ found. IfNone found ((words : List Word) →
+        ¬ AreWords (quote ∷ inner.now) words)) }
 {
     let Some((bytes, behind)) = unescaped(alloc, inner)? else {
         return Ok(None);
@@ -83,8 +87,10 @@ fn quoted_word(alloc: Global, inner: &[u8]) -> Result<Option<(Word, &[u8])>, NoM
 // The bytes before a quote that ends a word, without the `\` before a `"` or a `\`, and what stands behind the quote. The
 // only error is `NoMemory`.
 fn unescaped(alloc: Global, text: &[u8]) -> Result<Option<(Vec<u8>, &[u8])>, NoMemory>
-    ensures some { IfOk result (λ found. IfSome found (λ r. text.now ≡ escaped r.0.items ++ 34 ∷ r.1.now)) }
-    ensures none { IfOk result (λ found. IfNone found ((bytes behind : List ℕ) → text.now ≢ escaped bytes ++ 34 ∷ behind)) }
+    ensures some { IfOk result (λ found. IfSome found (λ r.
+        text.now ≡ escaped r.0.items ++ quote ∷ r.1.now)) }
+    ensures none { IfOk result (λ found. IfNone found ((bytes behind : List ℕ) →
+        text.now ≢ escaped bytes ++ quote ∷ behind)) }
 {
     let mut bytes = Vec::new(alloc);
     let mut rest = text;
@@ -100,8 +106,8 @@ fn unescaped(alloc: Global, text: &[u8]) -> Result<Option<(Vec<u8>, &[u8])>, NoM
 
 // What stands behind the quote with which a text begins, if it begins with one.
 fn behind_quote(text: &[u8]) -> Option<&[u8]>
-    ensures some { IfSome result (λ behind. text.now ≡ 34 ∷ behind.now) }
-    ensures none { result ≡ None → (behind : List ℕ) → text.now ≢ 34 ∷ behind }
+    ensures some { IfSome result (λ behind. text.now ≡ quote ∷ behind.now) }
+    ensures none { result ≡ None → (behind : List ℕ) → text.now ≢ quote ∷ behind }
 {
     match text {
         [b'"', behind @ ..] => Some(behind),
@@ -124,7 +130,7 @@ fn quoted_byte(text: &[u8]) -> Option<(u8, &[u8])>
 
 // Whether a `\` stands before this byte between quotes.
 fn is_special(byte: u8) -> bool
-    ensures { IsTrue result ↔ ((byte ≡ 34) ⊎ (byte ≡ 92)) }
+    ensures { IsTrue result ↔ ((byte ≡ quote) ⊎ (byte ≡ backslash)) }
 {
     byte == b'"' || byte == b'\\'
 }
@@ -133,7 +139,7 @@ fn is_special(byte: u8) -> bool
 fn bare_word(alloc: Global, text: &[u8]) -> Result<Option<(Word, &[u8])>, NoMemory>
     requires some { 1 ≤ length text.now }
     requires first { BeginsWithNoBlank text.now }
-    requires bare { (rest : List ℕ) → text.now ≢ 34 ∷ rest }
+    requires bare { (rest : List ℕ) → text.now ≢ quote ∷ rest }
     ensures some { IfOk result (λ found. IfSome found (λ r. BeginsWithWord text.now r.0 r.1.now)) }
     ensures shorter { IfOk result (λ found. IfSome found (λ r. length r.1.now < length text.now)) }
     ensures none { IfOk result (λ found. IfNone found ((words : List Word) → ¬ AreWords text.now words)) }

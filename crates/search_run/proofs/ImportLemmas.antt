@@ -1,6 +1,6 @@
 -- Reading the files of an import.
 use Rattle.std.proofs.Common.{◌≡◌, ℕ, Bool, true, false, cond, ◌||◌, List, [], ◌∷◌, ◌++◌, Option, Some, None, refl, sym, ◌∙◌, ap, subst, arith, take, map, length, length-append, append_assoc, get_or, ◌<◌, ◌+◌, ◌≤◌, ◌⊎◌, ⊎_elim, inl, inr}
-use Rattle.std.specs.Prelude.{All, AllPairs, Contains, IsSome, String, find, string_bytes}
+use Rattle.std.specs.Prelude.{All, AllPairs, Contains, IsSome, String, Vec, find, string_bytes}
 use Rattle.std.specs.declared.alloc.Global.{Global}
 use Rattle.std.specs.List.{list_any}
 use Rattle.std.specs.Option.{option_map}
@@ -8,6 +8,7 @@ use Rattle.std.proofs.lemmas.Bool.{cases_lt, false≢true}
 use Rattle.std.proofs.lemmas.List.Folds.{Any-from_list_any, list_any-from_Any}
 use Rattle.std.proofs.lemmas.Slice.Eq.{bytes_eq-Decides}
 use Rattle.std.specs.Str.{bytes_eq}
+use Rattle.std.proofs.lemmas.Grind.{flat_map-append}
 use Rattle.std.proofs.lemmas.List.{append-nil, get_or-map, length-map, map_more, map_push}
 use Rattle.std.specs.Cmp.Lexicographic.{slice_cmp}
 use Rattle.std.specs.Ordering.{nat_cmp}
@@ -17,12 +18,14 @@ use Rattle.kb_edges.specs.Files.{File, HasFile, HasPath, IsListing, content_of}
 use Rattle.kb_edges.specs.Told.{IfTold}
 use Rattle.kb_edges.specs.Faults.{Rose, RoseBy}
 use Rattle.game_tree.specs.Tree.{Tree}
-use Rattle.session_core.specs.Games.{Game, HasItsChanges, game_of, games_of}
+use Rattle.node_position.specs.Games.{Game}
+use Rattle.session_core.specs.Games.{HasItsChanges, game_of, games_of}
 use Rattle.session_core.specs.declared.stored.Stored.{Stored}
-use Rattle.search_run.specs.Course.{AreNames, FileReport, Files, ImportCourse, IsContent, IsImported, Unlisted, games_from, losses_of, not_read, nothing, nothing_lost, read, trees_in}
-use Rattle.search_run.specs.Reads.{HasReadAll, IsOneMoreRead, file_reports}
+use Rattle.search_run.specs.Course.{AreNames, AreRead, FileReport, Files, Finding, ImportCourse, ImportFile, IsContent, IsImported, Unlisted, games_from, games_of_files, import_file, losses_of, nothing_lost, trees_in}
+use Rattle.search_run.specs.Imported.{AreKeptFiles, Tells, file_reports}
+use Rattle.search_run.specs.Reads.{HasReadAll, IsOneMoreRead}
+use Rattle.search_run.specs.declared.import.Imported.TheVariants as imported
 use Rattle.search_run.specs.declared.import.ImportedFile.{ImportedFile}
-use Rattle.search_run.specs.declared.import.TheConstants.{MAX_NAMES}
 use Rattle.search_run.specs.declared.outcome.Counts.{Counts}
 use Rattle.search_run.specs.declared.outcome.FileOutcome.{FileOutcome}
 use Rattle.search_run.specs.declared.outcome.FileOutcome.TheVariants as file
@@ -59,39 +62,58 @@ rose_by_none before now later = omega arith
 pub RoseBy-then : (m n before between now : ℕ) → RoseBy m before between → RoseBy n between now → RoseBy (m + n) before now
 RoseBy-then m n before between now first second = omega arith
 
--- a line more has its name
-names_push : (lines : List FileReport) (name : List ℕ) (outcome : FileOutcome) → map (λ (f : FileReport). f.name) (lines ++ record { name = name; outcome = outcome } ∷ []) ≡ map (λ (f : FileReport). f.name) lines ++ name ∷ []
-names_push lines name outcome = map_push (λ (f : FileReport). f.name) lines (record { name = name; outcome = outcome })
-
 -- one more file has one more report
 pub reports_push : (all more : List ImportedFile) (f : ImportedFile) (name : List ℕ) → more ≡ all ++ f ∷ [] → string_bytes f.name ≡ name → file_reports more ≡ file_reports all ++ record { name = name; outcome = f.outcome } ∷ []
 reports_push all more f name pushed named =
     ap file_reports pushed ∙ map_push _ all f ∙ ap (λ n. file_reports all ++ record { name = n; outcome = f.outcome } ∷ []) named
 
-module _ (files : List File) (path name : List ℕ) (before now : ℕ) (counts : Counts) (reports : List FileReport) (games : List Game) (outcome : FileOutcome) (more_games : List Game) where
+-- what is kept of files, and of one file more
+AreKeptFiles-push : (files : List ImportFile) (f : ImportFile) (reports : List FileReport) (games : List Game) → AreKeptFiles files reports games → AreKeptFiles (files ++ f ∷ []) (reports ++ f.report ∷ []) (games ++ f.games)
+AreKeptFiles-push files f reports games h = record {
+  reports_are = map_push (λ (g : ImportFile). g.report) files f ∙ ap (λ rs. rs ++ f.report ∷ []) h.reports_are;
+  games_are = flat_map-append (λ (g : ImportFile). g.games) files (f ∷ []) ∙ ap (λ gs. games_of_files files ++ gs) (append-nil f.games) ∙ ap (λ gs. gs ++ f.games) h.games_are;
+}
+
+module _ (all : List File) (path name : List ℕ) (before now : ℕ) (counts : Counts) (reports : List FileReport) (games : List Game) (outcome : FileOutcome) (more_games : List Game) where
   -- a file more is read
-  pub one_more-read : (trees : List Tree) → (bytes : List ℕ) × IsContent files path name bytes × IsOutcome bytes counts outcome trees → before ≤ now → more_games ≡ games ++ games_from name 0 trees → IsOneMoreRead files path name before now counts reports games (reports ++ record { name = name; outcome = outcome } ∷ []) more_games
-  one_more-read trees h later pushed = λ base unread is so_far.
-      rw pushed ([], rw append-nil (read name h.0 outcome trees so_far h.1 (rw is at h.2)), rose_by_none before now later, names_push reports name outcome)
+  pub one_more-read : (trees : List Tree) → (bytes : List ℕ) × IsContent all path name bytes × IsOutcome bytes counts outcome trees → before ≤ now → more_games ≡ games ++ games_from name 0 trees → IsOneMoreRead all path name before now counts reports games (reports ++ record { name = name; outcome = outcome } ∷ []) more_games
+  one_more-read trees h later pushed = λ base files unread kept is so_far.
+      let f = import_file name outcome trees in record {
+        more = files ++ f ∷ [];
+        lost = [];
+        kept = rw pushed (AreKeptFiles-push files f reports games kept);
+        read = rw append-nil (AreRead.read name h.0 outcome trees so_far h.1 (rw kept.games_are (rw is at h.2)));
+        paid = rose_by_none before now later;
+        named = map_push (λ (g : ImportFile). g.report.name) files f;
+      }
 
   -- a file more was not read
-  pub one_more-not_read : Rose before now → outcome ≡ file.Unread → more_games ≡ games → IsOneMoreRead files path name before now counts reports games (reports ++ record { name = name; outcome = outcome } ∷ []) more_games
-  one_more-not_read rose is same = λ base unread so_far_is so_far.
-      rw (is, same) (name ∷ [], not_read name so_far, rose, names_push reports name file.Unread)
+  pub one_more-not_read : Rose before now → outcome ≡ file.Unread → more_games ≡ games → IsOneMoreRead all path name before now counts reports games (reports ++ record { name = name; outcome = outcome } ∷ []) more_games
+  one_more-not_read rose unread_is same = λ base files unread kept is so_far.
+      let f = import_file name file.Unread [] in record {
+        more = files ++ f ∷ [];
+        lost = name ∷ [];
+        kept = rw (unread_is, same) (subst (λ gs. AreKeptFiles (files ++ f ∷ []) (reports ++ f.report ∷ []) gs) (append-nil games) (AreKeptFiles-push files f reports games kept));
+        read = AreRead.not_read name so_far;
+        paid = rose;
+        named = map_push (λ (g : ImportFile). g.report.name) files f;
+      }
 
 -- nothing is read yet
-pub HasReadAll-start : (files : List File) (path : List ℕ) (base : Counts) (count : ℕ) → HasReadAll files path base [] count count [] []
-HasReadAll-start files path base count = record { unread = []; read = nothing; named = refl; lost = omega arith }
+pub HasReadAll-start : (all : List File) (path : List ℕ) (base : Counts) (count : ℕ) → HasReadAll all path base [] count count [] []
+HasReadAll-start all path base count = record { files = []; kept = record { reports_are = refl; games_are = refl }; unread = []; read = AreRead.nothing; named = refl; lost = omega arith }
 
 -- one file more is read
-pub HasReadAll-more : (files : List File) (path : List ℕ) (base counts : Counts) (names : List (List ℕ)) (name : List ℕ) (before between now : ℕ) (reports more_reports : List FileReport) (games more_games : List Game) → counts ≡ with_games base (trees_in games) → HasReadAll files path base names before between reports games → IsOneMoreRead files path name between now counts reports games more_reports more_games → HasReadAll files path base (names ++ name ∷ []) before now more_reports more_games
-HasReadAll-more files path base counts names name before between now reports more_reports games more_games is h more =
-    let next = more base h.unread is h.read in
+pub HasReadAll-more : (all : List File) (path : List ℕ) (base counts : Counts) (names : List (List ℕ)) (name : List ℕ) (before between now : ℕ) (reports more_reports : List FileReport) (games more_games : List Game) → counts ≡ with_games base (trees_in games) → HasReadAll all path base names before between reports games → IsOneMoreRead all path name between now counts reports games more_reports more_games → HasReadAll all path base (names ++ name ∷ []) before now more_reports more_games
+HasReadAll-more all path base counts names name before between now reports more_reports games more_games is h more =
+    let next = more base h.files h.unread h.kept is h.read in
     record {
-      unread = h.unread ++ next.0;
-      read = next.1;
-      named = next.3 ∙ ap (λ ns. ns ++ name ∷ []) h.named;
-      lost = rw length-append (RoseBy-then (length h.unread) (length next.0) before between now h.lost next.2);
+      files = next.more;
+      kept = next.kept;
+      unread = h.unread ++ next.lost;
+      read = next.read;
+      named = next.named ∙ ap (λ ns. ns ++ name ∷ []) h.named;
+      lost = rw length-append (RoseBy-then (length h.unread) (length next.lost) before between now h.lost next.paid);
     }
 
 -- the games of a file, and of one tree more
@@ -145,8 +167,8 @@ pub AreNames-there : (files : List File) (path : List ℕ) (names : List (List �
 AreNames-there files path names h k d below = ((h.each (get_or names k d)).0 (Contains-get_or names k d below)).0
 
 -- there are not too many names, as the test says
-pub no_more_names : (are_too_many : Bool) (names : List (String Global)) → (MAX_NAMES < length names → are_too_many ≡ true) → are_too_many ≡ false → length names ≤ MAX_NAMES
-no_more_names are_too_many names test none = ⊎_elim (λ many. absurd (false≢true (sym none ∙ test many))) (λ few. few) (cases_lt MAX_NAMES (length names))
+pub no_more_names : (are_too_many : Bool) (names : List (String Global)) → (100000 < length names → are_too_many ≡ true) → are_too_many ≡ false → length names ≤ 100000
+no_more_names are_too_many names test none = ⊎_elim (λ many. absurd (false≢true (sym none ∙ test many))) (λ few. few) (cases_lt 100000 (length names))
 
 -- the losses of one entry
 one_loss : (n before now : ℕ) → RoseBy n before now → RoseBy (0 + (0 + n)) before now
@@ -157,10 +179,16 @@ RoseBy-earlier : (n before between now : ℕ) → before ≤ between → RoseBy 
 RoseBy-earlier n before between now later rose = omega arith
 
 -- an import of these names, whose files are read
-pub IsImported-read : (files : List File) (path : List ℕ) (base : Counts) (names : List (String Global)) (before between now : ℕ) (reports : List FileReport) (games : List Game) → before ≤ between → HasPath files path → AreNames files path (map string_bytes names) → length names ≤ MAX_NAMES → HasReadAll files path base (map string_bytes names) between now reports games → (entry : ImportCourse) × IsImported files path base entry (Files reports games) × RoseBy (losses_of (entry ∷ [])) before now
-IsImported-read files path base names before between now reports games later there are few h =
-    let counted : length reports ≡ length names = sym (length-map reports (λ (f : FileReport). f.name)) ∙ ap length h.named ∙ length-map names string_bytes in
-    (record { unlisted = false; unread = h.unread }, (there, rw h.named are, rw counted few, h.read, refl), one_loss (length h.unread) before now (RoseBy-earlier (length h.unread) before between now later h.lost))
+pub IsImported-read : (all : List File) (path : List ℕ) (base : Counts) (names : List (String Global)) (before between now : ℕ) (kept_files : Vec ImportedFile Global) (kept_games : Vec Stored Global) → before ≤ between → HasPath all path → AreNames all path (map string_bytes names) → length names ≤ 100000 → HasReadAll all path base (map string_bytes names) between now (file_reports kept_files.items) (games_of kept_games.items) →
+    (entry : ImportCourse) × (finding : Finding) × Tells (imported.Files kept_files kept_games) finding × IsImported all path base entry finding × RoseBy (losses_of (entry ∷ [])) before now
+IsImported-read all path base names before between now kept_files kept_games later there are few h =
+    let counted : length h.files ≡ length names = sym (length-map h.files (λ (f : ImportFile). f.report.name)) ∙ ap length h.named ∙ length-map names string_bytes in (
+      record { unlisted = false; unread = h.unread },
+      Files h.files,
+      (h.files, refl, h.kept),
+      record { path_there = there; names = rw h.named are; few = rw counted few; read = h.read; listed = refl },
+      one_loss (length h.unread) before now (RoseBy-earlier (length h.unread) before between now later h.lost),
+    )
 
 -- what is told, where something is
 pub told_there : {A : Type 0} (told : Option A) → IsSome told → (value : A) × (told ≡ Some value)
@@ -187,10 +215,10 @@ none_lost : (before now : ℕ) → Rose before now → RoseBy (losses_of (nothin
 none_lost before now rose = omega arith
 
 -- A listing that failed is a loss where a file has the path, and none where none has.
-pub unlisted_by : (files : List File) (path : List ℕ) (counts : Counts) (before now : ℕ) → Rose before now →
-    (course : ImportCourse) × IsImported files path counts course Unlisted × RoseBy (losses_of (course ∷ [])) before now
-unlisted_by files path counts before now rose =
-    elim (has_path_by files path (list_any (λ (file : File). bytes_eq file.path path) files) refl) [
-      | inl has ↦ (record { unlisted = true; unread = [] }, (inl (refl, has), refl), rose)
-      | inr none ↦ (nothing_lost, (inr (refl, none), refl), none_lost before now rose)
+pub unlisted_by : (all : List File) (path : List ℕ) (counts : Counts) (before now : ℕ) → Rose before now →
+    (entry : ImportCourse) × (finding : Finding) × Tells imported.Unlisted finding × IsImported all path counts entry finding × RoseBy (losses_of (entry ∷ [])) before now
+unlisted_by all path counts before now rose =
+    elim (has_path_by all path (list_any (λ (file : File). bytes_eq file.path path) all) refl) [
+      | inl has ↦ (record { unlisted = true; unread = [] }, Unlisted, refl, (inl (refl, has), refl), rose)
+      | inr none ↦ (nothing_lost, Unlisted, refl, (inr (refl, none), refl), none_lost before now rose)
     ]

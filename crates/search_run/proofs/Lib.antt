@@ -1,6 +1,9 @@
+mod BatchLemmas
 mod ImportLemmas
+mod NamesExist
 mod PrintLemmas
 mod ReadLemmas
 mod RoomLemmas
 mod RunLemmas
 mod ScriptLemmas
+mod StatementLemmas

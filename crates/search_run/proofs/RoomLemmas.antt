@@ -7,7 +7,6 @@ use Rattle.game_tree.specs.Tree.{Tree, node_count}
 use Rattle.search_run.specs.declared.outcome.Counts.{Counts}
 use Rattle.search_run.specs.declared.outcome.FileOutcome.{FileOutcome}
 use Rattle.search_run.specs.declared.outcome.FileOutcome.TheVariants as file
-use Rattle.search_run.specs.declared.outcome.TheConstants.{MAX_BASE_GAMES, MAX_BASE_NODES}
 use Rattle.sgf_reader.specs.declared.collection.Collection.{Collection}
 use Rattle.sgf_reader.specs.Faults.{IsRead}
 use Rattle.sgf_reader.specs.Grammar.{raw_game}
@@ -17,7 +16,7 @@ use Rattle.search_run.specs.Outcome.{HaveGames, IsOutcome, accepted, counts_of, 
 use Rattle.search_run.specs.Rooms.{AddsGames, AreAdded, IsAdded, IsAddedBy}
 use Rattle.search_run.specs.Course.{games_from, trees_in}
 use Rattle.search_run.specs.Stores.{HasFewGames}
-use Rattle.session_core.specs.Games.{Game}
+use Rattle.node_position.specs.Games.{Game}
 
 -- the nodes of one game more
 pub nodes_of-more : (trees : List Tree) (i : ℕ) (tree : Tree) → i < length trees → tree ≡ get_or trees i tree → nodes_of (take (i + 1) trees) ≡ nodes_of (take i trees) + node_count tree
@@ -81,7 +80,7 @@ HasFewGames-more before (file.Full games nodes) trees few h = rw h (omega arith)
 HasFewGames-more before file.Unread trees few h = rw h (omega arith)
 
 -- a file adds no more games than a base may have
-pub few_added : (before : Counts) (outcome : FileOutcome) (trees : List Tree) → IsAdded before outcome trees → length trees ≤ MAX_BASE_GAMES
+pub few_added : (before : Counts) (outcome : FileOutcome) (trees : List Tree) → IsAdded before outcome trees → length trees ≤ 400000
 few_added before (file.Accepted games) trees h = omega (arith, h.1.0)
 few_added before (file.Refused of at) trees h = rw h (omega arith)
 few_added before (file.Full games nodes) trees h = rw h (omega arith)
@@ -106,7 +105,7 @@ cases_unread (file.Full games nodes) = inr (λ is. cc)
 cases_unread file.Unread = inl refl
 
 -- there is no room
-pub full_is : (before : Counts) (trees added : List Tree) (games nodes : ℕ) → games ≡ games_after before trees → nodes ≡ nodes_after before trees → (MAX_BASE_GAMES < games) ⊎ (MAX_BASE_NODES < nodes) → added ≡ [] → IsAddedBy before trees (file.Full games nodes) added
+pub full_is : (before : Counts) (trees added : List Tree) (games nodes : ℕ) → games ≡ games_after before trees → nodes ≡ nodes_after before trees → (400000 < games) ⊎ (67108864 < nodes) → added ≡ [] → IsAddedBy before trees (file.Full games nodes) added
 full_is before trees added games nodes games_is nodes_is past none =
     rw (games_is, nodes_is, none) (IsAddedBy.full (λ room. elim past [
       | inl many ↦ omega (arith, many, games_is, room.0)
@@ -114,7 +113,7 @@ full_is before trees added games nodes games_is nodes_is past none =
     ]))
 
 -- there is room
-pub accepted_is : (before : Counts) (trees : List Tree) (count games nodes : ℕ) → count ≡ length trees → games ≡ games_after before trees → nodes ≡ nodes_after before trees → games ≤ MAX_BASE_GAMES → nodes ≤ MAX_BASE_NODES → IsAddedBy before trees (file.Accepted count) trees
+pub accepted_is : (before : Counts) (trees : List Tree) (count games nodes : ℕ) → count ≡ length trees → games ≡ games_after before trees → nodes ≡ nodes_after before trees → games ≤ 400000 → nodes ≤ 67108864 → IsAddedBy before trees (file.Accepted count) trees
 accepted_is before trees count games nodes count_is games_is nodes_is few small =
     rw count_is (IsAddedBy.accepted (omega (arith, few, games_is), omega (arith, small, nodes_is)))
 

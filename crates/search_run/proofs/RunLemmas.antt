@@ -1,25 +1,32 @@
 -- A run, statement by statement.
-use Rattle.std.proofs.Common.{◌≡◌, ℕ, suc, ◌+◌, ◌<◌, ◌≤◌, List, [], ◌∷◌, ◌++◌, Option, Some, Ok, Err, length, get_or, take, drop, refl, sym, ap, ◌∙◌, append_assoc, arith}
-use Rattle.std.specs.Prelude.{OnErr, Result, cond}
+use Rattle.std.proofs.Common.{◌≡◌, ◌⊎◌, inl, inr, ℕ, suc, ◌+◌, ◌<◌, ◌≤◌, List, [], ◌∷◌, ◌++◌, Option, Some, None, Ok, Err, length, get_or, take, drop, refl, sym, ap, ◌∙◌, append_assoc, arith}
+use Rattle.std.specs.Prelude.{OnErr, Result, cond, max}
+use Rattle.std.specs.Option.{option_map_or}
+use Rattle.std.proofs.Math.Nat.{max-le}
 use Rattle.std.proofs.lemmas.List.Sums.{sum_by-append}
 use Rattle.std.proofs.Math.Seq.{split_at}
-use Rattle.std.proofs.lemmas.List.{append-nil, take_more}
+use Rattle.std.proofs.lemmas.List.{append-nil, take_all, take_more}
 use Rattle.kb_edges.specs.Faults.{Rose, RoseBy}
 use Rattle.kb_edges.specs.Files.{File}
-use Rattle.search_run.specs.Course.{ImportCourse, losses_of}
-use Rattle.search_run.specs.Run.{HasRun, WritesBegun, WritesLawful}
-use Rattle.search_run.specs.Script.{IsScript}
-use Rattle.search_run.specs.Serial.{PrintsAll}
-use Rattle.search_run.specs.Lawful.{AreSearchTexts, IsNextPrefix, State, at_start, nothing, one_more}
-use Rattle.search_run.specs.Steps.{PassesStatement}
-use Rattle.session_core.specs.Answers.{IsSearchText}
 use Rattle.query_script.specs.declared.statement.Placed.{Placed}
 use Rattle.query_script.specs.declared.statement.PlacedSearch.{PlacedSearch}
+use Rattle.session_core.specs.Answers.{IsSearchText}
+use Rattle.node_position.specs.Games.{Game}
+use Rattle.search_run.specs.Course.{ImportCourse, losses_of}
+use Rattle.search_run.specs.Lawful.{AreSearchTexts, IsNamed, IsNextPrefix, IsPrefix, State, at_start, last_of, nothing, one_more, view_at, waiting_text}
+use Rattle.search_run.specs.Log.{games_in}
+use Rattle.search_run.specs.Run.{HasRun, WritesBegun, WritesLawful, serial_rules}
+use Rattle.search_run.specs.Script.{IsScript}
+use Rattle.search_run.specs.Serial.{PrintsAll}
+use Rattle.search_run.specs.Steps.{BlockTexts, IsKept, IsTextByKept, Kept, PassesStatement, kept_report, nothing_kept, view_of}
 use Rattle.search_run.proofs.ImportLemmas.{RoseBy-then, rose_by_none}
+use Rattle.search_run.proofs.StatementLemmas.{waiting_is}
 
 -- nothing is run yet
-pub HasRun-start : (files : List File) (before : List ℕ) (written : Option (List ℕ)) (count : ℕ) → written ≡ Some before → HasRun files [] at_start before written count count
+pub HasRun-start : (files : List File) (before : List ℕ) (written : Option (List ℕ)) (count : ℕ) → written ≡ Some before → HasRun files [] nothing_kept before written count count
 HasRun-start files before written count is = record {
+  state = at_start;
+  is_kept = record { version = refl; games = refl; waiting = refl; floor = omega arith };
   course = [];
   text = [];
   printed = nothing;
@@ -32,22 +39,25 @@ losses_of-append : (course more : List ImportCourse) → losses_of (course ++ mo
 losses_of-append course more = sum_by-append (λ (c : ImportCourse). cond c.unlisted 1 0 + length c.unread) course more
 
 -- one statement more is run
-pub HasRun-more : (files : List File) (placed : List Placed) (p : Placed) (state next : State) (before : List ℕ) (between written : Option (List ℕ)) (first second third : ℕ) (h : HasRun files placed state before between first second) → PassesStatement files state p next (before ++ h.text) written second third → HasRun files (placed ++ p ∷ []) next before written first third
-HasRun-more files placed p state next before between written first second third h more = record {
-  course = h.course ++ more.used;
-  text = h.text ++ more.text;
-  printed = one_more more.used p next more.text h.printed more.text_is more.leads;
-  written_is = more.written_is ∙ ap Some (append_assoc before h.text more.text);
-  paid = rw losses_of-append (RoseBy-then (losses_of h.course) (losses_of more.used) first second third h.paid more.paid);
-}
+pub HasRun-more : (files : List File) (placed : List Placed) (p : Placed) (kept after : Kept) (before : List ℕ) (between written : Option (List ℕ)) (first second third : ℕ) (h : HasRun files placed kept before between first second) → PassesStatement files serial_rules kept p after (before ++ h.text) written second third → HasRun files (placed ++ p ∷ []) after before written first third
+HasRun-more files placed p kept after before between written first second third h more =
+    let led = more.leads h.state h.is_kept (more.text_is files h.state h.is_kept) in record {
+      state = led.1;
+      is_kept = led.2;
+      course = h.course ++ led.0;
+      text = h.text ++ more.text;
+      printed = one_more led.0 p led.1 more.text h.printed led.3;
+      written_is = more.written_is ∙ ap Some (append_assoc before h.text more.text);
+      paid = rw losses_of-append (RoseBy-then (losses_of h.course) (losses_of led.0) first second third h.paid led.4);
+    }
 
 -- the closing report is written
-pub WritesLawful-end : (files : List File) (placed : List Placed) (state : State) (before : List ℕ) (between written : Option (List ℕ)) (first second : ℕ) (h : HasRun files placed state before between first second) → written ≡ Some ((before ++ h.text) ++ state.unjoined) → WritesLawful files placed before written first second
-WritesLawful-end files placed state before between written first second h closed = record {
+pub WritesLawful-end : (files : List File) (placed : List Placed) (kept : Kept) (before : List ℕ) (between written : Option (List ℕ)) (first second : ℕ) (h : HasRun files placed kept before between first second) → written ≡ Some ((before ++ h.text) ++ kept_report kept) → WritesLawful files placed before written first second
+WritesLawful-end files placed kept before between written first second h closed = record {
   course = h.course;
-  text = h.text ++ state.unjoined;
-  lawful = (state, h.text, h.printed, refl);
-  written_is = closed ∙ ap Some (append_assoc before h.text state.unjoined);
+  text = h.text ++ waiting_text h.state;
+  lawful = (h.state, h.text, h.printed, refl);
+  written_is = closed ∙ ap Some (append_assoc before h.text (kept_report kept) ∙ ap (λ t. before ++ (h.text ++ t)) (waiting_is h.state kept h.is_kept));
   paid = h.paid;
 }
 
@@ -56,25 +66,24 @@ rose_later : (n before between now : ℕ) → RoseBy n before between → betwee
 rose_later n before between now rose later = omega arith
 
 -- a prefix of what comes next is written
-pub WritesBegun-stopped : (files : List File) (placed passed left : List Placed) (state : State) (before more : List ℕ) (between written : Option (List ℕ)) (first second third : ℕ) (h : HasRun files passed state before between first second) → placed ≡ passed ++ left → IsNextPrefix state left more → written ≡ Some ((before ++ h.text) ++ more) → second ≤ third → WritesBegun files placed before written first third
-WritesBegun-stopped files placed passed left state before more between written first second third h split prefix is later = record {
+pub WritesBegun-stopped : (files : List File) (placed passed left : List Placed) (kept : Kept) (before more : List ℕ) (between written : Option (List ℕ)) (first second third : ℕ) (h : HasRun files passed kept before between first second) → placed ≡ passed ++ left → IsNextPrefix files serial_rules h.state left more → written ≡ Some ((before ++ h.text) ++ more) → second ≤ third → WritesBegun files placed before written first third
+WritesBegun-stopped files placed passed left kept before more between written first second third h split prefix is later = record {
   course = h.course;
   text = h.text ++ more;
-  begun = record { passed = passed; left = left; state = state; text = h.text; more = more; split = split; printed = h.printed; prefix = prefix; out_is = refl };
+  begun = record { passed = passed; left = left; state = h.state; text = h.text; more = more; split = split; printed = h.printed; prefix = prefix; out_is = refl };
   written_is = is ∙ ap Some (append_assoc before h.text more);
   paid = rose_later (losses_of h.course) first second third h.paid later;
 }
+
+-- what is written in a statement is a prefix of what comes next
+pub next_prefix : (files : List File) (s : State) (kept : Kept) (p : Placed) (left : List Placed) (more : List ℕ) → IsKept s kept → (more ≡ []) ⊎ ((text : List ℕ) × IsTextByKept serial_rules kept p.line p.statement text × IsPrefix more text) → IsNextPrefix files serial_rules s (p ∷ left) more
+next_prefix files s kept p left more is (inl none) = inl none
+next_prefix files s kept p left more is (inr (text, of, prefix)) = inr (text, of files s is, prefix)
 
 -- what holds holds after an error
 pub after_error : {T E : Type 0} (result : Result T E) (P : Type 0) → P → OnErr result P
 after_error (Ok x) P h = tt
 after_error (Err e) P h = h
-
--- the texts of the searches of a block, and of one search more
-pub AreSearchTexts-more : (s : State) (searches : List PlacedSearch) (p : PlacedSearch) (text more : List ℕ) → AreSearchTexts s searches text → IsSearchText p.line s.version s.games p.query more → AreSearchTexts s (searches ++ p ∷ []) (text ++ more)
-AreSearchTexts-more s [] p text more none is = (more, [], is, refl, ap (λ t. t ++ more) none ∙ sym (append-nil more))
-AreSearchTexts-more s (q ∷ searches) p text more h is =
-    (h.0, h.1 ++ more, h.2, AreSearchTexts-more s searches p h.1 more h.3 is, ap (λ t. t ++ more) h.4 ∙ append_assoc h.0 h.1 more)
 
 -- the statements before one, it, and those behind it
 pub split_here : (placed : List Placed) (i : ℕ) (p : Placed) → i < length placed → p ≡ get_or placed i p → placed ≡ take i placed ++ p ∷ drop (suc i) placed

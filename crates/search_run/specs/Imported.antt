@@ -1,11 +1,34 @@
 -- What the code keeps of an import, as what was found.
+use Rattle.std.specs.Prelude.{◌≡◌, ℕ, List, [], map, string_bytes}
+use Rattle.node_position.specs.Games.{Game}
 use Rattle.session_core.specs.Games.{games_of}
-use Rattle.search_run.specs.Course.{Files, Found, TooMany, Unlisted}
-use Rattle.search_run.specs.Reads.{file_reports}
+use Rattle.search_run.specs.Course.{FileReport, Files, Finding, ImportFile, TooMany, Unlisted, games_of_files, reports_of}
 use Rattle.search_run.specs.declared.import.Imported.{Imported}
 use Rattle.search_run.specs.declared.import.Imported.TheVariants as imported
+use Rattle.search_run.specs.declared.import.ImportedFile.{ImportedFile}
 
-abbrev pub found_of : Imported → Found
-found_of imported.Unlisted = Unlisted
-found_of (imported.TooMany listed) = TooMany listed
-found_of (imported.Files files games) = Files (file_reports files.items) (games_of games.items)
+-- what the report says of a file: its name, and what became of it
+abbrev pub file_report : ImportedFile → FileReport
+file_report f = record { name = string_bytes f.name; outcome = f.outcome }
+
+abbrev pub file_reports : List ImportedFile → List FileReport
+file_reports files = map file_report files
+
+-- files are told by what the report says of each, and by all their games in one list
+pub record AreKeptFiles (files : List ImportFile) (reports : List FileReport) (games : List Game) : Type 0 where
+  pub reports_are : reports_of files ≡ reports
+  pub games_are : games_of_files files ≡ games
+
+-- what is kept tells what was found
+abbrev pub Tells : Imported → Finding → Type 0
+Tells imported.Unlisted finding = finding ≡ Unlisted
+Tells (imported.TooMany listed) finding = finding ≡ TooMany listed
+Tells (imported.Files files games) finding =
+    (found : List ImportFile) × (finding ≡ Files found)
+    × AreKeptFiles found (file_reports files.items) (games_of games.items)
+
+-- the games that are kept of an import
+abbrev pub games_kept : Imported → List Game
+games_kept imported.Unlisted = []
+games_kept (imported.TooMany listed) = []
+games_kept (imported.Files files games) = games_of games.items

@@ -1,114 +1,155 @@
--- What a run of a script prints: the lawful outputs, and the texts with which one can begin.
-use Rattle.std.specs.Prelude.{◌≡◌, ◌⊎◌, ℕ, ◌+◌, ◌/◌, List, [], ◌∷◌, ◌++◌, length}
+-- What a run of a script prints: where it stands, what each statement prints and where it leads,
+-- and the lawful outputs.
+use Rattle.std.specs.Prelude.{◌≡◌, ◌⊎◌, ℕ, ◌+◌, ◌≤◌, max, Bool, IsTrue, List, [], ◌∷◌, ◌++◌, length, Option, Some, None}
+use Rattle.std.specs.Option.{option_map_or}
 use Rattle.kb_edges.specs.Files.{File}
 use Rattle.query_script.specs.declared.statement.Placed.{Placed}
 use Rattle.query_script.specs.declared.statement.PlacedSearch.{PlacedSearch}
 use Rattle.query_script.specs.declared.statement.Statement.{Statement}
 use Rattle.query_script.specs.declared.statement.Statement.TheVariants as statement
 use Rattle.query_script.specs.Texts.{import_text, until_text, wait_text}
-use Rattle.session_core.specs.Answers.{IsGameText, IsSearchText}
-use Rattle.session_core.specs.Games.{Game}
-use Rattle.search_run.specs.Course.{Files, Found, ImportCourse, IsImported, TooMany, Unlisted, trees_in}
+use Rattle.session_core.specs.Answers.{IsAnswer, IsSearchText, View}
+use Rattle.search_run.specs.Course.{Finding, ImportCourse, IsImported, trees_in}
+use Rattle.search_run.specs.Log.{Segment, games_at, games_in, segments_of}
 use Rattle.search_run.specs.Outcome.{counts_of}
 use Rattle.search_run.specs.Texts.{report_text}
 
--- Where a run stands: the number of the last version, its games, and the report of an import that isn't joined
--- yet, or the empty text.
+-- How a run names versions: how many files make one, and whether all work is done on one thread.
+pub record Rules : Type 0 where
+  pub batch : ℕ
+  pub serial : Bool
+
+-- Where a run stands: the log of the imports so far, the floor for the numbers that statements
+-- name, and the report of an import that isn't joined yet.
 pub record State : Type 0 where
-  pub version : ℕ
-  pub games : List Game
-  pub unjoined : List ℕ
+  pub log : List Segment
+  pub floor : ℕ
+  pub waiting : Option (List ℕ)
 
 -- the empty base
 abbrev pub at_start : State
-at_start = record { version = 0; games = []; unjoined = [] }
+at_start = record { log = []; floor = 0; waiting = None }
 
--- how many files make one version
-abbrev pub batch_size : ℕ
-batch_size = 64
+-- the number of the last version
+abbrev pub last_of : State → ℕ
+last_of s = length s.log
 
--- how many versions an import adds: one for each whole batch of its files, and one for what is left
-abbrev pub versions_of : Found → ℕ
-versions_of Unlisted = 0
-versions_of (TooMany names) = 0
-versions_of (Files reports games) = (length reports + 63) / batch_size
+-- what is seen of the base in the version with a number
+abbrev pub view_at : State → ℕ → View
+view_at s n = record { version = n; games = games_at s.log n }
 
--- the games that an import adds
-abbrev pub games_in : Found → List Game
-games_in Unlisted = []
-games_in (TooMany names) = []
-games_in (Files reports games) = games
+-- the text of a report that waits, or nothing
+abbrev pub waiting_text : State → List ℕ
+waiting_text s = option_map_or (λ report. report) s.waiting []
 
--- after an import at this line: its report waits until it is joined
-abbrev pub after_import : State → ℕ → Found → State
-after_import s line found = record {
-  version = s.version + versions_of found;
-  games = s.games ++ games_in found;
-  unjoined = report_text line found (s.version + versions_of found);
+-- a report that waits is printed: all that the last version has was seen
+abbrev pub joined : State → State
+joined s = record {
+  log = s.log;
+  floor = option_map_or (λ report. last_of s) s.waiting s.floor;
+  waiting = None;
 }
 
--- the report is printed
-abbrev pub joined : State → State
-joined s = record { version = s.version; games = s.games; unjoined = [] }
+-- a version was named
+abbrev pub with_floor : State → ℕ → State
+with_floor s n = record { log = s.log; floor = max s.floor n; waiting = s.waiting }
 
--- the texts of the searches of a block, in order
-abbrev pub AreSearchTexts : State → List PlacedSearch → List ℕ → Type 0
-AreSearchTexts s [] text = text ≡ []
-AreSearchTexts s (p ∷ ps) text = (first : List ℕ) × (rest : List ℕ) × IsSearchText p.line s.version s.games p.query first × AreSearchTexts s ps rest × (text ≡ first ++ rest)
+-- The state after an import at this line that found this: its segments are in the log, and its
+-- report waits, in place of that of an import before it.
+abbrev pub after_import : Rules → State → ℕ → Finding → State
+after_import rules s line finding =
+    let log = s.log ++ segments_of rules.batch finding in record {
+      log = log;
+      floor = (joined s).floor;
+      waiting = Some (report_text line finding (length log));
+    }
 
--- The text of a statement in a state. An import and a wait print the report of an import that isn't joined first. All others
--- speak of the last version.
-abbrev pub IsTextAt : State → ℕ → Statement → List ℕ → Type 0
-IsTextAt s line (statement.Import path) text = text ≡ s.unjoined ++ import_text line path
-IsTextAt s line statement.Wait text = text ≡ s.unjoined ++ wait_text line s.version
-IsTextAt s line (statement.Until number) text = text ≡ until_text line number s.version
-IsTextAt s line (statement.Search query) text = IsSearchText line s.version s.games query text
-IsTextAt s line (statement.Together searches) text = AreSearchTexts s searches text
-IsTextAt s line (statement.Game number) text = IsGameText line s.version s.games number text
+-- a statement may name the version with this number: one from the floor to the last, and the last
+-- alone in a run on one thread
+pub record IsNamed (rules : Rules) (s : State) (n : ℕ) : Type 0 where
+  pub from : s.floor ≤ n
+  pub to : n ≤ last_of s
+  pub serial : IsTrue rules.serial → n ≡ last_of s
 
-abbrev pub IsText : State → Placed → List ℕ → Type 0
-IsText s p text = IsTextAt s p.line p.statement text
+-- a statement that awaits a version may name this one: it is at least as late, or the last
+pub record IsAwaited (rules : Rules) (s : State) (awaited n : ℕ) : Type 0 where
+  pub named : IsNamed rules s n
+  pub reached : (awaited ≤ n) ⊎ (n ≡ last_of s)
 
--- The state after a statement, and what the course says of it: an import takes one entry of the course, and finds
--- what it finds by that entry.
-abbrev pub LeadsAt : List File → State → ℕ → Statement → List ImportCourse → State → Type 0
-LeadsAt files s line (statement.Import path) used next = (entry : ImportCourse) × (found : Found) × (used ≡ entry ∷ []) × IsImported files path (counts_of (trees_in s.games)) entry found × (next ≡ after_import s line found)
-LeadsAt files s line statement.Wait used next = (used ≡ []) × (next ≡ joined s)
-LeadsAt files s line (statement.Until number) used next = (used ≡ []) × (next ≡ s)
-LeadsAt files s line (statement.Search query) used next = (used ≡ []) × (next ≡ s)
-LeadsAt files s line (statement.Together searches) used next = (used ≡ []) × (next ≡ s)
-LeadsAt files s line (statement.Game number) used next = (used ≡ []) × (next ≡ s)
+-- The texts of the searches of a block, in order, and the greatest of the numbers that they name.
+-- Each names a version by the floor before the block.
+abbrev pub AreSearchTexts : Rules → State → List PlacedSearch → ℕ → List ℕ → Type 0
+AreSearchTexts rules s [] greatest text = (greatest ≡ 0) × (text ≡ [])
+AreSearchTexts rules s (p ∷ ps) greatest text =
+    (n : ℕ) × (first : List ℕ) × (others : ℕ) × (rest : List ℕ) × IsNamed rules s n
+    × IsSearchText p.line (view_at s n) p.query first × AreSearchTexts rules s ps others rest
+    × (greatest ≡ max n others) × (text ≡ first ++ rest)
 
-abbrev pub Leads : List File → State → Placed → List ImportCourse → State → Type 0
-Leads files s p used next = LeadsAt files s p.line p.statement used next
+-- A statement at a line prints this text and leads to the next state, by these entries of the
+-- course. An import and a wait print a report that waits first. A statement that is answered from
+-- the games of a version names it in its text.
+abbrev pub IsPassed : List File → Rules → State → ℕ → Statement → List ImportCourse → List ℕ → State → Type 0
+IsPassed files rules s line (statement.Import path) used text next =
+    (entry : ImportCourse) × (finding : Finding) × (used ≡ entry ∷ [])
+    × IsImported files path (counts_of (trees_in (games_in s.log))) entry finding
+    × (text ≡ waiting_text s ++ import_text line path) × (next ≡ after_import rules s line finding)
+IsPassed files rules s line statement.Wait used text next =
+    (used ≡ []) × (text ≡ waiting_text s ++ wait_text line (last_of s))
+    × (next ≡ with_floor (joined s) (last_of s))
+IsPassed files rules s line (statement.Until number) used text next =
+    (n : ℕ) × IsAwaited rules s number n
+    × (used ≡ []) × (text ≡ until_text line number n) × (next ≡ with_floor s n)
+IsPassed files rules s line (statement.Together searches) used text next =
+    (n : ℕ) × AreSearchTexts rules s searches n text × (used ≡ []) × (next ≡ with_floor s n)
+IsPassed files rules s line answered used text next =
+    (n : ℕ) × IsNamed rules s n × IsAnswer line (view_at s n) answered text
+    × (used ≡ []) × (next ≡ with_floor s n)
 
--- After these statements, by this course, the session stands in this state and has printed this text.
-pub data HasPrinted (files : List File) : List ImportCourse → List Placed → State → List ℕ → Type 0 where
-  nothing : HasPrinted files [] [] at_start []
-  one_more : {course : List ImportCourse} {placed : List Placed} {s : State} {out : List ℕ} (used : List ImportCourse) (p : Placed) (next : State) (text : List ℕ) → HasPrinted files course placed s out → IsText s p text → Leads files s p used next → HasPrinted files (course ++ used) (placed ++ p ∷ []) next (out ++ text)
+-- After these statements, by this course, the session stands in this state and has printed this
+-- text.
+pub data HasPrinted (files : List File) (rules : Rules) : List ImportCourse → List Placed → State → List ℕ → Type 0 where
+  nothing : HasPrinted files rules [] [] at_start []
+  one_more : {course : List ImportCourse} {placed : List Placed} {s : State} {out : List ℕ}
+      (used : List ImportCourse) (p : Placed) (next : State) (text : List ℕ) →
+      HasPrinted files rules course placed s out →
+      IsPassed files rules s p.line p.statement used text next →
+      HasPrinted files rules (course ++ used) (placed ++ p ∷ []) next (out ++ text)
 
--- The lawful output of these statements, by this course: the texts of all of them, and then the report of an import that
--- isn't joined.
-abbrev pub IsLawful : List File → List ImportCourse → List Placed → List ℕ → Type 0
-IsLawful files course placed out = (s : State) × (text : List ℕ) × HasPrinted files course placed s text × (out ≡ text ++ s.unjoined)
+-- The lawful output of these statements, by this course: the texts of all of them, and then the
+-- report of an import that isn't joined.
+abbrev pub IsLawful : List File → Rules → List ImportCourse → List Placed → List ℕ → Type 0
+IsLawful files rules course placed out =
+    (s : State) × (text : List ℕ) × HasPrinted files rules course placed s text
+    × (out ≡ text ++ waiting_text s)
 
 -- the text is a prefix of the whole
 abbrev pub IsPrefix : List ℕ → List ℕ → Type 0
 IsPrefix text whole = (rest : List ℕ) × (whole ≡ text ++ rest)
 
--- the text is a prefix of what is printed next: of the next statement's text, or of the closing report
-abbrev pub IsNextPrefix : State → List Placed → List ℕ → Type 0
-IsNextPrefix s [] more = IsPrefix more s.unjoined
-IsNextPrefix s (p ∷ ps) more = (more ≡ []) ⊎ ((text : List ℕ) × IsText s p text × IsPrefix more text)
+-- the text of a statement; that of an import is known before the folder is asked
+abbrev pub IsTextOf : List File → Rules → State → ℕ → Statement → List ℕ → Type 0
+IsTextOf files rules s line (statement.Import path) text =
+    text ≡ waiting_text s ++ import_text line path
+IsTextOf files rules s line other text =
+    (used : List ImportCourse) × (next : State) × IsPassed files rules s line other used text next
 
--- The text is begun: the texts of the first of these statements, by this course, and a prefix of what comes next.
-pub record IsBegun (files : List File) (course : List ImportCourse) (placed : List Placed) (out : List ℕ) : Type 0 where
+-- the text is a prefix of what is printed next: of the next statement's text, or of the closing
+-- report
+abbrev pub IsNextPrefix : List File → Rules → State → List Placed → List ℕ → Type 0
+IsNextPrefix files rules s [] more = IsPrefix more (waiting_text s)
+IsNextPrefix files rules s (p ∷ ps) more =
+    (more ≡ [])
+    ⊎ ((text : List ℕ) × IsTextOf files rules s p.line p.statement text × IsPrefix more text)
+
+-- The text is begun: the texts of the first of these statements, by this course, and a prefix of
+-- what comes next.
+pub record IsBegun (files : List File) (rules : Rules) (course : List ImportCourse) (placed : List Placed) (out : List ℕ) : Type 0 where
   pub passed : List Placed
   pub left : List Placed
   pub state : State
   pub text : List ℕ
   pub more : List ℕ
   pub split : placed ≡ passed ++ left
-  pub printed : HasPrinted files course passed state text
-  pub prefix : IsNextPrefix state left more
+  pub printed : HasPrinted files rules course passed state text
+  pub prefix : IsNextPrefix files rules state left more
   pub out_is : out ≡ text ++ more

@@ -1,6 +1,7 @@
 pub mod Course
 pub mod Imported
 pub mod Lawful
+pub mod Log
 pub mod Outcome
 pub mod Reads
 pub mod Rooms

@@ -9,7 +9,6 @@ use Rattle.game_tree.specs.ValueFaults.{HasValueFault, IsFirstValueFault}
 use Rattle.search_run.specs.declared.outcome.Counts.{Counts}
 use Rattle.search_run.specs.declared.outcome.FileOutcome.{FileOutcome}
 use Rattle.search_run.specs.declared.outcome.FileOutcome.TheVariants as file
-use Rattle.search_run.specs.declared.outcome.TheConstants.{MAX_BASE_GAMES, MAX_BASE_NODES}
 
 -- The bytes have this fault at this offset: the first one of their syntax, or, where there is none, of their values.
 abbrev pub IsFaulty : List ℕ → FaultKind → ℕ → Type 0
@@ -38,9 +37,9 @@ with_games before trees = record { games = games_after before trees; nodes = nod
 abbrev pub counts_of : List Tree → Counts
 counts_of trees = record { games = length trees; nodes = nodes_of trees }
 
--- there is room in the base for these games
+-- there is room for these games in the base, which has at most 400,000 games and 67,108,864 nodes
 abbrev pub HasRoom : Counts → List Tree → Type 0
-HasRoom before trees = (games_after before trees ≤ MAX_BASE_GAMES) × (nodes_after before trees ≤ MAX_BASE_NODES)
+HasRoom before trees = (games_after before trees ≤ 400000) × (nodes_after before trees ≤ 67108864)
 
 -- What becomes of a file that was read, and the games that it adds. A file is refused with its fault if it has one. Else it
 -- is accepted where there is room in the base for its games.

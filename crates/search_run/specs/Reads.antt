@@ -1,29 +1,41 @@
--- Reading the files of an import, one after another.
-use Rattle.std.specs.Prelude.{◌≡◌, ℕ, List, [], ◌∷◌, ◌++◌, length, map, string_bytes}
+-- Reading the files of an import, one after another: words of the private functions.
+use Rattle.std.specs.Prelude.{◌≡◌, ℕ, List, [], ◌∷◌, ◌++◌, length, map}
 use Rattle.kb_edges.specs.Faults.{RoseBy}
 use Rattle.kb_edges.specs.Files.{File}
-use Rattle.session_core.specs.Games.{Game}
-use Rattle.search_run.specs.Course.{AreRead, FileReport, trees_in}
+use Rattle.node_position.specs.Games.{Game}
+use Rattle.search_run.specs.Course.{AreRead, FileReport, ImportFile, trees_in}
 use Rattle.search_run.specs.declared.outcome.Counts.{Counts}
+use Rattle.search_run.specs.Imported.{AreKeptFiles}
 use Rattle.search_run.specs.Outcome.{with_games}
-use Rattle.search_run.specs.declared.import.ImportedFile.{ImportedFile}
 
--- a file by its name and what became of it
-abbrev pub file_report : ImportedFile → FileReport
-file_report f = record { name = string_bytes f.name; outcome = f.outcome }
+-- the names of files
+abbrev pub names_of : List ImportFile → List (List ℕ)
+names_of files = map (λ (f : ImportFile). f.report.name) files
 
-abbrev pub file_reports : List ImportedFile → List FileReport
-file_reports files = map file_report files
+-- One more file was read: whatever files were read before, these are read now, and a file that was
+-- not read cost a fault.
+pub record IsOneMore (all : List File) (path name : List ℕ) (base : Counts) (before now : ℕ) (files : List ImportFile) (unread : List (List ℕ)) (reports : List FileReport) (games : List Game) : Type 0 where
+  pub more : List ImportFile
+  pub lost : List (List ℕ)
+  pub kept : AreKeptFiles more reports games
+  pub read : AreRead all path base more (unread ++ lost)
+  pub paid : RoseBy (length lost) before now
+  pub named : names_of more ≡ names_of files ++ name ∷ []
 
--- One more file was read, in a base with these counts: whatever was read before, this is read now, and a file that was not
--- read cost a fault.
+-- the same in a base with these counts, from what is kept of the files before to what is kept then
 abbrev pub IsOneMoreRead : List File → List ℕ → List ℕ → ℕ → ℕ → Counts → List FileReport → List Game → List FileReport → List Game → Type 0
-IsOneMoreRead files path name before now counts lines games more_lines more_games =
-    (base : Counts) (unread : List (List ℕ)) → counts ≡ with_games base (trees_in games) → AreRead files path base lines games unread → (lost : List (List ℕ)) × AreRead files path base more_lines more_games (unread ++ lost) × RoseBy (length lost) before now × (map (λ (f : FileReport). f.name) more_lines ≡ map (λ (f : FileReport). f.name) lines ++ name ∷ [])
+IsOneMoreRead all path name before now counts reports games more_reports more_games =
+    (base : Counts) (files : List ImportFile) (unread : List (List ℕ)) →
+    AreKeptFiles files reports games → counts ≡ with_games base (trees_in games) →
+    AreRead all path base files unread →
+    IsOneMore all path name base before now files unread more_reports more_games
 
--- the files of these names are read, in a base with these counts before them, and each that was not cost a fault
-pub record HasReadAll (files : List File) (path : List ℕ) (base : Counts) (names : List (List ℕ)) (before now : ℕ) (lines : List FileReport) (games : List Game) : Type 0 where
+-- the files of these names are read, in a base with these counts before them, and each that was not
+-- cost a fault
+pub record HasReadAll (all : List File) (path : List ℕ) (base : Counts) (names : List (List ℕ)) (before now : ℕ) (reports : List FileReport) (games : List Game) : Type 0 where
+  pub files : List ImportFile
+  pub kept : AreKeptFiles files reports games
   pub unread : List (List ℕ)
-  pub read : AreRead files path base lines games unread
-  pub named : map (λ (f : FileReport). f.name) lines ≡ names
+  pub read : AreRead all path base files unread
+  pub named : names_of files ≡ names
   pub lost : RoseBy (length unread) before now

@@ -4,7 +4,7 @@ use Rattle.game_tree.specs.Tree.{Tree}
 use Rattle.search_run.specs.declared.outcome.Counts.{Counts}
 use Rattle.search_run.specs.declared.outcome.FileOutcome.{FileOutcome}
 use Rattle.search_run.specs.declared.outcome.FileOutcome.TheVariants as file
-use Rattle.session_core.specs.Games.{Game}
+use Rattle.node_position.specs.Games.{Game}
 use Rattle.search_run.specs.Course.{trees_in}
 use Rattle.search_run.specs.Outcome.{HasRoom, games_after, nodes_after, with_games}
 

@@ -1,31 +1,41 @@
 -- What a run of a script leaves: what it wrote, and what it lost to faults of the folder.
-use Rattle.std.specs.Prelude.{◌≡◌, ℕ, List, ◌++◌, Option, Some}
+use Rattle.std.specs.Prelude.{◌≡◌, ℕ, List, ◌++◌, Option, Some, true}
 use Rattle.kb_edges.specs.Faults.{RoseBy}
 use Rattle.kb_edges.specs.Files.{File}
-use Rattle.search_run.specs.Course.{ImportCourse, losses_of}
-use Rattle.search_run.specs.Lawful.{HasPrinted, IsBegun, IsLawful, State}
 use Rattle.query_script.specs.declared.statement.Placed.{Placed}
+use Rattle.search_run.specs.Course.{ImportCourse, losses_of}
+use Rattle.search_run.specs.Lawful.{HasPrinted, IsBegun, IsLawful, Rules, State}
+use Rattle.search_run.specs.Steps.{IsKept, Kept}
 
--- The text so far is what these statements print, by a course whose losses are at most the rise of the folder's count.
-pub record HasRun (files : List File) (placed : List Placed) (state : State) (before : List ℕ) (written : Option (List ℕ)) (faults_before faults_now : ℕ) : Type 0 where
+-- how a run on one thread names versions: 64 files make one
+abbrev pub serial_rules : Rules
+serial_rules = record { batch = 64; serial = true }
+
+-- The text so far is what these statements print, by a course whose losses are at most the rise of
+-- the folder's count, and this is what is kept of the state there.
+pub record HasRun (files : List File) (placed : List Placed) (kept : Kept) (before : List ℕ) (written : Option (List ℕ)) (faults_before faults_now : ℕ) : Type 0 where
+  pub state : State
+  pub is_kept : IsKept state kept
   pub course : List ImportCourse
   pub text : List ℕ
-  pub printed : HasPrinted files course placed state text
+  pub printed : HasPrinted files serial_rules course placed state text
   pub written_is : written ≡ Some (before ++ text)
   pub paid : RoseBy (losses_of course) faults_before faults_now
 
--- A lawful output of these statements was written, by a course whose losses are at most the rise of the folder's count.
+-- A lawful output of these statements was written, by a course whose losses are at most the rise of
+-- the folder's count.
 pub record WritesLawful (files : List File) (placed : List Placed) (before : List ℕ) (written : Option (List ℕ)) (faults_before faults_now : ℕ) : Type 0 where
   pub course : List ImportCourse
   pub text : List ℕ
-  pub lawful : IsLawful files course placed text
+  pub lawful : IsLawful files serial_rules course placed text
   pub written_is : written ≡ Some (before ++ text)
   pub paid : RoseBy (losses_of course) faults_before faults_now
 
--- A begun text of these statements was written, by a course whose losses are at most the rise of the folder's count.
+-- A begun text of these statements was written, by a course whose losses are at most the rise of the
+-- folder's count.
 pub record WritesBegun (files : List File) (placed : List Placed) (before : List ℕ) (written : Option (List ℕ)) (faults_before faults_now : ℕ) : Type 0 where
   pub course : List ImportCourse
   pub text : List ℕ
-  pub begun : IsBegun files course placed text
+  pub begun : IsBegun files serial_rules course placed text
   pub written_is : written ≡ Some (before ++ text)
   pub paid : RoseBy (losses_of course) faults_before faults_now

@@ -3,7 +3,7 @@ use Rattle.std.specs.Prelude.{◌≡◌, ◌++◌, ℕ, List, Option, Some}
 use Rattle.kb_edges.specs.Files.{File}
 use Rattle.search_run.specs.Course.{ImportCourse, losses_of}
 use Rattle.search_run.specs.Lawful.{IsLawful}
-use Rattle.search_run.specs.Run.{WritesBegun, WritesLawful}
+use Rattle.search_run.specs.Run.{WritesBegun, WritesLawful, serial_rules}
 use Rattle.search_run.specs.Script.{IsScript}
 use Rattle.query_script.specs.declared.statement.Placed.{Placed}
 use Rattle.search_run.specs.declared.status.Status.{Status}
@@ -22,7 +22,7 @@ pub record PrintsAll (script : List ℕ) (files : List File) (before : List ℕ)
   pub spelled : IsScript script placed
   pub course : List ImportCourse
   pub text : List ℕ
-  pub lawful : IsLawful files course placed text
+  pub lawful : IsLawful files serial_rules course placed text
   pub written_is : written ≡ Some (before ++ text)
   pub nothing_lost : losses_of course ≡ 0
 

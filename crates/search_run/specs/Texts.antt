@@ -5,8 +5,7 @@ use Rattle.std.specs.List.{flat_map}
 use Rattle.sgf_reader.specs.declared.fault.FaultKind.{FaultKind}
 use Rattle.sgf_reader.specs.declared.fault.FaultKind.TheVariants as kind
 use Rattle.query_script.specs.Texts.{line_text}
-use Rattle.search_run.specs.Course.{FileReport, Found, Files, TooMany, Unlisted}
-use Rattle.search_run.specs.declared.print.FileCounts.{FileCounts}
+use Rattle.search_run.specs.Course.{FileReport, Files, Finding, TooMany, Unlisted, games_of_files, reports_of}
 use Rattle.search_run.specs.declared.outcome.FileOutcome.{FileOutcome}
 use Rattle.search_run.specs.declared.outcome.FileOutcome.TheVariants as file
 
@@ -83,30 +82,28 @@ is_unread f = test f.outcome
     test file.Unread = true
 
 -- how many files an import has, and how many were accepted and refused
-abbrev pub counts_head : ℕ → FileCounts → List ℕ
-counts_head line counts = decimal line ++ (codes " imported files " ++ (decimal counts.files ++ (codes " accepted " ++ (decimal counts.accepted ++ (codes " refused " ++ decimal counts.refused)))))
+abbrev pub counts_head : ℕ → ℕ → ℕ → ℕ → List ℕ
+counts_head line files accepted refused =
+    decimal line ++ (codes " imported files " ++ (decimal files
+    ++ (codes " accepted " ++ (decimal accepted ++ (codes " refused " ++ decimal refused)))))
 
--- how many there was no room for, how many were not read, the games that were added, and the version after it
-abbrev pub counts_tail : FileCounts → ℕ → ℕ → List ℕ
-counts_tail counts games version = line_text (codes " full " ∷ decimal counts.full ∷ codes " unread " ∷ decimal counts.unread ∷ codes " games " ∷ decimal games ∷ codes " version " ∷ decimal version ∷ [])
+-- how many there was no room for, how many were not read, the games that were added, and the
+-- version after it
+abbrev pub counts_tail : ℕ → ℕ → ℕ → ℕ → List ℕ
+counts_tail full unread games version =
+    line_text (codes " full " ∷ decimal full ∷ codes " unread " ∷ decimal unread
+    ∷ codes " games " ∷ decimal games ∷ codes " version " ∷ decimal version ∷ [])
 
 -- the counts of an import
-abbrev pub counts_text : ℕ → FileCounts → ℕ → ℕ → List ℕ
-counts_text line counts games version = counts_head line counts ++ counts_tail counts games version
-
--- how many files there are, and how many were accepted, refused, not added for want of room, and not read
-abbrev pub counts_of : List FileReport → FileCounts
-counts_of reports = record {
-  files = length reports;
-  accepted = count_by is_accepted reports;
-  refused = count_by is_refused reports;
-  full = count_by is_full reports;
-  unread = count_by is_unread reports;
-}
+abbrev pub counts_text : ℕ → List FileReport → ℕ → ℕ → List ℕ
+counts_text line reports games version =
+    counts_head line (length reports) (count_by is_accepted reports) (count_by is_refused reports)
+    ++ counts_tail (count_by is_full reports) (count_by is_unread reports) games version
 
 -- the counts of an import, and the lines of the files that were not accepted
 abbrev pub listed_text : ℕ → List FileReport → ℕ → ℕ → List ℕ
-listed_text line reports games version = counts_text line (counts_of reports) games version ++ flat_map file_text reports
+listed_text line reports games version =
+    counts_text line reports games version ++ flat_map file_text reports
 
 -- `LINE imported unlisted`
 abbrev pub unlisted_text : ℕ → List ℕ
@@ -117,7 +114,8 @@ abbrev pub too_many_text : ℕ → ℕ → List ℕ
 too_many_text line names = line_text (decimal line ∷ codes " imported too many files " ∷ decimal names ∷ [])
 
 -- the report of an import: what was found, and the version after it
-abbrev pub report_text : ℕ → Found → ℕ → List ℕ
+abbrev pub report_text : ℕ → Finding → ℕ → List ℕ
 report_text line Unlisted version = unlisted_text line
 report_text line (TooMany names) version = too_many_text line names
-report_text line (Files reports games) version = listed_text line reports (length games) version
+report_text line (Files files) version =
+    listed_text line (reports_of files) (length (games_of_files files)) version

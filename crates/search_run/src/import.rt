@@ -4,15 +4,14 @@ ghost use Rattle.kb_edges.specs.Faults.{Rose, RoseBy};
 ghost use Rattle.kb_edges.specs.Files.{File, HasFile};
 ghost use Rattle.kb_edges.specs.Told.{IfTold};
 ghost use Rattle.search_run.specs.declared.outcome.FileOutcome.TheVariants.{Unread};
-ghost use Rattle.search_run.specs.Course.{ImportCourse, IsContent, IsImported, games_from, losses_of, trees_in};
-ghost use Rattle.search_run.specs.Imported.{found_of};
-ghost use Rattle.search_run.specs.Lawful.{games_in, versions_of};
+ghost use Rattle.search_run.specs.Course.{Finding, ImportCourse, IsContent, IsImported, games_from, losses_of, trees_in};
+ghost use Rattle.search_run.specs.Imported.{Tells, file_reports, games_kept};
+ghost use Rattle.search_run.specs.Log.{segments_of};
 ghost use Rattle.search_run.specs.Outcome.{IsOutcome};
-ghost use Rattle.search_run.specs.Reads.{file_reports, HasReadAll, IsOneMoreRead};
+ghost use Rattle.search_run.specs.Reads.{HasReadAll, IsOneMoreRead};
 ghost use Rattle.search_run.specs.Rooms.{AddsGames, AreAdded, IsAdded};
-ghost use Rattle.search_run.specs.Stores.{HaveTheirChanges, HasFewGames};
+ghost use Rattle.search_run.specs.Stores.{HaveTheirChanges, HasFewFiles, HasFewGames};
 ghost use Rattle.session_core.specs.Games.{HasItsChanges, games_of};
-ghost use Rattle.search_run.specs.declared.outcome.TheConstants.{MAX_BASE_GAMES};
 
 use crate::outcome::{Counts, FileOutcome, outcome_of, with_added};
 use game_tree::{GameTree, Setup};
@@ -29,9 +28,6 @@ pub(crate) const MAX_NAMES: usize = 100_000;
 /// How many files make one version.
 const BATCH: usize = 64;
 
-/// The most versions that an import adds.
-pub(crate) const MAX_VERSIONS: u64 = ((MAX_NAMES + BATCH - 1) / BATCH) as u64;
-
 // While a file is imported this is held of each node, each value and each setup, beside its bytes and its trees' nodes.
 const _: () = prove!(size_of::<RawNode>() == 32);
 
@@ -47,7 +43,7 @@ pub(crate) struct ImportedFile {
 }
 
 impl ImportedFile {
-    ghost use Rattle.search_run.specs.Reads.{file_report};
+    ghost use Rattle.search_run.specs.Imported.{file_report};
     ghost use Rattle.search_run.specs.Texts.{is_accepted, is_full, is_refused, is_unread};
 
     /// Whether it was accepted.
@@ -98,7 +94,9 @@ pub(crate) enum Imported {
 impl Imported {
     /// How many versions it adds: one for each whole batch of files, and one for what is left.
     pub fn versions(&self) -> u64
-        ensures { result ≡ versions_of (found_of self.now) }
+        ensures value { (finding : Finding) → Tells self.now finding →
+            result ≡ length (segments_of 64 finding) }
+        ensures most { HasFewFiles self.now → result ≤ 1563 }
     {
         match self {
             Imported::Files { files, .. } => files.len().div_ceil(BATCH) as u64,
@@ -109,7 +107,7 @@ impl Imported {
 
 // Whether these are more names than an import may have.
 fn are_too_many(names: &[String]) -> bool
-    ensures { IsTrue result ↔ (MAX_NAMES < length names.now) }
+    ensures { IsTrue result ↔ (100000 < length names.now) }
 {
     names.len() > MAX_NAMES
 }
@@ -123,12 +121,13 @@ pub(crate) fn import<F: Folder>(
     before: Counts,
 ) -> Result<(Imported, Counts), NoMemory>
     ensures found { IfTold (F.files folder.old) (λ files. IfOk result (λ r.
-        (course : ImportCourse) × IsImported files path.now before course (found_of r.0)
-        × RoseBy (losses_of (course ∷ [])) (F.faults folder.old) (F.faults folder.new))) }
-    ensures added { IfOk result (λ r. AreAdded before r.1 (trees_in (games_in (found_of r.0)))) }
+        (entry : ImportCourse) × (finding : Finding) × Tells r.0 finding
+        × IsImported files path.now before entry finding
+        × RoseBy (losses_of (entry ∷ [])) (F.faults folder.old) (F.faults folder.new))) }
+    ensures added { IfOk result (λ r. AreAdded before r.1 (trees_in (games_kept r.0))) }
     ensures room { HasFewGames before → IfOk result (λ r. HasFewGames r.1) }
     ensures changes { IfOk result (λ r. HaveTheirChanges r.0) }
-    ensures versions { IfOk result (λ r. versions_of (found_of r.0) ≤ MAX_VERSIONS) }
+    ensures few { IfOk result (λ r. HasFewFiles r.0) }
     ensures same { F.files folder.new ≡ F.files folder.old }
     ensures later { F.faults folder.old ≤ F.faults folder.new }
 {
@@ -182,7 +181,7 @@ fn store(
     trees: Vec<GameTree>,
     games: &mut Vec<Stored>,
 ) -> Result<(), NoMemory>
-    requires { length trees.items ≤ MAX_BASE_GAMES }
+    requires { length trees.items ≤ 400000 }
     ensures added { OnOk result (games_of games.new.items ≡ games_of games.old.items ++ games_from name.now 0 trees.items) }
     ensures changes { All HasItsChanges games.old.items → OnOk result (All HasItsChanges games.new.items) }
 {

@@ -6,6 +6,7 @@
 #![tactic(auto)]
 
 mod import;
+mod laws;
 mod outcome;
 mod print;
 mod read;
@@ -17,8 +18,10 @@ mod status;
 mod write;
 
 pub use import::import_one;
-pub use outcome::{Counts, FileOutcome, MAX_BASE_GAMES, MAX_BASE_NODES};
+pub use laws::an_import_has_a_list_of_names;
+pub use outcome::{Counts, FileOutcome, MAX_BASE_NODES};
 pub use serial::run_serial;
+pub use session_core::MAX_BASE_GAMES;
 pub use status::Status;
 
 #[cfg(test)]

@@ -6,12 +6,9 @@ ghost use Rattle.search_run.specs.Rooms.{IsAdded, IsAddedBy};
 
 use game_tree::{BuildError, GameTree, build};
 use kb_geometry::NoMemory;
-use session_core::MAX_GAMES;
+use session_core::MAX_BASE_GAMES;
 use sgf_reader::{FaultKind, ReadError, SgfFault, read};
 use std::alloc::Global;
-
-/// The most games that a base may have.
-pub const MAX_BASE_GAMES: u32 = MAX_GAMES;
 
 /// The most nodes that a base may have.
 pub const MAX_BASE_NODES: u32 = 67_108_864;

@@ -1,8 +1,8 @@
 // The printed report of an import.
-ghost use Rattle.std.specs.Prelude.{◌≡◌, ◌++◌, OnOk, count_by, string_bytes};
-ghost use Rattle.search_run.specs.Imported.{found_of};
-ghost use Rattle.search_run.specs.Reads.{file_report, file_reports};
-ghost use Rattle.search_run.specs.Texts.{counts_head, counts_of, counts_tail, counts_text, file_text, full_text, is_accepted, is_full, is_refused, is_unread, kind_word, listed_text, refused_text, report_text, too_many_text, unlisted_text, unread_text};
+ghost use Rattle.std.specs.Prelude.{◌≡◌, ◌++◌, OnOk, count_by, length, string_bytes};
+ghost use Rattle.search_run.specs.Course.{Finding};
+ghost use Rattle.search_run.specs.Imported.{Tells, file_report, file_reports};
+ghost use Rattle.search_run.specs.Texts.{counts_head, counts_tail, counts_text, file_text, full_text, is_accepted, is_full, is_refused, is_unread, kind_word, listed_text, refused_text, report_text, too_many_text, unlisted_text, unread_text};
 ghost use Rattle.std.specs.List.{flat_map};
 
 use crate::import::{Imported, ImportedFile};
@@ -11,14 +11,10 @@ use kb_geometry::NoMemory;
 use sgf_reader::FaultKind;
 use std::fmt::Write;
 
-// How many files an import has, and how many were accepted, refused, not added for want of room, and not read.
-#[derive(Clone, Copy, Debug, PartialEq, Eq)]
-struct FileCounts {
-    files: usize,
-    accepted: usize,
-    refused: usize,
-    full: usize,
-    unread: usize,
+fn file_count(files: &[ImportedFile]) -> usize
+    ensures { result ≡ length (file_reports files.now) }
+{
+    files.len()
 }
 
 fn accepted_count(files: &[ImportedFile]) -> usize
@@ -43,18 +39,6 @@ fn unread_count(files: &[ImportedFile]) -> usize
     ensures { result ≡ count_by is_unread (file_reports files.now) }
 {
     files.iter().filter(|f| f.is_unread()).count()
-}
-
-fn counts_of(files: &[ImportedFile]) -> FileCounts
-    ensures { result ≡ counts_of (file_reports files.now) }
-{
-    FileCounts {
-        files: files.len(),
-        accepted: accepted_count(files),
-        refused: refused_count(files),
-        full: full_count(files),
-        unread: unread_count(files),
-    }
 }
 
 // The word of a fault's kind.
@@ -125,15 +109,16 @@ fn print_files(out: &mut String, files: &[ImportedFile]) -> Result<(), NoMemory>
 }
 
 // Prints how many files an import has, and how many were accepted and refused.
-fn print_counts_head(out: &mut String, line: u32, counts: FileCounts) -> Result<(), NoMemory>
-    ensures { OnOk result (string_bytes out.new ≡ string_bytes out.old ++ counts_head line counts) }
+fn print_counts_head(
+    out: &mut String,
+    line: u32,
+    files: usize,
+    accepted: usize,
+    refused: usize,
+) -> Result<(), NoMemory>
+    ensures { OnOk result (string_bytes out.new
+        ≡ string_bytes out.old ++ counts_head line files accepted refused) }
 {
-    let FileCounts {
-        files,
-        accepted,
-        refused,
-        ..
-    } = counts;
     write!(
         out,
         "{line} imported files {files} accepted {accepted} refused {refused}"
@@ -141,17 +126,18 @@ fn print_counts_head(out: &mut String, line: u32, counts: FileCounts) -> Result<
     Ok(())
 }
 
-// Prints for how many files there was no room, how many were not read, the games that were added, and the version after it.
+// Prints for how many files there was no room, how many were not read, the games that were added,
+// and the version after it.
 fn print_counts_tail(
     out: &mut String,
-    counts: FileCounts,
+    full: usize,
+    unread: usize,
     games: usize,
     version: u64,
 ) -> Result<(), NoMemory>
-    ensures { OnOk result (string_bytes out.new ≡ string_bytes out.old ++ counts_tail counts games version) }
+    ensures { OnOk result (string_bytes out.new
+        ≡ string_bytes out.old ++ counts_tail full unread games version) }
 {
-    let full = counts.full;
-    let unread = counts.unread;
     writeln!(
         out,
         " full {full} unread {unread} games {games} version {version}"
@@ -163,14 +149,21 @@ fn print_counts_tail(
 fn print_counts(
     out: &mut String,
     line: u32,
-    counts: FileCounts,
+    reports: &[ImportedFile],
     games: usize,
     version: u64,
 ) -> Result<(), NoMemory>
-    ensures { OnOk result (string_bytes out.new ≡ string_bytes out.old ++ counts_text line counts games version) }
+    ensures { OnOk result (string_bytes out.new
+        ≡ string_bytes out.old ++ counts_text line (file_reports reports.now) games version) }
 {
-    print_counts_head(out, line, counts)?;
-    print_counts_tail(out, counts, games, version)
+    let files = file_count(reports);
+    let accepted = accepted_count(reports);
+    let refused = refused_count(reports);
+    print_counts_head(out, line, files, accepted, refused)?;
+    let full = full_count(reports);
+    let unread = unread_count(reports);
+    print_counts_tail(out, full, unread, games, version)?;
+    Ok(())
 }
 
 // Prints the report of an import whose files were read.
@@ -181,9 +174,10 @@ fn print_listed(
     games: usize,
     version: u64,
 ) -> Result<(), NoMemory>
-    ensures { OnOk result (string_bytes out.new ≡ string_bytes out.old ++ listed_text line (file_reports files.now) games version) }
+    ensures { OnOk result (string_bytes out.new
+        ≡ string_bytes out.old ++ listed_text line (file_reports files.now) games version) }
 {
-    print_counts(out, line, counts_of(files), games, version)?;
+    print_counts(out, line, files, games, version)?;
     print_files(out, files)?;
     Ok(())
 }
@@ -204,14 +198,15 @@ fn print_too_many(out: &mut String, line: u32, names: usize) -> Result<(), NoMem
     Ok(())
 }
 
-/// Prints the report of an import.
+/// Prints the report of an import: what was found, and the version after it.
 pub(crate) fn print_report(
     out: &mut String,
     line: u32,
     imported: &Imported,
     version: u64,
 ) -> Result<(), NoMemory>
-    ensures { OnOk result (string_bytes out.new ≡ string_bytes out.old ++ report_text line (found_of imported.now) version) }
+    ensures { OnOk result ((finding : Finding) → Tells imported.now finding →
+        string_bytes out.new ≡ string_bytes out.old ++ report_text line finding version) }
 {
     match imported {
         Imported::Unlisted => print_unlisted(out, line)?,

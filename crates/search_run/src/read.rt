@@ -61,9 +61,9 @@ pub(crate) fn read_text<S: Source>(
     alloc: Global,
     script: &mut S,
 ) -> Result<Vec<u8>, ReadScriptError>
-    ensures text { IfTold (S.left script.old) (λ bytes. IfOk result (λ text. text.items ≡ take (MAX_SCRIPT + 1) bytes)) }
-    ensures left { IfTold (S.left script.old) (λ bytes. OnOk result (S.left script.new ≡ Some (drop (MAX_SCRIPT + 1) bytes))) }
-    ensures most { IfOk result (λ text. vec_len text ≤ MAX_SCRIPT + 1) }
+    ensures text { IfTold (S.left script.old) (λ bytes. IfOk result (λ text. text.items ≡ take 1048577 bytes)) }
+    ensures left { IfTold (S.left script.old) (λ bytes. OnOk result (S.left script.new ≡ Some (drop 1048577 bytes))) }
+    ensures most { IfOk result (λ text. vec_len text ≤ 1048577) }
     ensures later { S.faults script.old ≤ S.faults script.new }
     ensures unread { IsErrOf result ReadScriptError.Unread → Rose (S.faults script.old) (S.faults script.new) }
 {

@@ -2,10 +2,9 @@
 ghost use Rattle.std.specs.Prelude.{◌≡◌, ◌≤◌, ◌<◌, ◌+◌, ◌^◌, IsErrOf, OnErr, OnOk, length};
 ghost use Rattle.kb_edges.specs.Faults.{Rose};
 ghost use Rattle.kb_edges.specs.Told.{IfTold};
-ghost use Rattle.search_run.specs.Run.{WritesBegun, WritesLawful};
+ghost use Rattle.search_run.specs.Run.{WritesBegun, WritesLawful, serial_rules};
 ghost use Rattle.search_run.specs.Steps.{PassesStatement, StopsInStatement};
 
-use crate::import::MAX_VERSIONS;
 use crate::standing::Standing;
 use crate::write::write_all;
 use kb_edges::{Folder, Sink, SinkError};
@@ -53,7 +52,7 @@ pub(crate) fn run_statements<F: Folder, K: Sink>(
     folder: &mut F,
     out: &mut K,
 ) -> Result<(), Stopped>
-    requires { length placed.now ≤ MAX_SCRIPT }
+    requires { length placed.now ≤ 1048576 }
     ensures lawful { IfTold (F.files folder.old) (λ files. IfTold (K.written out.old) (λ before. OnOk result
         (WritesLawful files placed.now before (K.written out.new) (F.faults folder.old) (F.faults folder.new)))) }
     ensures begun { IfTold (F.files folder.old) (λ files. IfTold (K.written out.old) (λ before. OnErr result
@@ -68,7 +67,7 @@ pub(crate) fn run_statements<F: Folder, K: Sink>(
     for statement in placed {
         run_statement(alloc, &mut session, &mut standing, statement, folder, out)?;
     }
-    write_all(out, standing.unjoined())?;
+    write_all(out, standing.report())?;
     Ok(())
 }
 
@@ -81,12 +80,12 @@ fn run_statement<F: Folder, K: Sink>(
     folder: &mut F,
     out: &mut K,
 ) -> Result<(), Stopped>
-    requires { standing.old.version + MAX_VERSIONS < 2 ^ 64 }
+    requires { standing.old.version + 1563 < 2 ^ 64 }
     ensures passed { IfTold (F.files folder.old) (λ files. IfTold (K.written out.old) (λ before. OnOk result
-        (PassesStatement files standing.old placed.now standing.new before (K.written out.new) (F.faults folder.old) (F.faults folder.new)))) }
-    ensures stopped { IfTold (K.written out.old) (λ before. OnErr result (StopsInStatement standing.old placed.now before (K.written out.new))) }
+        (PassesStatement files serial_rules standing.old placed.now standing.new before (K.written out.new) (F.faults folder.old) (F.faults folder.new)))) }
+    ensures stopped { IfTold (K.written out.old) (λ before. OnErr result (StopsInStatement serial_rules standing.old placed.now before (K.written out.new))) }
     ensures sink_fault { IsErrOf result Stopped.SinkFault → Rose (K.faults out.old) (K.faults out.new) }
-    ensures version { OnOk result (standing.new.version ≤ standing.old.version + MAX_VERSIONS) }
+    ensures version { OnOk result (standing.new.version ≤ standing.old.version + 1563) }
     ensures same { F.files folder.new ≡ F.files folder.old }
     ensures later { F.faults folder.old ≤ F.faults folder.new }
     ensures sink_later { K.faults out.old ≤ K.faults out.new }

@@ -13,7 +13,7 @@ use std::alloc::Global;
 /// long the least bad one before the line that holds the byte past the greatest length, or else that line. The only other
 /// error is `NoMemory`.
 pub(crate) fn read_whole(alloc: Global, text: &[u8]) -> Result<Vec<Placed>, ScriptError>
-    requires { length text.now ≤ MAX_SCRIPT + 1 }
+    requires { length text.now ≤ 1048577 }
     ensures script { IfOk result (λ placed. IsScript text.now placed.items) }
     ensures bad_line { (k : ℕ) → IsErrOf result (ScriptError.BadLine k) → IsBad text.now k }
 {
@@ -30,7 +30,7 @@ pub(crate) fn read_whole(alloc: Global, text: &[u8]) -> Result<Vec<Placed>, Scri
 
 // What stands before the line that holds the byte past the greatest length.
 fn before_cut(text: &[u8]) -> &[u8]
-    requires { MAX_SCRIPT < length text.now }
+    requires { 1048576 < length text.now }
     ensures { IsCut text.now result.now }
 {
     let allowed = &text[..MAX_SCRIPT];
@@ -42,9 +42,9 @@ fn before_cut(text: &[u8]) -> &[u8]
 
 // How many lines there are.
 fn line_count(text: &[u8]) -> u32
-    requires { length text.now ≤ MAX_SCRIPT }
+    requires { length text.now ≤ 1048576 }
     ensures value { result ≡ length (lines_of text.now) }
-    ensures most { result ≤ MAX_SCRIPT }
+    ensures most { result ≤ 1048576 }
 {
     text.lines_with_terminator().count() as u32
 }

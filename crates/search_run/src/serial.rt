@@ -1,10 +1,9 @@
 // The top call on one thread.
-ghost use Rattle.std.specs.Prelude.{◌≡◌, ◌≢◌, ◌+◌, ◌↔◌, ◌⊎◌, ℕ, List, [], Some, drop};
+ghost use Rattle.std.specs.Prelude.{◌≡◌, ◌≢◌, ◌≤◌, ◌+◌, ◌↔◌, ◌⊎◌, ℕ, List, [], Some, drop};
 ghost use Rattle.kb_edges.specs.Faults.{Rose};
 ghost use Rattle.kb_edges.specs.Files.{File};
 ghost use Rattle.search_run.specs.Script.{IsBad, IsInGrammar};
 ghost use Rattle.search_run.specs.Serial.{Begins, IsEarly, Prints, PrintsAll};
-ghost use Rattle.query_script.specs.declared.statement.TheConstants.{MAX_SCRIPT};
 ghost use Rattle.search_run.specs.declared.status.Status.{Status};
 
 use crate::read::{ReadScriptError, read_text};
@@ -41,7 +40,7 @@ pub fn run_serial<F: Folder, S: Source, K: Sink>(
 
     // A script that was read to its end leaves nothing; of one that is too long no more than one byte past the limit is read.
     ensures done_left { (bytes : List ℕ) → S.left script.old ≡ Some bytes → result.0 ≡ Status.Done → S.left script.new ≡ Some [] }
-    ensures bad_script_left { (bytes : List ℕ) → S.left script.old ≡ Some bytes → (k : ℕ) → result.0 ≡ Status.BadScript k → S.left script.new ≡ Some (drop (MAX_SCRIPT + 1) bytes) }
+    ensures bad_script_left { (bytes : List ℕ) → S.left script.old ≡ Some bytes → (k : ℕ) → result.0 ≡ Status.BadScript k → S.left script.new ≡ Some (drop 1048577 bytes) }
 
     // Then the statements. The sink fails only where its count rose.
     ensures sink_fault { result.0 ≡ Status.SinkFault → Rose (K.faults out.old) (K.faults out.new) }
@@ -59,6 +58,12 @@ pub fn run_serial<F: Folder, S: Source, K: Sink>(
         ¬ Rose (S.faults script.old) (S.faults script.new) → ¬ Rose (K.faults out.old) (K.faults out.new) → (result.0 ≡ Status.Done) ⊎ (result.0 ≡ Status.NoMemory) }
     ensures no_loss { (bytes : List ℕ) (files : List File) (before : List ℕ) → S.left script.old ≡ Some bytes → F.files folder ≡ Some files → K.written out.old ≡ Some before →
         result.0 ≡ Status.Done → ¬ Rose (F.faults folder) (F.faults result.1) → PrintsAll bytes files before (K.written out.new) }
+
+    // The folder's files stay, and no count of faults falls.
+    ensures same { F.files result.1 ≡ F.files folder }
+    ensures later { F.faults folder ≤ F.faults result.1 }
+    ensures script_later { S.faults script.old ≤ S.faults script.new }
+    ensures sink_later { K.faults out.old ≤ K.faults out.new }
 
     // Before the first statement nothing is written, and the folder isn't asked.
     ensures nothing_written { IsEarly result.0 → K.written out.new ≡ K.written out.old }

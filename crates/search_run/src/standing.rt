@@ -1,11 +1,10 @@
 // Where a run stands: what it has imported, and the text of each statement there.
-ghost use Rattle.std.specs.Prelude.{◌≡◌, ◌<◌, ◌≤◌, ◌+◌, ◌^◌, ◌++◌, ◌∷◌, [], List, IfOk, OnErr, OnOk, All};
-ghost use Rattle.search_run.specs.Imported.{found_of};
-ghost use Rattle.search_run.specs.Lawful.{games_in};
-ghost use Rattle.search_run.specs.Stores.{HaveTheirChanges};
+ghost use Rattle.std.specs.Prelude.{◌≡◌, ◌<◌, ◌≤◌, ◌+◌, ◌^◌, ◌++◌, ◌∷◌, [], List, None, ℕ, IfOk, OnErr, OnOk, All, length};
+ghost use Rattle.search_run.specs.Imported.{games_kept};
+ghost use Rattle.search_run.specs.Stores.{HaveTheirChanges, HasFewFiles};
 ghost use Rattle.session_core.specs.Games.{HasItsChanges, games_of};
 
-use crate::import::{Imported, MAX_VERSIONS, import};
+use crate::import::{Imported, import};
 use crate::outcome::Counts;
 use crate::print::print_report;
 use kb_edges::Folder;
@@ -21,23 +20,29 @@ pub(crate) struct Standing {
     version: u64,
     games: Vec<Stored>,
     counts: Counts,
-    /// The report of an import that isn't joined yet, or nothing.
-    unjoined: String,
+    /// The report of an import that isn't joined yet.
+    waiting: Option<String>,
 }
 
 impl Model for Standing {
     ghost use Rattle.std.specs.Prelude.{◌≡◌, All, string_bytes};
+    ghost use Rattle.std.specs.Option.{option_map};
     ghost use Rattle.search_run.specs.Course.{trees_in};
     ghost use Rattle.search_run.specs.Outcome.{counts_of};
-    ghost use Rattle.search_run.specs.Lawful.{State};
+    ghost use Rattle.search_run.specs.Steps.{Kept};
     ghost use Rattle.search_run.specs.Stores.{HasFewGames};
     ghost use Rattle.session_core.specs.Games.{HasItsChanges, games_of};
 
-    ghost Value = { State };
+    ghost Value = { Kept };
 
-    ghost view = { λ s. record { version = s.version; games = games_of s.games.items; unjoined = string_bytes s.unjoined } };
+    ghost view = { λ s. record {
+      version = s.version;
+      games = games_of s.games.items;
+      waiting = option_map string_bytes s.waiting;
+    } };
 
-    ghost invariant = { λ s. (s.counts ≡ counts_of (trees_in (games_of s.games.items))) × HasFewGames s.counts × All HasItsChanges s.games.items };
+    ghost invariant = { λ s. (s.counts ≡ counts_of (trees_in (games_of s.games.items)))
+        × HasFewGames s.counts × All HasItsChanges s.games.items };
 }
 
 impl Standing {
@@ -45,27 +50,29 @@ impl Standing {
     ghost use Rattle.kb_edges.specs.Told.{IfTold};
     ghost use Rattle.query_script.specs.Texts.{import_text, until_text, wait_text};
     ghost use Rattle.session_core.specs.Answers.{IsAnswer, IsAnswered};
-    ghost use Rattle.search_run.specs.Course.{Found, ImportCourse, IsImported, losses_of, trees_in};
-    ghost use Rattle.search_run.specs.Outcome.{counts_of};
-    ghost use Rattle.search_run.specs.Lawful.{AreSearchTexts, IsText, Leads, after_import, at_start};
+    ghost use Rattle.search_run.specs.Run.{serial_rules};
+    ghost use Rattle.search_run.specs.Steps.{BlockTexts, IsTextByKept, LeadsOn, kept_report, nothing_kept, view_of};
 
     /// The empty base.
     pub fn new(alloc: Global) -> Self
-        ensures { result ≡ at_start }
+        ensures { result ≡ nothing_kept }
     {
         Standing {
             version: 0,
             games: Vec::new(alloc),
             counts: Counts { games: 0, nodes: 0 },
-            unjoined: String::new(alloc),
+            waiting: None,
         }
     }
 
     /// The report of an import that isn't joined yet, or nothing.
-    pub fn unjoined(&self) -> &[u8]
-        ensures { result.now ≡ self.now.unjoined }
+    pub fn report(&self) -> &[u8]
+        ensures { result.now ≡ kept_report self.now }
     {
-        self.unjoined.as_bytes()
+        match &self.waiting {
+            Some(report) => report.as_bytes(),
+            None => &[],
+        }
     }
 
     /// The text of a statement.
@@ -75,7 +82,8 @@ impl Standing {
         session: &mut Session,
         placed: &Placed,
     ) -> Result<Vec<u8>, NoMemory>
-        ensures { IfOk result (λ text. IsText self.now placed.now text.items) }
+        ensures { IfOk result (λ text.
+            IsTextByKept serial_rules self.now placed.now.line placed.now.statement text.items) }
     {
         let line = placed.line;
         match &placed.statement {
@@ -94,17 +102,19 @@ impl Standing {
 
     // An import waits for the one before it, so that one's report is printed first.
     fn import_text(&self, alloc: Global, line: u32, path: &str) -> Result<Vec<u8>, NoMemory>
-        ensures { IfOk result (λ text. text.items ≡ self.now.unjoined ++ import_text line path.now) }
+        ensures { IfOk result (λ text.
+            text.items ≡ kept_report self.now ++ import_text line path.now) }
     {
-        let mut text = self.unjoined.as_bytes().to_vec(alloc)?;
+        let mut text = self.report().to_vec(alloc)?;
         print_import(line, path, &mut text)?;
         Ok(text)
     }
 
     fn wait_text(&self, alloc: Global, line: u32) -> Result<Vec<u8>, NoMemory>
-        ensures { IfOk result (λ text. text.items ≡ self.now.unjoined ++ wait_text line self.now.version) }
+        ensures { IfOk result (λ text.
+            text.items ≡ kept_report self.now ++ wait_text line self.now.version) }
     {
-        let mut text = self.unjoined.as_bytes().to_vec(alloc)?;
+        let mut text = self.report().to_vec(alloc)?;
         print_wait(line, self.version, &mut text)?;
         Ok(text)
     }
@@ -125,7 +135,8 @@ impl Standing {
         statement: &Statement,
     ) -> Result<Vec<u8>, NoMemory>
         requires { IsAnswered statement.now }
-        ensures { IfOk result (λ text. IsAnswer line self.now.version self.now.games statement.now text.items) }
+        ensures { IfOk result (λ text.
+            IsAnswer line (view_of self.now) statement.now text.items) }
     {
         let mut text = Vec::new(alloc);
         session.answer(alloc, line, statement, self.version, &self.games, &mut text)?;
@@ -139,7 +150,7 @@ impl Standing {
         session: &mut Session,
         searches: &[PlacedSearch],
     ) -> Result<Vec<u8>, NoMemory>
-        ensures { IfOk result (λ text. AreSearchTexts self.now searches.now text.items) }
+        ensures { IfOk result (λ text. BlockTexts self.now searches.now text.items) }
     {
         let mut text = Vec::new(alloc);
         for PlacedSearch { line, query } in searches {
@@ -155,11 +166,11 @@ impl Standing {
         folder: &mut F,
         placed: &Placed,
     ) -> Result<(), NoMemory>
-        requires { self.old.version + MAX_VERSIONS < 2 ^ 64 }
-        ensures passed { IfTold (F.files folder.old) (λ files. OnOk result ((used : List ImportCourse)
-            × Leads files self.old placed.now used self.new
-            × RoseBy (losses_of used) (F.faults folder.old) (F.faults folder.new))) }
-        ensures version { OnOk result (self.new.version ≤ self.old.version + MAX_VERSIONS) }
+        requires { self.old.version + 1563 < 2 ^ 64 }
+        ensures passed { IfTold (F.files folder.old) (λ files. OnOk result ((text : List ℕ) →
+            LeadsOn files serial_rules self.old placed.now.line placed.now.statement text self.new
+            (F.faults folder.old) (F.faults folder.new))) }
+        ensures version { OnOk result (self.new.version ≤ self.old.version + 1563) }
         ensures same { F.files folder.new ≡ F.files folder.old }
         ensures later { F.faults folder.old ≤ F.faults folder.new }
     {
@@ -169,7 +180,7 @@ impl Standing {
                 Ok(())
             }
             Statement::Wait => {
-                self.unjoined = String::new(alloc);
+                self.waiting = None;
                 Ok(())
             }
             Statement::Until { .. } => Ok(()),
@@ -187,11 +198,11 @@ impl Standing {
         line: u32,
         path: &str,
     ) -> Result<(), NoMemory>
-        requires { self.old.version + MAX_VERSIONS < 2 ^ 64 }
-        ensures passed { IfTold (F.files folder.old) (λ files. OnOk result ((entry : ImportCourse) × (found : Found)
-            × IsImported files path.now (counts_of (trees_in self.old.games)) entry found × (self.new ≡ after_import self.old line found)
-            × RoseBy (losses_of (entry ∷ [])) (F.faults folder.old) (F.faults folder.new))) }
-        ensures version { OnOk result (self.new.version ≤ self.old.version + MAX_VERSIONS) }
+        requires { self.old.version + 1563 < 2 ^ 64 }
+        ensures passed { IfTold (F.files folder.old) (λ files. OnOk result ((text : List ℕ) →
+            LeadsOn files serial_rules self.old line (Statement.Import path.now) text self.new
+            (F.faults folder.old) (F.faults folder.new))) }
+        ensures version { OnOk result (self.new.version ≤ self.old.version + 1563) }
         ensures same { F.files folder.new ≡ F.files folder.old }
         ensures later { F.faults folder.old ≤ F.faults folder.new }
     {
@@ -202,7 +213,7 @@ impl Standing {
         add_games(&mut self.games, imported)?;
         self.counts = counts;
         self.version = version;
-        self.unjoined = report;
+        self.waiting = Some(report);
         Ok(())
     }
 }
@@ -210,7 +221,8 @@ impl Standing {
 // Adds the games that an import found.
 fn add_games(games: &mut Vec<Stored>, imported: Imported) -> Result<(), NoMemory>
     requires { HaveTheirChanges imported }
-    ensures added { OnOk result (games_of games.new.items ≡ games_of games.old.items ++ games_in (found_of imported)) }
+    ensures added { OnOk result (games_of games.new.items
+        ≡ games_of games.old.items ++ games_kept imported) }
     ensures changes { All HasItsChanges games.old.items → OnOk result (All HasItsChanges games.new.items) }
     ensures kept { OnErr result (games.new.items ≡ games.old.items) }
 {

@@ -8,6 +8,7 @@ use std::test::Fail;
 
 mod damaged;
 mod imports;
+mod many_names;
 mod occurrences;
 mod positions;
 mod searches;

@@ -6,13 +6,13 @@ use Rattle.pattern_images.specs.declared.hit.Hit.{Hit}
 use Rattle.pattern_images.specs.declared.query.Query.{Query}
 use Rattle.pattern_images.specs.Placements.{ArePlacements, Placement}
 use Rattle.line_matcher.specs.Occurrences.{occurrences_in}
-use Rattle.session_core.specs.Games.{AreChangesOf}
+use Rattle.node_position.specs.Games.{AreNodeChanges}
 use Rattle.session_core.specs.Hits.{AreHitsIn, AreHitsOf}
 use Rattle.session_core.specs.Searching.{AreHitsAdded}
 use Rattle.session_core.proofs.AddedHits.{AreHitsAdded-none}
 use Rattle.session_core.proofs.WhereFound.{no_occurrences}
 
-module _ (query : Query) (number : ℕ) (game : Tree) (changes : Deltas) (of : AreChangesOf game changes) (placements : List Placement) (are : ArePlacements query game.shape placements) (old new : List Hit) where
+module _ (query : Query) (number : ℕ) (game : Tree) (changes : Deltas) (of : AreNodeChanges game changes) (placements : List Placement) (are : ArePlacements query game.shape placements) (old new : List Hit) where
   -- those of all its occurrences
   pub AreHitsIn-added : AreHitsAdded (AreHitsOf query number game changes placements (occurrences_in changes placements)) old new → AreHitsAdded (AreHitsIn query number game) old new
   AreHitsIn-added added = record {

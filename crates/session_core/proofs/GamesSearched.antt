@@ -1,5 +1,5 @@
 -- Searching one game after another.
-use Rattle.std.proofs.Common.{◌≡◌, ℕ, ◌+◌, ◌<◌, ◌≤◌, inl, inr, List, [], ◌∷◌, ◌++◌, length, get_or, take, sym, ap, ◌∙◌, subst, arith}
+use Rattle.std.proofs.Common.{◌≡◌, ℕ, ◌+◌, ◌<◌, ◌≤◌, inl, inr, List, [], ◌∷◌, ◌++◌, length, get_or, take, sym, ap, ◌∙◌, subst, zero-add, arith}
 use Rattle.std.specs.Prelude.{◌==◌, ◌&&◌, All}
 use Rattle.std.specs.Bool.{Decides}
 use Rattle.std.proofs.lemmas.Bool.{and_from, and_parts, cases_lt, eq-eqb, eqb-true}
@@ -11,7 +11,7 @@ use Rattle.pattern_images.specs.declared.query.Query.{Query}
 use Rattle.session_core.specs.declared.stored.Stored.{Stored}
 use Rattle.pattern_images.specs.Placements.{ArePlacements, Placement}
 use Rattle.session_core.specs.Games.{HasItsChanges, game_of, games_of}
-use Rattle.session_core.specs.Hits.{AreHits, AreHitsIn}
+use Rattle.session_core.specs.Hits.{AreGameHits, AreHits, AreHitsFrom, AreHitsIn}
 use Rattle.session_core.specs.Searching.{AreHitsAdded, IsRun}
 
 -- one game more is searched
@@ -22,7 +22,7 @@ AreHits-more query games n stored hits new lt is so_far added =
     let next : games_of (take (n + 1) games) ≡ games_of (take n games) ++ game_of stored ∷ [] = ap games_of (take_more games n stored lt ∙ ap (λ (s : Stored). take n games ++ s ∷ []) (sym is)) ∙ map_push game_of (take n games) stored in
     subst (λ gs. AreHits query gs new) (sym next)
     (subst (λ hs. AreHits query (games_of (take n games) ++ game_of stored ∷ []) hs) (sym added.added)
-    (AreHits.one_more (game_of stored) added.more so_far (subst (λ k. AreHitsIn query k stored.tree added.more) (sym counted) added.are_hits)))
+    (AreHitsFrom.one_more (game_of stored) added.more so_far (AreGameHits.asked tt (subst (λ k. AreHitsIn query k stored.tree added.more) (sym counted ∙ sym (zero-add (length (games_of (take n games))))) added.are_hits))))
 
 -- ---- runs of games on boards of one shape
 pub IsRun-more : (games : List Stored) (from to : ℕ) (first last : Stored) → from < length games → to < length games → IsRun games from to → first ≡ get_or games from first → last ≡ get_or games to last
@@ -61,4 +61,4 @@ module _ (games : List Stored) (k : ℕ) (stored : Stored) (lt : k < length game
       let one : stored.deltas.shape ≡ (get_or games k first).deltas.shape = ap (λ (s : Stored). s.deltas.shape) (is ∙ get_or_default games k stored first lt) in
       let other : (get_or games from first).deltas.shape ≡ first.deltas.shape = ap (λ (s : Stored). s.deltas.shape) (sym at) in
       let has = has_its_changes all in
-      subst (λ (s : Shape). ArePlacements query s placements) (same ∙ sym other ∙ sym (run k first low high) ∙ sym one ∙ has.2.same_shape) are
+      subst (λ (s : Shape). ArePlacements query s placements) (same ∙ sym other ∙ sym (run k first low high) ∙ sym one ∙ has.lead.same_shape) are

@@ -4,3 +4,7 @@ mod FoundHits
 mod GameHits
 mod GamesSearched
 pub mod WhereFound
+mod HitParts
+mod HitsExist
+mod OneListOfHits
+pub mod OneAnswer

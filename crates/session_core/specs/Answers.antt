@@ -7,31 +7,46 @@ use Rattle.sgf_writer.specs.Written.{IsWritten}
 use Rattle.query_script.specs.declared.statement.Statement.{Statement}
 use Rattle.query_script.specs.declared.statement.Statement.TheVariants as statement
 use Rattle.query_script.specs.Texts.{game_head, no_game_text, search_text}
-use Rattle.session_core.specs.Games.{Game}
+use Rattle.node_position.specs.Games.{Game}
 use Rattle.session_core.specs.Hits.{AreHits}
 
--- the text of a search at this line, in the version with this number and these games: its hits and their table
-pub record IsSearchText (line version : ℕ) (games : List Game) (query : Query) (text : List ℕ) : Type 0 where
+-- What a statement is answered from: the number of a version, and its games.
+pub record View : Type 0 where
+  pub version : ℕ
+  pub games : List Game
+
+-- the text of a search at this line: its hits and their table
+pub record IsSearchText (line : ℕ) (view : View) (query : Query) (text : List ℕ) : Type 0 where
   pub hits : List Hit
   pub table : TableView
-  pub are_hits : AreHits query games hits
+  pub are_hits : AreHits query view.games hits
   pub is_table : IsTable hits table
-  pub text_is : text ≡ search_text line version (length games) hits table
+  pub text_is : text ≡ search_text line view.version (length view.games) hits table
 
--- the text of a game: its head and the written tree as one line, or that the version has no such game
-pub data IsGameText (line version : ℕ) (games : List Game) (number : ℕ) : List ℕ → Type 0 where
-  there : (game : Game) (written : List ℕ) → number < length games → ((d : Game) → slice_index_or games number d ≡ game) → IsWritten game.tree written →
-      IsGameText line version games number (game_head line number version game.place game.file ++ (written ++ 10 ∷ []))
-  none : length games ≤ number → IsGameText line version games number (no_game_text line number version)
+-- the game with this number is there
+pub record IsThere (games : List Game) (number : ℕ) (game : Game) : Type 0 where
+  pub in_range : number < length games
+  pub at : (d : Game) → slice_index_or games number d ≡ game
 
--- The text of a statement over the games of a version. Other statements have none.
-abbrev pub IsAnswer : ℕ → ℕ → List Game → Statement → List ℕ → Type 0
-IsAnswer line version games (statement.Search query) text = IsSearchText line version games query text
-IsAnswer line version games (statement.Game number) text = IsGameText line version games number text
-IsAnswer line version games (statement.Import path) text = ⊥
-IsAnswer line version games statement.Wait text = ⊥
-IsAnswer line version games (statement.Until number) text = ⊥
-IsAnswer line version games (statement.Together searches) text = ⊥
+-- the text of a game: its head and the written tree as one line, or that the version has no such
+-- game
+pub data IsGameText (line : ℕ) (view : View) (number : ℕ) : List ℕ → Type 0 where
+  there : (game : Game) (written : List ℕ) →
+      IsThere view.games number game →
+      IsWritten game.tree written →
+      IsGameText line view number
+      (game_head line number view.version game.place game.file ++ (written ++ 10 ∷ []))
+  none : length view.games ≤ number →
+      IsGameText line view number (no_game_text line number view.version)
+
+-- The text of a statement over what is seen of the base. Other statements have none.
+abbrev pub IsAnswer : ℕ → View → Statement → List ℕ → Type 0
+IsAnswer line view (statement.Search query) text = IsSearchText line view query text
+IsAnswer line view (statement.Game number) text = IsGameText line view number text
+IsAnswer line view (statement.Import path) text = ⊥
+IsAnswer line view statement.Wait text = ⊥
+IsAnswer line view (statement.Until number) text = ⊥
+IsAnswer line view (statement.Together searches) text = ⊥
 
 -- the statement is answered from the games of a version: a search, or a game
 abbrev pub IsAnswered : Statement → Type 0

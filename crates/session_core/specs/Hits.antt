@@ -1,6 +1,7 @@
 -- The hits of a query in games: each game, node and placement where the placement holds and did not hold at the node's parent,
 -- if the query looks at the node.
-use Rattle.std.specs.Prelude.{◌≡◌, ℕ, ◌≤◌, IsTrue, List, [], ◌∷◌, ◌++◌, length, Option, Some, None}
+use Rattle.std.specs.Prelude.{◌≡◌, ℕ, ◌+◌, ◌≤◌, IsTrue, List, [], ◌∷◌, ◌++◌, length, Option, Some, None}
+use Rattle.game_tree.specs.Information.{Information}
 use Rattle.game_tree.specs.MainLine.{IsOnMainLine}
 use Rattle.game_tree.specs.Result.{outcome_of}
 use Rattle.game_tree.specs.Tree.{Tree, move_number_of}
@@ -10,9 +11,10 @@ use Rattle.pattern_images.specs.declared.hit.Next.{Next}
 use Rattle.pattern_images.specs.declared.query.Query.{Query}
 use Rattle.pattern_images.specs.ImageList.{IsPlaceOf, placement_at}
 use Rattle.pattern_images.specs.Placements.{ArePlacements, Placement}
-use Rattle.line_matcher.specs.Occurrences.{Occurrence, occurrences_in}
+use Rattle.line_matcher.specs.declared.occurrence.Occurrence.{Occurrence}
+use Rattle.line_matcher.specs.Occurrences.{occurrences_in}
 use Rattle.continuation_table.specs.Continuation.{IsContinuation}
-use Rattle.session_core.specs.Games.{AreChangesOf, Game}
+use Rattle.node_position.specs.Games.{AreNodeChanges, Game}
 
 -- The query looks at the node: the node is on the main line, if the query asks for that, and its move number is within the
 -- query's bounds.
@@ -43,16 +45,33 @@ pub data AreHitsOf (query : Query) (number : ℕ) (tree : Tree) (changes : Delta
   left_out : {occurrences : List Occurrence} {hits : List Hit} (o : Occurrence) → AreHitsOf query number tree changes placements occurrences hits →
       ¬ LooksAt query tree o.node → AreHitsOf query number tree changes placements (occurrences ++ o ∷ []) hits
 
--- The hits in the game with this number: those of the occurrences of the query's placements on the game's board, by node, and
--- at one node in the order of the placements.
+-- The hits in the game with this number, where it is asked for: those of the occurrences of the
+-- query's placements on the game's board, by node, and at one node in the order of the placements.
 pub record AreHitsIn (query : Query) (number : ℕ) (tree : Tree) (hits : List Hit) : Type 0 where
   pub changes : Deltas
-  pub are_changes : AreChangesOf tree changes
+  pub are_changes : AreNodeChanges tree changes
   pub placements : List Placement
   pub are_placements : ArePlacements query tree.shape placements
   pub are_hits : AreHitsOf query number tree changes placements (occurrences_in changes placements) hits
 
--- the hits in games, which are numbered from 0, in order of the games
-pub data AreHits (query : Query) : List Game → List Hit → Type 0 where
-  nothing : AreHits query [] []
-  one_more : {games : List Game} {hits : List Hit} (game : Game) (more : List Hit) → AreHits query games hits → AreHitsIn query (length games) game.tree more → AreHits query (games ++ game ∷ []) (hits ++ more)
+-- a search asks for games with this information: so far for all
+abbrev pub AsksFor : Query → Information → Type 0
+AsksFor query info = Unit {0}
+
+-- the hits in the game with this number: none, if it isn't asked for
+pub data AreGameHits (query : Query) (number : ℕ) (tree : Tree) : List Hit → Type 0 where
+  asked : {hits : List Hit} → AsksFor query tree.info → AreHitsIn query number tree hits →
+      AreGameHits query number tree hits
+  not_asked : ¬ AsksFor query tree.info → AreGameHits query number tree []
+
+-- the hits in games, which are numbered from a first number on, in order of the games
+pub data AreHitsFrom (first : ℕ) (query : Query) : List Game → List Hit → Type 0 where
+  nothing : AreHitsFrom first query [] []
+  one_more : {games : List Game} {hits : List Hit} (game : Game) (more : List Hit) →
+      AreHitsFrom first query games hits →
+      AreGameHits query (first + length games) game.tree more →
+      AreHitsFrom first query (games ++ game ∷ []) (hits ++ more)
+
+-- the hits in the games of a version, which are numbered from 0
+abbrev pub AreHits : Query → List Game → List Hit → Type 0
+AreHits query games hits = AreHitsFrom 0 query games hits

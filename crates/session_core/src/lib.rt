@@ -4,12 +4,17 @@
 //! patterns. The layer above uses that what [`Session::answer`] appends is exactly the statement's text.
 #![tactic(auto)]
 
+mod laws;
 mod search;
 mod session;
 mod stored;
 
+pub use laws::{
+    a_base_has_at_most_400_000_games, a_statement_has_one_answer, games_have_one_list_of_hits,
+    hits_of_two_parts_are_those_of_each,
+};
 pub use session::Session;
-pub use stored::{MAX_GAMES, Stored};
+pub use stored::{MAX_BASE_GAMES, Stored};
 
 #[cfg(test)]
 mod tests;

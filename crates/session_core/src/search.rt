@@ -2,18 +2,20 @@
 ghost use Rattle.std.specs.Prelude.{◌≡◌, ◌↔◌, ◌<◌, ◌≤◌, All, IfOk, IsTrue, OnOk, length, take};
 ghost use Rattle.game_tree.specs.Tree.{node_count};
 ghost use Rattle.pattern_images.specs.Placements.{ArePlacements};
-ghost use Rattle.line_matcher.specs.Occurrences.{AreFound, occurrences_in};
+ghost use Rattle.pattern_images.specs.ImageList.{placement_at};
+ghost use Rattle.continuation_table.specs.Continuation.{HoldsAt};
+ghost use Rattle.line_matcher.specs.Occurrences.{occurrences_in};
 ghost use Rattle.session_core.specs.Games.{HasItsChanges, games_of};
-ghost use Rattle.session_core.specs.Hits.{AreHits, AreHitsIn, AreHitsOf, LooksAt};
-ghost use Rattle.session_core.specs.Searching.{AreHitsAdded, IsHitOf, IsPlacedAt, IsRun};
+ghost use Rattle.session_core.specs.Hits.{AreHits, AreHitsIn, AreHitsOf, IsHit, LooksAt};
+ghost use Rattle.session_core.specs.Searching.{AreHitsAdded, IsRun};
 
-use crate::stored::{MAX_GAMES, Stored};
+use crate::stored::{MAX_BASE_GAMES, Stored};
 use capture_board::{NodeDeltas, Steps};
-use continuation_table::{next_below, number_of_place};
+use continuation_table::next_below;
 use game_tree::GameTree;
 use kb_geometry::NoMemory;
-use line_matcher::{Matcher, match_with};
-use pattern_images::{Found, Hit, Images, Query, images};
+use line_matcher::{Matcher, Occurrence, match_with};
+use pattern_images::{Hit, Images, Query, images};
 use std::alloc::Global;
 use std::marker::Brand;
 use std::sync::ledger::{Blank, Ledger};
@@ -21,7 +23,7 @@ use std::sync::ledger::{Blank, Ledger};
 /// The hits of a query in games, which are numbered from 0. They stand by game, then by node, then in the order of the
 /// placements. The only error is `NoMemory`.
 pub(crate) fn hits_of(alloc: Global, query: &Query, games: &[Stored]) -> Result<Vec<Hit>, NoMemory>
-    requires most { length games.now ≤ MAX_GAMES }
+    requires most { length games.now ≤ 400000 }
     requires changes { All HasItsChanges games.now }
     ensures { IfOk result (λ hits. AreHits query.now (games_of games.now) hits.items) }
 {
@@ -66,7 +68,7 @@ fn add_run(
     to: usize,
     hits: &mut Vec<Hit>,
 ) -> Result<(), NoMemory>
-    requires most { length games.now ≤ MAX_GAMES }
+    requires most { length games.now ≤ 400000 }
     requires changes { All HasItsChanges games.now }
     requires some { from < to }
     requires in_range { to ≤ length games.now }
@@ -99,45 +101,48 @@ fn add_game(
     if matcher.images.is_empty() {
         return Ok(());
     }
-    let found = found_in::<Brand>(alloc, &game.deltas, matcher, Blank::new(1))?;
-    add_found(query, number, game, matcher.images, &found, hits)
+    let found = occurrences::<Brand>(alloc, &game.deltas, matcher, Blank::new(1))?;
+    add_hits(query, number, game, matcher.images, &found, hits)
 }
 
 // Where placements begin to hold in a game, with a count of steps of its own.
-fn found_in<L: Ledger>(
+fn occurrences<L: Ledger>(
     alloc: Global,
     deltas: &NodeDeltas,
     matcher: &Matcher,
     blank: Blank,
-) -> Result<Vec<Found>, NoMemory>
+) -> Result<Vec<Occurrence>, NoMemory>
     requires name { blank.name ≡ L.name }
     requires parts { blank.parts ≡ L.parts }
     requires some { 0 < blank.parts }
     requires shape { matcher.now.images.now.shape ≡ deltas.now.shape }
-    ensures { IfOk result (λ found. AreFound matcher.now.images.now.placements (occurrences_in deltas.now matcher.now.images.now.placements) found.items) }
+    ensures { IfOk result (λ found.
+        found.items ≡ occurrences_in deltas.now matcher.now.images.now.placements) }
 {
     let mut steps = Steps::<L>::new(blank);
     match_with(alloc, deltas, matcher, &mut steps)
 }
 
-// Adds the hits among what was found in a game.
-fn add_found(
+// Adds the hits of the occurrences in a game.
+fn add_hits(
     query: &Query,
     number: u32,
     game: &Stored,
     images: &Images,
-    found: &[Found],
+    occurrences: &[Occurrence],
     hits: &mut Vec<Hit>,
 ) -> Result<(), NoMemory>
     requires changes { HasItsChanges game.now }
     requires shape { images.now.shape ≡ game.now.deltas.shape }
-    requires found { AreFound images.now.placements (occurrences_in game.now.deltas images.now.placements) found.now }
-    ensures { OnOk result (AreHitsAdded (AreHitsOf query.now number game.now.tree game.now.deltas images.now.placements
-        (occurrences_in game.now.deltas images.now.placements)) hits.old.items hits.new.items) }
+    requires occurrences { occurrences.now
+        ≡ occurrences_in game.now.deltas images.now.placements }
+    ensures { OnOk result (AreHitsAdded
+        (AreHitsOf query.now number game.now.tree game.now.deltas images.now.placements occurrences.now)
+        hits.old.items hits.new.items) }
 {
-    for found in found {
-        if looks_at(query, &game.tree, found.node) {
-            hits.push(hit_of(number, game, images, found))?;
+    for occurrence in occurrences {
+        if looks_at(query, &game.tree, occurrence.node) {
+            hits.push(hit_of(number, game, images, *occurrence))?;
         }
     }
     Ok(())
@@ -155,21 +160,24 @@ fn looks_at(query: &Query, tree: &GameTree, node: u32) -> bool
     query.from_move <= moves && moves <= query.to_move
 }
 
-// The hit of what was found in the game with this number.
-fn hit_of(number: u32, game: &Stored, images: &Images, found: &Found) -> Hit
+// The hit of an occurrence in the game with this number.
+fn hit_of(number: u32, game: &Stored, images: &Images, occurrence: Occurrence) -> Hit
     requires changes { HasItsChanges game.now }
     requires shape { images.now.shape ≡ game.now.deltas.shape }
-    requires node { found.now.node < node_count game.now.tree }
-    requires place { IsPlacedAt game.now.deltas images.now.placements found.now }
-    ensures { IsHitOf number game.now.tree game.now.deltas images.now.placements found.now result }
+    requires node { occurrence.node < node_count game.now.tree }
+    requires placement { occurrence.placement < length images.now.placements }
+    requires holds { HoldsAt game.now.deltas
+        (placement_at images.now.placements occurrence.placement) occurrence.node }
+    ensures { IsHit number game.now.tree game.now.deltas images.now.placements occurrence result }
 {
-    let placement = number_of_place(images, found.place);
+    let Occurrence { node, placement } = occurrence;
+    let placement = placement as usize;
     Hit {
         game: number,
-        node: found.node,
-        place: found.place,
-        moves: game.tree.move_number(found.node),
+        node,
+        place: images.place(placement),
+        moves: game.tree.move_number(node),
         outcome: game.tree.info().outcome(),
-        next: next_below(&game.tree, &game.deltas, images, placement, found.node),
+        next: next_below(&game.tree, &game.deltas, images, placement, node),
     }
 }

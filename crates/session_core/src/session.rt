@@ -3,10 +3,11 @@ ghost use Rattle.std.specs.Prelude.{◌≡◌, ◌≤◌, ◌++◌, ◌∷◌, [
 ghost use Rattle.sgf_writer.specs.Written.{IsWritten};
 ghost use Rattle.query_script.specs.Texts.{game_head};
 ghost use Rattle.session_core.specs.Answers.{BeginWith, IsAnswer, IsAnswered, IsGameText, IsSearchText};
-ghost use Rattle.session_core.specs.Games.{HasItsChanges, games_of};
+ghost use Rattle.session_core.specs.Games.{HasItsChanges};
+ghost use Rattle.session_core.specs.Stores.{view_of};
 
 use crate::search::hits_of;
-use crate::stored::{MAX_GAMES, Stored};
+use crate::stored::{MAX_BASE_GAMES, Stored};
 use continuation_table::Table;
 use kb_geometry::NoMemory;
 use pattern_images::Query;
@@ -26,7 +27,7 @@ impl Session {
 
     /// Appends the text of a search or of a game, whose line is this one, over the games of the version with this number.
     ///
-    /// There are at most [`MAX_GAMES`] games, each with the changes of its tree. The only error is `NoMemory`; then `out` begins
+    /// There are at most [`MAX_BASE_GAMES`] games, each with the changes of its tree. The only error is `NoMemory`; then `out` begins
     /// with what it held.
     pub fn answer(
         &mut self,
@@ -37,10 +38,12 @@ impl Session {
         games: &[Stored],
         out: &mut Vec<u8>,
     ) -> Result<(), NoMemory>
-        requires most { length games.now ≤ MAX_GAMES }
+        requires most { length games.now ≤ 400000 }
         requires changes { All HasItsChanges games.now }
         requires answered { IsAnswered statement.now }
-        ensures ok { OnOk result ((text : List ℕ) × IsAnswer line number (games_of games.now) statement.now text × (out.new.items ≡ out.old.items ++ text)) }
+        ensures ok { OnOk result ((text : List ℕ)
+            × IsAnswer line (view_of number games.now) statement.now text
+            × (out.new.items ≡ out.old.items ++ text)) }
         ensures refused { OnErr result (BeginWith out.new.items out.old.items) }
     {
         match statement {
@@ -63,9 +66,11 @@ impl Session {
         games: &[Stored],
         out: &mut Vec<u8>,
     ) -> Result<(), NoMemory>
-        requires most { length games.now ≤ MAX_GAMES }
+        requires most { length games.now ≤ 400000 }
         requires changes { All HasItsChanges games.now }
-        ensures ok { OnOk result ((text : List ℕ) × IsSearchText line number (games_of games.now) query.now text × (out.new.items ≡ out.old.items ++ text)) }
+        ensures ok { OnOk result ((text : List ℕ)
+            × IsSearchText line (view_of number games.now) query.now text
+            × (out.new.items ≡ out.old.items ++ text)) }
         ensures refused { OnErr result (BeginWith out.new.items out.old.items) }
     {
         append_search(alloc, line, query, number, games, out)
@@ -81,9 +86,11 @@ fn append_search(
     games: &[Stored],
     out: &mut Vec<u8>,
 ) -> Result<(), NoMemory>
-    requires most { length games.now ≤ MAX_GAMES }
+    requires most { length games.now ≤ 400000 }
     requires changes { All HasItsChanges games.now }
-    ensures ok { OnOk result ((text : List ℕ) × IsSearchText line number (games_of games.now) query.now text × (out.new.items ≡ out.old.items ++ text)) }
+    ensures ok { OnOk result ((text : List ℕ)
+        × IsSearchText line (view_of number games.now) query.now text
+        × (out.new.items ≡ out.old.items ++ text)) }
     ensures refused { OnErr result (out.new.items ≡ out.old.items) }
 {
     let hits = hits_of(alloc, query, games)?;
@@ -99,7 +106,9 @@ fn append_game(
     games: &[Stored],
     out: &mut Vec<u8>,
 ) -> Result<(), NoMemory>
-    ensures ok { OnOk result ((text : List ℕ) × IsGameText line number (games_of games.now) game text × (out.new.items ≡ out.old.items ++ text)) }
+    ensures ok { OnOk result ((text : List ℕ)
+        × IsGameText line (view_of number games.now) game text
+        × (out.new.items ≡ out.old.items ++ text)) }
     ensures refused { OnErr result (BeginWith out.new.items out.old.items) }
 {
     match games.get(game as usize) {

@@ -3,7 +3,7 @@ use capture_board::NodeDeltas;
 use game_tree::GameTree;
 
 /// The most games of a version.
-pub const MAX_GAMES: u32 = 400_000;
+pub const MAX_BASE_GAMES: u32 = 400_000;
 
 /// A game that is searched.
 #[derive(Debug, Drop)]

@@ -196,6 +196,58 @@ const OCCURRENCES: [(Files, Asked, &str); 15] = [
     ),
 ];
 
+const WHITE_IN_PLACE_OF_BLACK: Files = &[("a.sgf", "(;SZ[3];B[bb];W[bb])")];
+
+const GREATEST_BOARD: Files = &[("a.sgf", "(;SZ[52];B[ZZ];W[tt])")];
+
+const HALF_WILDCARDS: [(Files, Asked, &str); 2] = [
+    // White or empty: at the root, and again when White stands in place of Black.
+    (
+        WHITE_IN_PLACE_OF_BLACK,
+        Asked {
+            pattern: "o",
+            at: Some((1, 1)),
+            ..SAME
+        },
+        "3 search version 1 games 1 hits 2\nhit 0 0 1 1 0 B 0 0 now\nhit 0 2 1 1 0 -\n\
+         row B 0 0 1 1 0 0 0 1\ntotal 2 1 0 0 0 2\n",
+    ),
+    // With the colours exchanged it is black or empty, so at the root there are two placements.
+    (
+        WHITE_IN_PLACE_OF_BLACK,
+        Asked {
+            pattern: "o",
+            at: Some((1, 1)),
+            ..ANY
+        },
+        "3 search version 1 games 1 hits 3\nhit 0 0 1 1 0 B 0 0 now\nhit 0 0 1 1 8 W 0 0 now\n\
+         hit 0 2 1 1 0 -\nrow B 0 0 1 1 0 0 0 1\nrow W 0 0 1 1 0 0 0 1\ntotal 3 2 0 0 0 3\n",
+    ),
+];
+
+const LARGE_BOARDS: [(Files, Asked, &str); 2] = [
+    (
+        GREATEST_BOARD,
+        SAME_FIXED,
+        "3 search version 1 games 1 hits 1\nhit 0 1 51 51 0 -\ntotal 1 0 0 0 0 1\n",
+    ),
+    // `tt` is a point on a board of this size.
+    (
+        GREATEST_BOARD,
+        Asked {
+            pattern: "O",
+            ..SAME_FIXED
+        },
+        "3 search version 1 games 1 hits 1\nhit 0 2 19 19 0 -\ntotal 1 0 0 0 0 1\n",
+    ),
+];
+
+#[test]
+fn half_wildcards_and_large_boards(rt: HostRuntime) -> Result<(), Fail> {
+    have_texts(&rt, rt.alloc(), &HALF_WILDCARDS)?;
+    have_texts(&rt, rt.alloc(), &LARGE_BOARDS)
+}
+
 #[test]
 fn where_a_pattern_occurs(rt: HostRuntime) -> Result<(), Fail> {
     have_texts(&rt, rt.alloc(), &OCCURRENCES)

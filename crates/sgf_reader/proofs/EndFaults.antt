@@ -6,7 +6,7 @@ use Rattle.sgf_reader.specs.declared.fault.FaultKind.{FaultKind}
 use Rattle.sgf_reader.specs.declared.fault.FaultKind.TheVariants as kind
 use Rattle.sgf_reader.specs.declared.fault.ReadError.TheVariants.{Fault}
 use Rattle.sgf_reader.specs.declared.fault.SgfFault.{SgfFault}
-use Rattle.sgf_reader.specs.declared.limits.TheConstants.{MAX_FILE, MAX_GAMES}
+use Rattle.sgf_reader.specs.Limits.{most_bytes, most_games}
 use Rattle.sgf_reader.specs.declared.place.Phase as phases
 use Rattle.sgf_reader.specs.declared.place.Place as places
 use Rattle.sgf_reader.specs.declared.place.Place.TheVariants as stands
@@ -39,7 +39,7 @@ shown-outside (none_open a b c) out = IsOutside.outside
 shown-outside (may_begin a b c) out = IsOutside.before
 shown-outside (inside h) out = absurd out
 
-before-few : {games from : ℕ} → IsWithinLimits games (Before from) → games ≤ MAX_GAMES
+before-few : {games from : ℕ} → IsWithinLimits games (Before from) → games ≤ most_games
 before-few (few_before a) = a
 
 same_bracket : (games others : List SpelledGame) (a b : ℕ) → ways.out games (Before a) ≡ ways.out others (Before b) → a ≡ b
@@ -50,7 +50,7 @@ game_count v now s shows = ap length shows.games ∙ length-map s.games raw_game
 
 -- ---- at the greatest length
 
-module _ (text : List ℕ) (end : ℕ) (v : View) (now : places.Place) (is_end : end ≡ MAX_FILE) (long : end < length text) (h : HasReadTo text end v now) where
+module _ (text : List ℕ) (end : ℕ) (v : View) (now : places.Place) (is_end : end ≡ most_bytes) (long : end < length text) (h : HasReadTo text end v now) where
   -- a game past the limit whose bracket was read stands at the reader's place
   bracket_read : (at : ℕ) (g : ScansGameTooMany text at) → at < end → end ≤ g.root → h.reached ≡ ways.out g.games (Before at)
   bracket_read at g less low =
@@ -65,7 +65,7 @@ module _ (text : List ℕ) (end : ℕ) (v : View) (now : places.Place) (is_end :
       record { semicolon = g.root; behind = low; there = g.there; white = λ k a b. since.white k (omega arith) b; here = begun_at.semicolon }
 
   Alone : Type 0
-  Alone = (from : ℕ) → now ≡ stands.Before from → MAX_GAMES ≤ length v.games → ¬ IsNodeNext text end
+  Alone = (from : ℕ) → now ≡ stands.Before from → most_games ≤ length v.games → ¬ IsNodeNext text end
 
   refuted : Alone → (at : ℕ) (g : ScansGameTooMany text at) → at < end → end ≤ g.root → ⊥
   unfolding Alone
@@ -88,7 +88,7 @@ module _ (text : List ℕ) (end : ℕ) (v : View) (now : places.Place) (is_end :
     | inr high ↦ not_sooner kind.TooLong kind.TooManyGames end offset high (λ e. inr refl)
   ]
 
-  long-first : Alone → IsFirstFault text kind.TooLong MAX_FILE
+  long-first : Alone → IsFirstFault text kind.TooLong most_bytes
   long-first alone = record {
     there = HasFault.too_long (omega arith);
     first = λ other offset f. subst (λ (k : ℕ). Comes kind.TooLong k other offset) is_end (first-long alone other offset (later text end h.reached (omega arith) (omega arith) h.read other offset f));
@@ -108,14 +108,14 @@ module _ (text : List ℕ) (end : ℕ) (v : View) (now : places.Place) (is_end :
     | inr high ↦ inl (omega arith)
   ]
 
-  many-first : (from : ℕ) → now ≡ stands.Before from → MAX_GAMES ≤ length v.games → IsNodeNext text end → IsFirstFault text kind.TooManyGames from
+  many-first : (from : ℕ) → now ≡ stands.Before from → most_games ≤ length v.games → IsNodeNext text end → IsFirstFault text kind.TooManyGames from
   many-first from is many next =
       let place = shown-before h.shows.place from is in
       let e : scan at_start 0 (take end text) ≡ Some (ways.out h.reached.games (Before from)) = subst (λ (p : Place). scan at_start 0 (take end text) ≡ Some (ways.out h.reached.games p)) place h.read.scans in
       let read = (before-back text end from h.reached.games (omega arith) e).less in
       let on = HasReadTo-up_to text end next.semicolon v now h next.behind (omega (arith, next.there)) (λ k a b. subst (λ (p : places.Place). StaysAt p (slice_index text k)) (sym is) (next.white k a b)) in
       let there_is = shown-before on.shows.place from is in
-      let few : length on.reached.games ≤ MAX_GAMES = before-few (subst (λ (p : Place). IsWithinLimits (length on.reached.games) p) there_is (on.read.limits next.semicolon on.reached (omega arith) on.read.scans)) in
+      let few : length on.reached.games ≤ most_games = before-few (subst (λ (p : Place). IsWithinLimits (length on.reached.games) p) there_is (on.read.limits next.semicolon on.reached (omega arith) on.read.scans)) in
       let shown = game_count v now on.reached on.shows in
       let goes : step on.reached.games on.reached.place next.semicolon (slice_index text next.semicolon) ≡ within on.reached.games (begun from next.semicolon) = rw (there_is, next.here) refl in
       record {

@@ -6,9 +6,9 @@ use Rattle.sgf_reader.specs.declared.collection.RawGame.{RawGame}
 use Rattle.sgf_reader.specs.declared.fault.FaultKind.{FaultKind}
 use Rattle.sgf_reader.specs.declared.fault.FaultKind.TheVariants as kind
 use Rattle.sgf_reader.specs.declared.fault.SgfFault.{SgfFault}
-use Rattle.sgf_reader.specs.declared.limits.TheConstants.{MAX_FILE}
+use Rattle.sgf_reader.specs.Limits.{most_bytes}
 use Rattle.sgf_reader.specs.declared.place.Place as places
-use Rattle.sgf_reader.specs.Grammar.{SpelledGame, Spells}
+use Rattle.sgf_reader.specs.Grammar.{SpelledGame, SpellsGames}
 use Rattle.sgf_reader.specs.Faults.{IsLive, HasTreeStart, HasFault, IsFirstFault, HasRead, IsRead}
 use Rattle.sgf_reader.specs.Scan.{Scan, Place, Within, Inside, IsOutside, scan, at_start}
 use Rattle.sgf_reader.specs.Reading.{View, IsPlaceOutside, IsEndFault, has_ended, has_no_game}
@@ -25,7 +25,7 @@ only_scan text a b e f = let both : Some a ≡ Some b = sym e ∙ f in cc
 inside-not_outside : (i : Inside) → IsOutside (Within i) → ⊥
 inside-not_outside i h = elim h [ ]
 
-module _ (text : List ℕ) (v : View) (now : places.Place) (short : length text ≤ MAX_FILE) (h : HasReadTo text (length text) v now) where
+module _ (text : List ℕ) (v : View) (now : places.Place) (short : length text ≤ most_bytes) (h : HasReadTo text (length text) v now) where
   whole : scan at_start 0 text ≡ Some h.reached
   whole = subst (λ (xs : List ℕ). scan at_start 0 xs ≡ Some h.reached) (take_all (length text) text (omega arith)) h.read.scans
 
@@ -38,7 +38,7 @@ module _ (text : List ℕ) (v : View) (now : places.Place) (short : length text 
 
   -- ---- inside a tree
 
-  not_spelled : (i : Inside) → h.reached.place ≡ Within i → (games : List SpelledGame) → ¬ Spells games text
+  not_spelled : (i : Inside) → h.reached.place ≡ Within i → (games : List SpelledGame) → ¬ SpellsGames games text
   not_spelled i place games spells =
       let s = (spells-scans games text).0 spells in
       let is = only_scan text h.reached (record { games = games; place = s.0 }) whole s.2 in
@@ -64,7 +64,7 @@ module _ (text : List ℕ) (v : View) (now : places.Place) (short : length text 
 
   -- ---- without a game
 
-  none_spelled : length h.reached.games ≡ 0 → (games : List SpelledGame) → ¬ Spells games text
+  none_spelled : length h.reached.games ≡ 0 → (games : List SpelledGame) → ¬ SpellsGames games text
   none_spelled none games spells =
       let s = (spells-scans games text).0 spells in
       let is = only_scan text h.reached (record { games = games; place = s.0 }) whole s.2 in
@@ -98,10 +98,10 @@ module _ (text : List ℕ) (v : View) (now : places.Place) (short : length text 
 
   -- ---- with games
 
-  spelled : IsOutside h.reached.place → 1 ≤ length h.reached.games → Spells h.reached.games text
+  spelled : IsOutside h.reached.place → 1 ≤ length h.reached.games → SpellsGames h.reached.games text
   spelled out some = (spells-scans h.reached.games text).1 (h.reached.place, out, whole, some)
 
-  faultless : Spells h.reached.games text → (of : FaultKind) (at : ℕ) → Later text (length text) of at → ⊥
+  faultless : SpellsGames h.reached.games text → (of : FaultKind) (at : ℕ) → Later text (length text) of at → ⊥
   faultless spells of at (at_no_game e not none) = not h.reached.games spells
   faultless spells of at (at_ended e not has) = not h.reached.games spells
   faultless spells of at (at_unexpected inner low dead) = omega arith

@@ -4,7 +4,7 @@ use Rattle.std.proofs.lemmas.Bool.{cases_lt}
 use Rattle.sgf_reader.specs.declared.fault.FaultKind.{FaultKind}
 use Rattle.sgf_reader.specs.declared.fault.FaultKind.TheVariants as kind
 use Rattle.sgf_reader.specs.declared.fault.SgfFault.{SgfFault}
-use Rattle.sgf_reader.specs.declared.limits.TheConstants.{MAX_FILE, MAX_GAMES, MAX_NODES, MAX_OPEN}
+use Rattle.sgf_reader.specs.Limits.{most_bytes, most_games, most_nodes, most_open}
 use Rattle.sgf_reader.specs.Faults.{IsLive, HasFault, IsFirstFault}
 use Rattle.sgf_reader.specs.Scan.{Scan, Place, Before, Inside, Opened, InNode, with_node, with_bracket, begun, step, within, scan, at_start}
 use Rattle.sgf_reader.specs.Reading.{Fails, refused, too_deep, too_many_nodes, too_many_games}
@@ -22,7 +22,7 @@ no_scan s e = cc
 other_phase : (at : ℕ) → Opened at ≡ InNode → ⊥
 other_phase at e = cc
 
-module _ (text : List ℕ) (count : ℕ) (s : Scan) (there : count < length text) (short : count < MAX_FILE) (read : IsReadTo text count s) where
+module _ (text : List ℕ) (count : ℕ) (s : Scan) (there : count < length text) (short : count < most_bytes) (read : IsReadTo text count s) where
   -- nothing is scanned past a byte that is refused
   stuck : step s.games s.place count (slice_index text count) ≡ None → (to : ℕ) (t : Scan) → count < to → to ≤ length text → scan at_start 0 (take to text) ≡ Some t → ⊥
   stuck none to t low high e =
@@ -70,13 +70,13 @@ module _ (text : List ℕ) (count : ℕ) (s : Scan) (there : count < length text
     | inr past ↦ absurd (other_phase count (ap (λ (j : Inside). j.phase) (begins_here text count s.games (with_bracket i count) there (leads_on (with_bracket i count) goes) offset h low past)))
   ]
 
-  deep-first : (i : Inside) → step s.games s.place count (slice_index text count) ≡ within s.games (with_bracket i count) → length i.parents ≡ MAX_OPEN → IsFirstFault text kind.TooDeep count
+  deep-first : (i : Inside) → step s.games s.place count (slice_index text count) ≡ within s.games (with_bracket i count) → length i.parents ≡ most_open → IsFirstFault text kind.TooDeep count
   deep-first i goes most = record {
     there = HasFault.too_deep ((too_deep-at text count).1 (record { there = there; games = s.games; inside = with_bracket i count; scans = leads_on (with_bracket i count) goes; phase = refl; past = omega arith }));
     first = λ other offset h. first-deep i goes other offset (later text count s (omega arith) (omega arith) read other offset h);
   }
 
-  first-nodes : (i : Inside) (opened : Option ℕ) → step s.games s.place count (slice_index text count) ≡ within s.games (with_node i opened count) → length i.nodes ≡ MAX_NODES → (other : FaultKind) (offset : ℕ) → Later text count other offset → Comes kind.TooManyNodes count other offset
+  first-nodes : (i : Inside) (opened : Option ℕ) → step s.games s.place count (slice_index text count) ≡ within s.games (with_node i opened count) → length i.nodes ≡ most_nodes → (other : FaultKind) (offset : ℕ) → Later text count other offset → Comes kind.TooManyNodes count other offset
   first-nodes i opened goes most other offset (at_no_game e not start) = inl (omega arith)
   first-nodes i opened goes most other offset (at_ended e not start) = inl (omega arith)
   first-nodes i opened goes most other offset (at_unexpected inner low dead) = not_sooner kind.TooManyNodes kind.Unexpected count offset low (λ same. absurd (not_dead (with_node i opened count) goes offset same dead))
@@ -94,7 +94,7 @@ module _ (text : List ℕ) (count : ℕ) (s : Scan) (there : count < length text
         absurd (omega arith)
   ]
 
-  nodes-first : (i : Inside) (opened : Option ℕ) → step s.games s.place count (slice_index text count) ≡ within s.games (with_node i opened count) → length i.nodes ≡ MAX_NODES → IsFirstFault text kind.TooManyNodes count
+  nodes-first : (i : Inside) (opened : Option ℕ) → step s.games s.place count (slice_index text count) ≡ within s.games (with_node i opened count) → length i.nodes ≡ most_nodes → IsFirstFault text kind.TooManyNodes count
   nodes-first i opened goes most = record {
     there = HasFault.too_many_nodes ((node_too_many-at text count).1 (record { there = there; games = s.games; inside = with_node i opened count; scans = leads_on (with_node i opened count) goes; phase = refl; before = i.nodes; node = record { opened = opened; at = count; depth = length i.parents; parent = i.last; pairs = [] }; nodes = refl; past = most; here = refl; no_pair = refl }));
     first = λ other offset h. first-nodes i opened goes most other offset (later text count s (omega arith) (omega arith) read other offset h);
@@ -119,7 +119,7 @@ module _ (text : List ℕ) (count : ℕ) (s : Scan) (there : count < length text
       let e : scan at_start 0 (take count text) ≡ Some (out s.games (Before from)) = subst (λ (p : Place). scan at_start 0 (take count text) ≡ Some (out s.games p)) place read.scans in
       (before-back text count from s.games (omega arith) e).less
 
-  games-first : (from : ℕ) → s.place ≡ Before from → step s.games s.place count (slice_index text count) ≡ within s.games (begun from count) → length s.games ≡ MAX_GAMES → IsFirstFault text kind.TooManyGames from
+  games-first : (from : ℕ) → s.place ≡ Before from → step s.games s.place count (slice_index text count) ≡ within s.games (begun from count) → length s.games ≡ most_games → IsFirstFault text kind.TooManyGames from
   games-first from place goes most = record {
     there = HasFault.too_many_games ((game_too_many-at text from).1 (record { root = count; there = there; games = s.games; scans = leads_on (begun from count) goes; past = most }));
     first = λ other offset h. first-games from (before-less from place) goes other offset (later text count s (omega arith) (omega arith) read other offset h);
@@ -132,5 +132,5 @@ module _ (text : List ℕ) (count : ℕ) (s : Scan) (there : count < length text
   fails-first f (too_many_games from place goes most) = games-first from place goes most
 
 -- a fault in the bytes that were read is the text's first
-pub IsFirstFault-in : (text : List ℕ) (end : ℕ) (f : SgfFault) → end ≤ length text → end ≤ MAX_FILE → FailsIn text end f → IsFirstFault text f.kind f.at
+pub IsFirstFault-in : (text : List ℕ) (end : ℕ) (f : SgfFault) → end ≤ length text → end ≤ most_bytes → FailsIn text end f → IsFirstFault text f.kind f.at
 IsFirstFault-in text end f there short h = fails-first text h.count h.reached (omega (arith, h.there)) (omega (arith, h.there)) h.read f h.fails

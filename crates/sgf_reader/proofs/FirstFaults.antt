@@ -4,8 +4,8 @@ use Rattle.std.proofs.Math.Nat.{eq-or-lt_of_le}
 use Rattle.std.proofs.lemmas.Bool.{cases_lt}
 use Rattle.sgf_reader.specs.declared.fault.FaultKind.{FaultKind}
 use Rattle.sgf_reader.specs.declared.fault.FaultKind.TheVariants as kind
-use Rattle.sgf_reader.specs.declared.limits.TheConstants.{MAX_FILE, MAX_GAMES, MAX_NODES, MAX_OPEN}
-use Rattle.sgf_reader.specs.Grammar.{SpelledGame, Spells}
+use Rattle.sgf_reader.specs.Limits.{most_bytes, most_games, most_nodes, most_open}
+use Rattle.sgf_reader.specs.Grammar.{SpelledGame, SpellsGames}
 use Rattle.sgf_reader.specs.Faults.{IsLive, HasTreeStart, HasFault}
 use Rattle.sgf_reader.specs.Scan.{Scan, Before, Within, Inside, begun, within, scan, at_start}
 use Rattle.sgf_reader.specs.Reading.{IsWithinLimits, few_inside}
@@ -18,24 +18,24 @@ use Rattle.sgf_reader.proofs.BeforeLaws.{before-back, begun-back, scans-prefix}
 -- A fault of a text of which the first bytes, so many, are within the limits. It stands there or later, but for the
 -- bracket of a game whose `;` stands later.
 pub data Later (text : List ℕ) (count : ℕ) : FaultKind → ℕ → Type 0 where
-  at_no_game : {at : ℕ} → at ≡ length text → ((games : List SpelledGame) → ¬ Spells games text) → ¬ HasTreeStart text → Later text count kind.NoGame at
-  at_ended : {at : ℕ} → at ≡ length text → ((games : List SpelledGame) → ¬ Spells games text) → HasTreeStart text → Later text count kind.Ended at
+  at_no_game : {at : ℕ} → at ≡ length text → ((games : List SpelledGame) → ¬ SpellsGames games text) → ¬ HasTreeStart text → Later text count kind.NoGame at
+  at_ended : {at : ℕ} → at ≡ length text → ((games : List SpelledGame) → ¬ SpellsGames games text) → HasTreeStart text → Later text count kind.Ended at
   at_unexpected : {at : ℕ} → at < length text → count ≤ at → ¬ IsLive (take (at + 1) text) → Later text count kind.Unexpected at
-  at_limit : {at : ℕ} → at ≡ MAX_FILE → MAX_FILE < length text → Later text count kind.TooLong at
+  at_limit : {at : ℕ} → at ≡ most_bytes → most_bytes < length text → Later text count kind.TooLong at
   at_deep : {at : ℕ} → count ≤ at → ScansTooDeep text at → Later text count kind.TooDeep at
   at_nodes : {at : ℕ} → count ≤ at → ScansNodeTooMany text at → Later text count kind.TooManyNodes at
   at_games : {at : ℕ} (h : ScansGameTooMany text at) → count ≤ h.root → Later text count kind.TooManyGames at
 
-deep-limit : {games : ℕ} {s : Inside} → IsWithinLimits games (Within s) → length s.parents ≤ MAX_OPEN
+deep-limit : {games : ℕ} {s : Inside} → IsWithinLimits games (Within s) → length s.parents ≤ most_open
 deep-limit (few_inside a b c) = b
 
-nodes-limit : {games : ℕ} {s : Inside} → IsWithinLimits games (Within s) → length s.nodes ≤ MAX_NODES
+nodes-limit : {games : ℕ} {s : Inside} → IsWithinLimits games (Within s) → length s.nodes ≤ most_nodes
 nodes-limit (few_inside a b c) = c
 
-games-limit : {games : ℕ} {s : Inside} → IsWithinLimits games (Within s) → games < MAX_GAMES
+games-limit : {games : ℕ} {s : Inside} → IsWithinLimits games (Within s) → games < most_games
 games-limit (few_inside a b c) = a
 
-module _ (text : List ℕ) (count : ℕ) (s : Scan) (there : count ≤ length text) (short : count ≤ MAX_FILE) (read : IsReadTo text count s) where
+module _ (text : List ℕ) (count : ℕ) (s : Scan) (there : count ≤ length text) (short : count ≤ most_bytes) (read : IsReadTo text count s) where
   -- what is scanned is live
   scanned-live : (k : ℕ) → k ≤ count → IsLive (take k text)
   scanned-live k low = (live-scans (take k text)).1 (scans-prefix text k count s low there read.scans)

@@ -11,9 +11,11 @@ pub mod FaultsHere
 pub mod FirstFaults
 pub mod LimitLaws
 pub mod NodeParents
+pub mod OneFault
 pub mod Reached
 pub mod ReadAscending
 pub mod ReadBounds
+pub mod ReadOrFault
 pub mod ReadParents
 pub mod ScanEnds
 pub mod Scans

@@ -2,8 +2,8 @@
 use Rattle.std.proofs.Common.{◌≡◌, ◌↔◌, ℕ, ◌+◌, ◌<◌, ◌≤◌, List, [], ◌∷◌, ◌++◌, length, take, get_or, map, ap, sym, subst, refl, ◌∙◌, arith, inl, inr, Contains, length-append, length-take-le, take-take, Some, None}
 use Rattle.std.proofs.lemmas.List.{take-append-le, get_or_at, get_or-map, length-map}
 use Rattle.std.proofs.lemmas.List.Elements.{Contains-push}
-use Rattle.sgf_reader.specs.declared.limits.TheConstants.{MAX_GAMES, MAX_NODES, MAX_OPEN}
-use Rattle.sgf_reader.specs.Grammar.{SpelledGame, SpelledNode, Spells}
+use Rattle.sgf_reader.specs.Limits.{most_games, most_nodes, most_open}
+use Rattle.sgf_reader.specs.Grammar.{SpelledGame, SpelledNode, SpellsGames}
 use Rattle.sgf_reader.specs.Faults.{IsTooDeep, IsNodeTooMany, IsGameTooMany, GoesOnAs, StandsAt}
 use Rattle.sgf_reader.specs.Scan.{Scan, Within, Inside, Phase, Opened, InNode, scan, at_start, begun}
 use Rattle.sgf_reader.proofs.Ways.{inside}
@@ -20,7 +20,7 @@ pub record ScansTooDeep (text : List ℕ) (at : ℕ) : Type 0 where
   pub inside : Inside
   pub scans : scan at_start 0 (take (at + 1) text) ≡ Some (record { games = games; place = Within inside })
   pub phase : inside.phase ≡ Opened at
-  pub past : length inside.parents ≡ MAX_OPEN + 1
+  pub past : length inside.parents ≡ most_open + 1
 
 -- the scan of the first bytes stands behind the `;` at this offset, that of a game's first node past the limit
 pub record ScansNodeTooMany (text : List ℕ) (at : ℕ) : Type 0 where
@@ -32,7 +32,7 @@ pub record ScansNodeTooMany (text : List ℕ) (at : ℕ) : Type 0 where
   pub before : List SpelledNode
   pub node : SpelledNode
   pub nodes : inside.nodes ≡ before ++ node ∷ []
-  pub past : length before ≡ MAX_NODES
+  pub past : length before ≡ most_nodes
   pub here : node.at ≡ at
   pub no_pair : node.pairs ≡ []
 
@@ -42,7 +42,7 @@ pub record ScansGameTooMany (text : List ℕ) (at : ℕ) : Type 0 where
   pub there : root < length text
   pub games : List SpelledGame
   pub scans : scan at_start 0 (take (root + 1) text) ≡ Some (record { games = games; place = Within (begun at root) })
-  pub past : length games ≡ MAX_GAMES
+  pub past : length games ≡ most_games
 
 -- the first bytes of a text and a rest: their scans
 front_reached : (text rest : List ℕ) (count k : ℕ) (s : Scan) → count ≤ length text → k ≤ count → Reached (take count text ++ rest) k s → scan at_start 0 (take k text) ≡ Some s
@@ -52,7 +52,7 @@ front_reached text rest count k s h l r =
     ap (λ (ts : List ℕ). scan at_start 0 ts) (sym same) ∙ r.scans
 
 -- the games of a spelled text are those that its scan traces
-spelled_traced : (text : List ℕ) (games : List SpelledGame) → Spells games text → TracedGames text games
+spelled_traced : (text : List ℕ) (games : List SpelledGame) → SpellsGames games text → TracedGames text games
 spelled_traced text games h =
     let scanned = spelled-scans text games h.0 in
     games_traced text (length text) (record { games = games; place = scanned.0 }) (omega arith) (reached-whole text (record { games = games; place = scanned.0 }) scanned.2)
@@ -127,8 +127,8 @@ node_too_many_scans text at h =
     let whole : List ℕ = take (at + 1) text ++ h.goes_on.1.0 in
     let all = spelled_traced whole h.games h.goes_on.1.1 in
     let game = game_traced whole h.games h.among_games.0 h.game all h.among_games.1 h.among_games.2 in
-    let place = stands h.game.nodes MAX_NODES h.node h.past in
-    let node = node_traced whole h.games h.among_games.0 h.game game MAX_NODES h.node place.0 place.1 in
+    let place = stands h.game.nodes most_nodes h.node h.past in
+    let node = node_traced whole h.games h.among_games.0 h.game game most_nodes h.node place.0 place.1 in
     let was = node.node_was in
     record {
       there = omega (arith, h.goes_on.0);
@@ -173,8 +173,8 @@ game_too_many_scans : (text : List ℕ) (at : ℕ) → IsGameTooMany text at →
 game_too_many_scans text at h =
     let whole : List ℕ = take (h.root.at + 1) text ++ h.goes_on.1.0 in
     let all = spelled_traced whole h.games h.goes_on.1.1 in
-    let place = stands h.games MAX_GAMES h.game h.past in
-    let game = game_traced whole h.games MAX_GAMES h.game all place.0 place.1 in
+    let place = stands h.games most_games h.game h.past in
+    let game = game_traced whole h.games most_games h.game all place.0 place.1 in
     let was = game.begun_was in
     let root : was.root.at ≡ h.root.at = same_root h.game.nodes was.others h.first.1 h.root was.root was.is h.first.0 h.first.2 h.first.3 in
     let begins : Reached whole (h.root.at + 1) (inside was.games (begun at h.root.at)) = subst (λ (k : ℕ). Reached whole (h.root.at + 1) (inside was.games (begun k h.root.at))) h.here (subst (λ (k : ℕ). Reached whole (k + 1) (inside was.games (begun h.game.at k))) root was.reached) in

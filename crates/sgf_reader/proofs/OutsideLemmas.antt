@@ -4,7 +4,7 @@ use Rattle.std.proofs.lemmas.List.{length-map}
 use Rattle.std.proofs.lemmas.Bool.{le-leb, lt-leb, ne_eqb}
 use Rattle.sgf_reader.specs.declared.fault.FaultKind.TheVariants as kind
 use Rattle.sgf_reader.specs.declared.fault.SgfFault.{SgfFault}
-use Rattle.sgf_reader.specs.declared.limits.TheConstants.{MAX_GAMES, MAX_NODES}
+use Rattle.sgf_reader.specs.Limits.{most_games, most_nodes}
 use Rattle.sgf_reader.specs.declared.place.Phase.TheVariants as at
 use Rattle.sgf_reader.specs.declared.place.Place as places
 use Rattle.sgf_reader.specs.declared.place.Place.TheVariants as stands
@@ -19,7 +19,7 @@ pub record IsShownOutside (v : View) (at : Place) (s : Scan) : Type 0 where
   pub nodes : v.nodes ≡ []
   pub parents : v.parents ≡ []
   pub reading : v.is_reading ≡ false
-  pub few : length s.games ≤ MAX_GAMES
+  pub few : length s.games ≤ most_games
 
 from_outside : {v : View} (games : List SpelledGame) {place : Place} → v.games ≡ map raw_game games → ShowsPlace v stands.Outside place → IsWithinLimits (length games) place → IsShownOutside v Outside (record { games = games; place = place })
 from_outside games g (none_open a b c) (few_outside few) = record { place = refl; games = g; nodes = a; parents = b; reading = c; few = few }
@@ -62,7 +62,7 @@ with_game v = with_raw_node (record { games = v.games; nodes = v.nodes; is_readi
 shows-begun : (v : View) (from offset : ℕ) → v.nodes ≡ [] → v.parents ≡ [] → ShowsInside (with_game v) at.InNode (begun from offset)
 shows-begun v from offset nodes parents = record { nodes = rw nodes refl; parents = rw parents refl; last = rw nodes refl; phase = refl; reading = refl; is_open = omega arith }
 
-pub leads-game : (v read : View) (from offset byte : ℕ) → byte ≡ 59 → read ≡ with_game v → length v.games < MAX_GAMES → StepsOn v (stands.Before from) offset byte read (stands.Within at.InNode)
+pub leads-game : (v read : View) (from offset byte : ℕ) → byte ≡ 59 → read ≡ with_game v → length v.games < most_games → StepsOn v (stands.Before from) offset byte read (stands.Within at.InNode)
 leads-game v read from offset byte semicolon by few = λ s shows limits.
     let h : IsShownOutside v (Before from) s = from_before s.games shows.games shows.place limits in
     let goes : step s.games (Before from) offset byte ≡ within s.games (begun from offset) = rw semicolon (begins s.games from offset) in
@@ -74,7 +74,7 @@ leads-game v read from offset byte semicolon by few = λ s shows limits.
       limits = few_inside {s = begun from offset} (omega arith) (omega arith) (omega arith);
     })
 
-pub fails-game : (v : View) (from offset byte : ℕ) (f : SgfFault) → byte ≡ 59 → ((f ≡ record { kind = kind.TooManyGames; at = from }) × (MAX_GAMES ≤ length v.games)) ⊎ (MAX_NODES ≤ length v.nodes) → StepFails v (stands.Before from) offset byte f
+pub fails-game : (v : View) (from offset byte : ℕ) (f : SgfFault) → byte ≡ 59 → ((f ≡ record { kind = kind.TooManyGames; at = from }) × (most_games ≤ length v.games)) ⊎ (most_nodes ≤ length v.nodes) → StepFails v (stands.Before from) offset byte f
 fails-game v from offset byte f semicolon (inl (is, many)) = λ s shows limits.
     let h : IsShownOutside v (Before from) s = from_before s.games shows.games shows.place limits in
     let goes : step s.games (Before from) offset byte ≡ within s.games (begun from offset) = rw semicolon (begins s.games from offset) in

@@ -6,7 +6,7 @@ use Rattle.std.proofs.lemmas.List.Elements.{All-nil, All-cons, All-head, All-tai
 use Rattle.sgf_reader.specs.declared.collection.Span.{Span}
 use Rattle.sgf_reader.specs.declared.collection.Pair.{Pair}
 use Rattle.sgf_reader.specs.declared.fault.FaultKind.TheVariants as kind
-use Rattle.sgf_reader.specs.declared.limits.TheConstants.{MAX_GAMES, MAX_NODES, MAX_OPEN}
+use Rattle.sgf_reader.specs.Limits.{most_games, most_nodes, most_open}
 use Rattle.sgf_reader.specs.Grammar.{SpelledGame, SpelledNode}
 use Rattle.sgf_reader.specs.Faults.{HasRead, HasFault}
 use Rattle.sgf_reader.specs.Scan.{Scan, Place, Outside, Before, Within, Inside, Phase, Opened, InNode, InName, AfterName, InValue, Escaped, AfterValue, AfterTree, with_pair, with_node, with_bracket, closed, begun}
@@ -28,17 +28,17 @@ PairFits end pair = LiesBelow end pair.name × LiesBelow end pair.value
 
 -- a node within the limits, in the text up to this offset
 abbrev pub NodeFits : ℕ → SpelledNode → Type 0
-NodeFits end node = (node.depth ≤ MAX_OPEN) × All (PairFits end) node.pairs
+NodeFits end node = (node.depth ≤ most_open) × All (PairFits end) node.pairs
 
 -- a game within the limits, in the text up to this offset
 pub record GameFits (end : ℕ) (game : SpelledGame) : Type 0 where
   pub some : 1 ≤ length game.nodes
-  pub few : length game.nodes ≤ MAX_NODES
+  pub few : length game.nodes ≤ most_nodes
   pub nodes : All (NodeFits end) game.nodes
 
 -- games within the limits, in the text up to this offset
 pub record GamesFit (end : ℕ) (games : List SpelledGame) : Type 0 where
-  pub few : length games ≤ MAX_GAMES
+  pub few : length games ≤ most_games
   pub each : All (GameFits end) games
 
 -- ---- each place
@@ -55,10 +55,10 @@ PhaseFits end (AfterValue name) = LiesBelow end name
 PhaseFits end AfterTree = ⊤
 
 record InsideFits (end : ℕ) (games : List SpelledGame) (s : Inside) : Type 0 where
-  fewer : length games < MAX_GAMES
-  brackets : length s.parents ≤ MAX_OPEN
+  fewer : length games < most_games
+  brackets : length s.parents ≤ most_open
   some : 1 ≤ length s.nodes
-  few : length s.nodes ≤ MAX_NODES
+  few : length s.nodes ≤ most_nodes
   nodes : All (NodeFits end) s.nodes
   phase : PhaseFits end s.phase
 
@@ -123,7 +123,7 @@ record NoLimit (text : List ℕ) : Type 0 where
   games : (at : ℕ) → ¬ ScansGameTooMany text at
 
 module _ (text : List ℕ) (no_limit : NoLimit text) where
-  closed-fits : (count : ℕ) (games : List SpelledGame) (s : Inside) (parents : List (Option ℕ)) → length parents ≤ MAX_OPEN → GamesFit (count + 1) games → InsideFits count games s → ScanFits (count + 1) (closed games s parents)
+  closed-fits : (count : ℕ) (games : List SpelledGame) (s : Inside) (parents : List (Option ℕ)) → length parents ≤ most_open → GamesFit (count + 1) games → InsideFits count games s → ScanFits (count + 1) (closed games s parents)
   closed-fits count games s [] h g i = record { before = g; here = tt }
   closed-fits count games s (p ∷ []) h g i =
       let game : SpelledGame = record { at = s.at; nodes = s.nodes } in
@@ -134,7 +134,7 @@ module _ (text : List ℕ) (no_limit : NoLimit text) where
   begins-fits : (games : List SpelledGame) (s : Inside) (count : ℕ) (opened : Option ℕ) → count < length text → Reached text (count + 1) (inside games (with_node s opened count)) → InsideFits count games s → InsideFits (count + 1) games (with_node s opened count)
   begins-fits games s count opened h r i =
       let node : SpelledNode = record { opened = opened; at = count; depth = length s.parents; parent = s.last; pairs = [] } in
-      let fewer : length s.nodes < MAX_NODES = elim (cases_lt (length s.nodes) MAX_NODES) [
+      let fewer : length s.nodes < most_nodes = elim (cases_lt (length s.nodes) most_nodes) [
         | inl l ↦ l
         | inr l ↦ absurd (no_limit.nodes count (record { there = h; games = games; inside = with_node s opened count; scans = r.scans; phase = refl; before = s.nodes; node = node; nodes = refl; past = omega (arith, i.few); here = refl; no_pair = refl }))
       ] in
@@ -149,7 +149,7 @@ module _ (text : List ℕ) (no_limit : NoLimit text) where
 
   opens-fits : (games : List SpelledGame) (s : Inside) (count : ℕ) → count < length text → Reached text (count + 1) (inside games (with_bracket s count)) → InsideFits count games s → InsideFits (count + 1) games (with_bracket s count)
   opens-fits games s count h r i =
-      let fewer : length s.parents < MAX_OPEN = elim (cases_lt (length s.parents) MAX_OPEN) [
+      let fewer : length s.parents < most_open = elim (cases_lt (length s.parents) most_open) [
         | inl l ↦ l
         | inr l ↦ absurd (no_limit.deep count (record { there = h; games = games; inside = with_bracket s count; scans = r.scans; phase = refl; past = omega (arith, i.brackets) }))
       ] in
@@ -178,7 +178,7 @@ module _ (text : List ℕ) (no_limit : NoLimit text) where
 
   begun-fits : (games : List SpelledGame) (from count : ℕ) → count < length text → GamesFit count games → Reached text (count + 1) (inside games (begun from count)) → ScanFits (count + 1) (inside games (begun from count))
   begun-fits games from count h g r =
-      let fewer : length games < MAX_GAMES = elim (cases_lt (length games) MAX_GAMES) [
+      let fewer : length games < most_games = elim (cases_lt (length games) most_games) [
         | inl l ↦ l
         | inr l ↦ absurd (no_limit.games from (record { root = count; there = h; games = games; scans = r.scans; past = omega (arith, g.few) }))
       ] in

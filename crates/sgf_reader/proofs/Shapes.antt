@@ -2,7 +2,7 @@
 use Rattle.std.proofs.Common.{◌≡◌, ℕ, ◌+◌, ◌-◌, ap, sym, refl, ◌∙◌, arith, List, [], ◌∷◌, ◌++◌, length, Some, None, Option, append_assoc}
 use Rattle.sgf_reader.specs.declared.collection.Span.{Span}
 use Rattle.sgf_reader.specs.declared.collection.Pair.{Pair}
-use Rattle.sgf_reader.specs.Grammar.{SpelledGame, SpelledNode, IsWhite, IsIdentifier, IsValue, AreValues, AreProperties, AreNodes, IsTree, AreTrees, HasGames, StartsTree, span_of}
+use Rattle.sgf_reader.specs.Grammar.{SpelledGame, SpelledNode, IsWhite, IsIdentifier, IsValue, AreValues, AreProperties, AreNodes, IsTreeText, AreTreeTexts, HasGames, StartsTree, span_of}
 
 -- values
 pub data Values : List ℕ → Type 0 where
@@ -62,21 +62,21 @@ nodes-marked depth opened parent number at text (Nodes.one_more white properties
     (record { opened = opened; at = at + length white; depth = depth; parent = parent; pairs = own.0 } ∷ others.0, AreNodes.one_more white properties rest w own.1 others.1)
 
 mutual
-  tree-marked : (depth : ℕ) (parent : Option ℕ) (number at : ℕ) (text : List ℕ) → Tree text → (nodes : List SpelledNode) × IsTree depth parent number at text nodes
+  tree-marked : (depth : ℕ) (parent : Option ℕ) (number at : ℕ) (text : List ℕ) → Tree text → (nodes : List SpelledNode) × IsTreeText depth parent number at text nodes
   tree-marked depth parent number at text (Tree.in_brackets first properties sequence inner white f ps ns ts w) =
       let own = properties-marked (at + 1 + length first + 1) properties ps in
       let others = nodes-marked (depth + 1) None (Some number) (number + 1) (at + 1 + length (first ++ 59 ∷ properties)) sequence ns in
       let nodes : List SpelledNode = record { opened = Some at; at = at + 1 + length first; depth = depth + 1; parent = parent; pairs = own.0 } ∷ others.0 in
       let all : AreNodes (depth + 1) (Some at) parent number (at + 1) (first ++ 59 ∷ properties ++ sequence) nodes = AreNodes.one_more first properties sequence f own.1 others.1 in
       let trees = trees-marked (depth + 1) (Some (number + length nodes - 1)) (number + length nodes) (at + length (40 ∷ (first ++ 59 ∷ properties ++ sequence))) inner ts in
-      (nodes ++ trees.0, IsTree.in_brackets (first ++ 59 ∷ properties ++ sequence) inner white nodes trees.0 all (omega arith) trees.1 w)
+      (nodes ++ trees.0, IsTreeText.in_brackets (first ++ 59 ∷ properties ++ sequence) inner white nodes trees.0 all (omega arith) trees.1 w)
 
-  trees-marked : (depth : ℕ) (parent : Option ℕ) (number at : ℕ) (text : List ℕ) → Trees text → (nodes : List SpelledNode) × AreTrees depth parent number at text nodes
-  trees-marked depth parent number at text (Trees.none) = ([], AreTrees.none)
+  trees-marked : (depth : ℕ) (parent : Option ℕ) (number at : ℕ) (text : List ℕ) → Trees text → (nodes : List SpelledNode) × AreTreeTexts depth parent number at text nodes
+  trees-marked depth parent number at text (Trees.none) = ([], AreTreeTexts.none)
   trees-marked depth parent number at text (Trees.one_more white tree rest w t ts) =
       let one = tree-marked depth parent number (at + length white) tree t in
       let others = trees-marked depth parent (number + length one.0) (at + length (white ++ tree)) rest ts in
-      (one.0 ++ others.0, AreTrees.one_more white tree rest one.0 others.0 w one.1 others.1)
+      (one.0 ++ others.0, AreTreeTexts.one_more white tree rest one.0 others.0 w one.1 others.1)
 
 -- each shape of games has its marks
 pub games-marked : (at : ℕ) (text : List ℕ) → Games text → (games : List SpelledGame) × HasGames at text games

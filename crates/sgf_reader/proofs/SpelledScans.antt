@@ -3,7 +3,7 @@ use Rattle.std.proofs.Common.{◌≡◌, ◌≢◌, inl, inr, ℕ, ◌+◌, ◌-
 use Rattle.std.specs.Prelude.{⊤}
 use Rattle.std.proofs.lemmas.Bool.{cases_eq, cases_lt, ne_eqb, lt-leb}
 use Rattle.std.proofs.lemmas.List.Elements.{All-nil, All-cons}
-use Rattle.sgf_reader.specs.Grammar.{SpelledGame, SpelledNode, IsWhite, IsTree, AreTrees, HasGames, StartsTree}
+use Rattle.sgf_reader.specs.Grammar.{SpelledGame, SpelledNode, IsWhite, IsTreeText, AreTreeTexts, HasGames, StartsTree}
 use Rattle.sgf_reader.specs.Scan.{Scan, Place, Outside, Before, Within, Phase, Opened, AfterTree, IsOutside, outside, before, closed, step, scan, at_start}
 use Rattle.sgf_reader.proofs.Scans.{Leads, Leads-none, Leads-byte, Leads-one, Leads-then, Leads-from, Leads-to}
 use Rattle.sgf_reader.proofs.Ways.{out}
@@ -18,25 +18,25 @@ body-leads games a parent parents s at sequence inner white last nodes more phas
     Leads-then refl (Leads-then refl trees whites) (Leads-one (tree-ends games a (parent ∷ parents) last more after e (at + length (sequence ++ inner ++ white))))
 
 mutual
-  pub tree-leads : (games : List SpelledGame) (a : ℕ) (p : Option ℕ) (parents : List (Option ℕ)) (parent : Option ℕ) (nodes : List SpelledNode) (phase : Phase) (depth number : ℕ) → depth ≡ length (p ∷ parents) → number ≡ length nodes → EndsTree phase → (at : ℕ) (text : List ℕ) (more : List SpelledNode) → IsTree depth parent number at text more → Leads (reader games a (p ∷ parents) parent nodes phase) at text (reader games a (p ∷ parents) parent (nodes ++ more) AfterTree)
-  tree-leads games a p parents parent nodes phase depth number ed en e at text more (IsTree.in_brackets sequence inner white first inside_it ns some ts w) =
+  pub tree-leads : (games : List SpelledGame) (a : ℕ) (p : Option ℕ) (parents : List (Option ℕ)) (parent : Option ℕ) (nodes : List SpelledNode) (phase : Phase) (depth number : ℕ) → depth ≡ length (p ∷ parents) → number ≡ length nodes → EndsTree phase → (at : ℕ) (text : List ℕ) (more : List SpelledNode) → IsTreeText depth parent number at text more → Leads (reader games a (p ∷ parents) parent nodes phase) at text (reader games a (p ∷ parents) parent (nodes ++ more) AfterTree)
+  tree-leads games a p parents parent nodes phase depth number ed en e at text more (IsTreeText.in_brackets sequence inner white first inside_it ns some ts w) =
       let takes : TakesNode games (reader games a (parent ∷ p ∷ parents) parent nodes (Opened at)) (within_at games a (parent ∷ p ∷ parents) parent nodes (Opened at)) (Some at) = record { stays = λ k b h. opened-stays games a (parent ∷ p ∷ parents) parent nodes at k b h; takes = λ k. refl } in
       let own = nodes-first games a (parent ∷ p ∷ parents) parent (Some at) nodes (Opened at) (reader games a (parent ∷ p ∷ parents) parent nodes (Opened at)) (depth + 1) number (omega arith) en takes (at + 1) sequence first ns some in
       let trees = trees-lead games a parent (p ∷ parents) (Some (number + length first - 1)) (nodes ++ first) own.0 (depth + 1) (number + length first) (omega arith) (omega (arith, length-append nodes first)) (after_node own.1) (at + length (40 ∷ sequence)) inner inside_it ts in
       let body = body-leads games a parent (p ∷ parents) (reader games a (parent ∷ p ∷ parents) parent nodes (Opened at)) (at + 1) sequence inner white (Some (number + length first - 1)) (nodes ++ first) ((nodes ++ first) ++ inside_it) own.0 trees.0 own.2 (Leads-from (omega arith) trees.2) trees.1 w in
       Leads-to (ap (λ (ns : List SpelledNode). reader games a (p ∷ parents) parent ns AfterTree) (append_assoc nodes first inside_it)) (Leads-byte (tree-more games a (p ∷ parents) parent nodes phase e at) body)
 
-  pub trees-lead : (games : List SpelledGame) (a : ℕ) (p : Option ℕ) (parents : List (Option ℕ)) (parent : Option ℕ) (nodes : List SpelledNode) (phase : Phase) (depth number : ℕ) → depth ≡ length (p ∷ parents) → number ≡ length nodes → EndsTree phase → (at : ℕ) (text : List ℕ) (more : List SpelledNode) → AreTrees depth parent number at text more → (after : Phase) × EndsTree after × Leads (reader games a (p ∷ parents) parent nodes phase) at text (reader games a (p ∷ parents) parent (nodes ++ more) after)
-  trees-lead games a p parents parent nodes phase depth number ed en e at text more (AreTrees.none) = (phase, e, Leads-to (ap (λ (ns : List SpelledNode). reader games a (p ∷ parents) parent ns phase) (sym (append-nil nodes))) Leads-none)
-  trees-lead games a p parents parent nodes phase depth number ed en e at text more (AreTrees.one_more white tree rest first others w t ts) =
+  pub trees-lead : (games : List SpelledGame) (a : ℕ) (p : Option ℕ) (parents : List (Option ℕ)) (parent : Option ℕ) (nodes : List SpelledNode) (phase : Phase) (depth number : ℕ) → depth ≡ length (p ∷ parents) → number ≡ length nodes → EndsTree phase → (at : ℕ) (text : List ℕ) (more : List SpelledNode) → AreTreeTexts depth parent number at text more → (after : Phase) × EndsTree after × Leads (reader games a (p ∷ parents) parent nodes phase) at text (reader games a (p ∷ parents) parent (nodes ++ more) after)
+  trees-lead games a p parents parent nodes phase depth number ed en e at text more (AreTreeTexts.none) = (phase, e, Leads-to (ap (λ (ns : List SpelledNode). reader games a (p ∷ parents) parent ns phase) (sym (append-nil nodes))) Leads-none)
+  trees-lead games a p parents parent nodes phase depth number ed en e at text more (AreTreeTexts.one_more white tree rest first others w t ts) =
       let whites = white-stays (reader games a (p ∷ parents) parent nodes phase) (λ k b l. tree-stays games a (p ∷ parents) parent nodes phase e k b l) white at w in
       let one = tree-leads games a p parents parent nodes phase depth number ed en e (at + length white) tree first t in
       let next = trees-lead games a p parents parent (nodes ++ first) AfterTree depth (number + length first) ed (omega (arith, length-append nodes first)) after_tree (at + length (white ++ tree)) rest others ts in
       (next.0, next.1, Leads-to (ap (λ (ns : List SpelledNode). reader games a (p ∷ parents) parent ns next.0) (append_assoc nodes first others)) (Leads-then refl (Leads-then refl whites one) next.2))
 
 -- a tree behind its bracket at the top level
-root-leads : (games : List SpelledGame) (at : ℕ) (text : List ℕ) (nodes : List SpelledNode) → IsTree 0 None 0 at text nodes → (rest : List ℕ) × (text ≡ 40 ∷ rest) × Leads (out games (Before at)) (at + 1) rest (out (games ++ record { at = at; nodes = nodes } ∷ []) Outside)
-root-leads games at text nodes (IsTree.in_brackets sequence inner white first inside_it ns some ts w) =
+root-leads : (games : List SpelledGame) (at : ℕ) (text : List ℕ) (nodes : List SpelledNode) → IsTreeText 0 None 0 at text nodes → (rest : List ℕ) × (text ≡ 40 ∷ rest) × Leads (out games (Before at)) (at + 1) rest (out (games ++ record { at = at; nodes = nodes } ∷ []) Outside)
+root-leads games at text nodes (IsTreeText.in_brackets sequence inner white first inside_it ns some ts w) =
     let start : Scan = out games (Before at) in
     let takes : TakesNode games start (within_at games at (None ∷ []) None [] (Opened at)) (Some at) = record { stays = λ k b h. rw ((white-tests b h).0) refl; takes = λ k. refl } in
     let own = nodes-first games at (None ∷ []) None (Some at) [] (Opened at) start (0 + 1) 0 refl refl takes (at + 1) sequence first ns some in

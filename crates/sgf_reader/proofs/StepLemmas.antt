@@ -9,7 +9,7 @@ use Rattle.sgf_reader.specs.declared.collection.RawNode.{RawNode}
 use Rattle.sgf_reader.specs.declared.collection.RawGame.{RawGame}
 use Rattle.sgf_reader.specs.declared.fault.FaultKind.TheVariants as kind
 use Rattle.sgf_reader.specs.declared.fault.SgfFault.{SgfFault}
-use Rattle.sgf_reader.specs.declared.limits.TheConstants.{MAX_GAMES, MAX_NODES, MAX_OPEN}
+use Rattle.sgf_reader.specs.Limits.{most_games, most_nodes, most_open}
 use Rattle.sgf_reader.specs.declared.place.Phase as phases
 use Rattle.sgf_reader.specs.declared.place.Phase.TheVariants as at
 use Rattle.sgf_reader.specs.declared.place.Place as places
@@ -32,9 +32,9 @@ pub record IsShown (v : View) (now : phases.Phase) (s : Scan) : Type 0 where
   pub place : s.place ≡ Within i
   pub games : v.games ≡ map raw_game s.games
   pub shows : ShowsInside v now i
-  pub few_games : length s.games < MAX_GAMES
-  pub few_open : length i.parents ≤ MAX_OPEN
-  pub few_nodes : length i.nodes ≤ MAX_NODES
+  pub few_games : length s.games < most_games
+  pub few_open : length i.parents ≤ most_open
+  pub few_nodes : length i.nodes ≤ most_nodes
 
 from_parts : {v : View} {now : phases.Phase} (games : List SpelledGame) {place : Place} → v.games ≡ map raw_game games → ShowsPlace v (stands.Within now) place → IsWithinLimits (length games) place → IsShown v now (record { games = games; place = place })
 from_parts games g (inside {s = i} shows) (few_inside a b c) = record { i = i; place = refl; games = g; shows = shows; few_games = a; few_open = b; few_nodes = c }
@@ -81,7 +81,7 @@ length-with_pair [] pair = refl
 length-with_pair (node ∷ []) pair = refl
 length-with_pair (node ∷ other ∷ nodes) pair = ap suc (length-with_pair (other ∷ nodes) pair)
 
-few-with_pair : (nodes : List SpelledNode) (pair : Pair) → length nodes ≤ MAX_NODES → length (with_pair nodes pair) ≤ MAX_NODES
+few-with_pair : (nodes : List SpelledNode) (pair : Pair) → length nodes ≤ most_nodes → length (with_pair nodes pair) ≤ most_nodes
 few-with_pair nodes pair few = rw (length-with_pair nodes pair) few
 
 pub leads-value : (v read : View) (now : phases.Phase) (name : Span) (from offset byte : ℕ) → Means now offset byte (turn.EndValue name from) → StaysInNode (is_in_node now) (turn.EndValue name from) → (v.is_reading ≡ true → read ≡ record { games = v.games; nodes = with_raw_pair v.nodes (record { name = name; value = record { from = from; to = offset } }); is_reading = v.is_reading; parents = v.parents; last = v.last }) → StepsOn v (stands.Within now) offset byte read (stands.Within (at.AfterValue name))
@@ -102,7 +102,7 @@ node-more raws nodes a b e f opened at depth = rw (e, f) (sym (map-append raw_no
 both-more : {A : Type 0} (a b : A) (xs ys : List A) → a ≡ b → xs ≡ ys → a ∷ xs ≡ b ∷ ys
 both-more a b xs ys e f = cc
 
-pub leads-node : (v read : View) (now : phases.Phase) (opened : Option ℕ) (offset byte : ℕ) → Means now offset byte (turn.BeginNode opened) → read ≡ with_raw_node v → length v.nodes < MAX_NODES → StepsOn v (stands.Within now) offset byte read (stands.Within at.InNode)
+pub leads-node : (v read : View) (now : phases.Phase) (opened : Option ℕ) (offset byte : ℕ) → Means now offset byte (turn.BeginNode opened) → read ≡ with_raw_node v → length v.nodes < most_nodes → StepsOn v (stands.Within now) offset byte read (stands.Within at.InNode)
 leads-node v read now opened offset byte means by few = λ s shows limits.
     let h = shown v now s shows limits in
     let count : length v.nodes ≡ length h.i.nodes = ap length h.shows.nodes ∙ length-map h.i.nodes raw_node in
@@ -116,15 +116,15 @@ leads-node v read now opened offset byte means by few = λ s shows limits.
       limits = few_inside {s = with_node h.i opened offset} h.few_games h.few_open (omega arith);
     })
 
-pub fails-node : (v : View) (now : phases.Phase) (opened : Option ℕ) (offset byte : ℕ) (f : SgfFault) → Means now offset byte (turn.BeginNode opened) → (f ≡ record { kind = kind.TooManyNodes; at = offset }) × (MAX_NODES ≤ length v.nodes) → StepFails v (stands.Within now) offset byte f
+pub fails-node : (v : View) (now : phases.Phase) (opened : Option ℕ) (offset byte : ℕ) (f : SgfFault) → Means now offset byte (turn.BeginNode opened) → (f ≡ record { kind = kind.TooManyNodes; at = offset }) × (most_nodes ≤ length v.nodes) → StepFails v (stands.Within now) offset byte f
 fails-node v now opened offset byte f means (is, many) = λ s shows limits.
     let h = shown v now s shows limits in
     let count : length v.nodes ≡ length h.i.nodes = ap length h.shows.nodes ∙ length-map h.i.nodes raw_node in
     let few = h.few_nodes in
-    let most : length h.i.nodes ≡ MAX_NODES = omega arith in
+    let most : length h.i.nodes ≡ most_nodes = omega arith in
     rw is (too_many_nodes h.i opened (goes v now s offset byte (turn.BeginNode opened) means h) most)
 
-pub leads-open : (v read : View) (now : phases.Phase) (offset byte : ℕ) → Means now offset byte turn.Open → read ≡ with_raw_bracket v → length v.parents < MAX_OPEN → StepsOn v (stands.Within now) offset byte read (stands.Within (at.Opened offset))
+pub leads-open : (v read : View) (now : phases.Phase) (offset byte : ℕ) → Means now offset byte turn.Open → read ≡ with_raw_bracket v → length v.parents < most_open → StepsOn v (stands.Within now) offset byte read (stands.Within (at.Opened offset))
 leads-open v read now offset byte means by few = λ s shows limits.
     let h = shown v now s shows limits in
     let count : length v.parents ≡ length h.i.parents = ap length h.shows.parents in
@@ -137,12 +137,12 @@ leads-open v read now offset byte means by few = λ s shows limits.
       limits = few_inside {s = with_bracket h.i offset} h.few_games (omega arith) h.few_nodes;
     })
 
-pub fails-open : (v : View) (now : phases.Phase) (offset byte : ℕ) (f : SgfFault) → Means now offset byte turn.Open → (f ≡ record { kind = kind.TooDeep; at = offset }) × (MAX_OPEN ≤ length v.parents) → StepFails v (stands.Within now) offset byte f
+pub fails-open : (v : View) (now : phases.Phase) (offset byte : ℕ) (f : SgfFault) → Means now offset byte turn.Open → (f ≡ record { kind = kind.TooDeep; at = offset }) × (most_open ≤ length v.parents) → StepFails v (stands.Within now) offset byte f
 fails-open v now offset byte f means (is, many) = λ s shows limits.
     let h = shown v now s shows limits in
     let count : length v.parents ≡ length h.i.parents = ap length h.shows.parents in
     let few = h.few_open in
-    let most : length h.i.parents ≡ MAX_OPEN = omega arith in
+    let most : length h.i.parents ≡ most_open = omega arith in
     rw is (too_deep h.i (goes v now s offset byte turn.Open means h) most)
 
 pub fails-refused : (v : View) (now : phases.Phase) (offset byte : ℕ) → Means now offset byte turn.Refuse → StepFails v (stands.Within now) offset byte (record { kind = kind.Unexpected; at = offset })

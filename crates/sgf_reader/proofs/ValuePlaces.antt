@@ -4,7 +4,7 @@ use Rattle.std.proofs.lemmas.Grind.{flat_map-append}
 use Rattle.std.proofs.lemmas.List.Elements.{All-append, All-cons, All-nil}
 use Rattle.sgf_reader.specs.declared.collection.Pair.{Pair}
 use Rattle.sgf_reader.specs.declared.collection.Span.{Span}
-use Rattle.sgf_reader.specs.Grammar.{AreNodes, AreProperties, AreTrees, AreValues, HasGames, IsTree, SpelledGame, SpelledNode, in_brackets}
+use Rattle.sgf_reader.specs.Grammar.{AreNodes, AreProperties, AreTreeTexts, AreValues, HasGames, IsTreeText, SpelledGame, SpelledNode, in_brackets}
 use Rattle.sgf_reader.proofs.ReadAscending.{all_pairs, pairs_of_nodes}
 
 -- the value begins behind a byte
@@ -27,12 +27,12 @@ joined : (nodes more : List SpelledNode) → All IsBehindBracket (pairs_of_nodes
 joined nodes more a b = subst (All IsBehindBracket) (sym (flat_map-append (λ (node : SpelledNode). node.pairs) nodes more)) (All-append IsBehindBracket (pairs_of_nodes nodes) (pairs_of_nodes more) a b)
 
 mutual
-  tree-place : (depth : ℕ) (parent : Option ℕ) (number at : ℕ) (text : List ℕ) (nodes : List SpelledNode) → IsTree depth parent number at text nodes → All IsBehindBracket (pairs_of_nodes nodes)
+  tree-place : (depth : ℕ) (parent : Option ℕ) (number at : ℕ) (text : List ℕ) (nodes : List SpelledNode) → IsTreeText depth parent number at text nodes → All IsBehindBracket (pairs_of_nodes nodes)
   tree-place depth parent number at _ _ (in_brackets sequence inner white nodes inside own some trees w) = joined nodes inside (nodes-place _ _ _ _ _ sequence nodes own) (trees-place _ _ _ _ inner inside trees)
 
-  trees-place : (depth : ℕ) (parent : Option ℕ) (number at : ℕ) (text : List ℕ) (nodes : List SpelledNode) → AreTrees depth parent number at text nodes → All IsBehindBracket (pairs_of_nodes nodes)
-  trees-place depth parent number at _ _ AreTrees.none = All-nil IsBehindBracket
-  trees-place depth parent number at _ _ (AreTrees.one_more white text rest nodes more w tree others) = joined nodes more (tree-place depth parent number _ text nodes tree) (trees-place depth parent _ _ rest more others)
+  trees-place : (depth : ℕ) (parent : Option ℕ) (number at : ℕ) (text : List ℕ) (nodes : List SpelledNode) → AreTreeTexts depth parent number at text nodes → All IsBehindBracket (pairs_of_nodes nodes)
+  trees-place depth parent number at _ _ AreTreeTexts.none = All-nil IsBehindBracket
+  trees-place depth parent number at _ _ (AreTreeTexts.one_more white text rest nodes more w tree others) = joined nodes more (tree-place depth parent number _ text nodes tree) (trees-place depth parent _ _ rest more others)
 
 -- each value of the games that a text has stands behind its bracket
 pub read-behind_bracket : (at : ℕ) (text : List ℕ) (games : List SpelledGame) → HasGames at text games → All IsBehindBracket (all_pairs games)

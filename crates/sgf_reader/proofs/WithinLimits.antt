@@ -5,8 +5,8 @@ use Rattle.std.proofs.lemmas.List.Elements.{All-nil, All-cons, All-head, All-tai
 use Rattle.sgf_reader.specs.declared.collection.Pair.{Pair}
 use Rattle.sgf_reader.specs.declared.fault.FaultKind.{FaultKind}
 use Rattle.sgf_reader.specs.declared.fault.FaultKind.TheVariants as kind
-use Rattle.sgf_reader.specs.declared.limits.TheConstants.{MAX_FILE, MAX_GAMES, MAX_NODES, MAX_OPEN}
-use Rattle.sgf_reader.specs.Grammar.{SpelledGame, SpelledNode, Spells}
+use Rattle.sgf_reader.specs.Limits.{most_bytes, most_games, most_nodes, most_open}
+use Rattle.sgf_reader.specs.Grammar.{SpelledGame, SpelledNode, SpellsGames}
 pub use Rattle.sgf_reader.specs.Faults.{AreWithinLimits}
 use Rattle.sgf_reader.specs.Faults.{HasRead, HasFault, IsLive}
 use Rattle.sgf_reader.specs.Scan.{Scan, Place, Outside, Before, Within, Inside, Phase, Opened, InName, InValue, Escaped, AfterName, AfterValue, with_pair, closed, begun, scan, at_start, IsOutside}
@@ -23,17 +23,17 @@ use Rattle.sgf_reader.proofs.LimitLaws.{ScansTooDeep, ScansNodeTooMany, ScansGam
 -- ---- each place on the way to games within the limits
 
 abbrev IsShallow : SpelledNode → Type 0
-IsShallow node = node.depth ≤ MAX_OPEN
+IsShallow node = node.depth ≤ most_open
 
 record GameWithin (game : SpelledGame) : Type 0 where
-  few : length game.nodes ≤ MAX_NODES
+  few : length game.nodes ≤ most_nodes
   shallow : All IsShallow game.nodes
 
 record InsideWithin (games : List SpelledGame) (s : Inside) : Type 0 where
-  fewer : length games < MAX_GAMES
-  few : length s.nodes ≤ MAX_NODES
+  fewer : length games < most_games
+  few : length s.nodes ≤ most_nodes
   shallow : All IsShallow s.nodes
-  brackets : (from : ℕ) → s.phase ≡ Opened from → length s.parents ≤ MAX_OPEN
+  brackets : (from : ℕ) → s.phase ≡ Opened from → length s.parents ≤ most_open
 
 abbrev PlaceWithin : List SpelledGame → Place → Type 0
 PlaceWithin games Outside = ⊤
@@ -41,7 +41,7 @@ PlaceWithin games (Before from) = ⊤
 PlaceWithin games (Within s) = InsideWithin games s
 
 record ScanWithin (s : Scan) : Type 0 where
-  few : length s.games ≤ MAX_GAMES
+  few : length s.games ≤ most_games
   each : All GameWithin s.games
   here : PlaceWithin s.games s.place
 
@@ -79,7 +79,7 @@ moved-opened s count phase (Moves.value {name = name} (inr e)) from f = let both
 moved-opened s count phase (Moves.escape {name = name} {from = k} e) from f = let both : InValue name k ≡ Opened from = sym e ∙ f in absurd (cc)
 moved-opened s count phase (Moves.unescape {name = name} {from = k} e) from f = let both : Escaped name k ≡ Opened from = sym e ∙ f in absurd (cc)
 
-node-brackets : (s : Inside) (opened : Option ℕ) (phase : Phase) → s.phase ≡ phase → BeginsNode phase opened → length s.parents ≤ MAX_OPEN → (from : ℕ) → s.phase ≡ Opened from → length s.parents ≤ MAX_OPEN
+node-brackets : (s : Inside) (opened : Option ℕ) (phase : Phase) → s.phase ≡ phase → BeginsNode phase opened → length s.parents ≤ most_open → (from : ℕ) → s.phase ≡ Opened from → length s.parents ≤ most_open
 node-brackets s opened phase e n h from f = h
 
 closed-within : (games : List SpelledGame) (s : Inside) (parents : List (Option ℕ)) → 1 ≤ length parents → EndsTree s.phase → ScanWithin (closed games s parents) → ScanWithin (inside games s)
@@ -136,7 +136,7 @@ out-within games place o l = record { few = l.few; each = All-weaker (λ game. C
   nowhere place IsOutside.outside = tt
   nowhere place IsOutside.before = tt
 
-module _ (text : List ℕ) (games : List SpelledGame) (spells : Spells games text) (limits : AreWithinLimits games) where
+module _ (text : List ℕ) (games : List SpelledGame) (spells : SpellsGames games text) (limits : AreWithinLimits games) where
   -- the scan of its first bytes
   front-within : (count : ℕ) (s : Scan) → scan at_start 0 (take count text) ≡ Some s → ScanWithin s
   front-within count s e =
@@ -158,9 +158,9 @@ module _ (text : List ℕ) (games : List SpelledGame) (spells : Spells games tex
   not-games at h = let w = front-within (h.root + 1) (inside h.games (begun at h.root)) h.scans in absurd (omega (arith, w.here.fewer, h.past))
 
   front-live : (count : ℕ) → IsLive (take count text)
-  front-live count = (drop count text, games, subst (λ (ts : List ℕ). Spells games ts) (sym (take-append-drop count text)) spells)
+  front-live count = (drop count text, games, subst (λ (ts : List ℕ). SpellsGames games ts) (sym (take-append-drop count text)) spells)
 
-  not-fault : length text ≤ MAX_FILE → (of : FaultKind) (at : ℕ) → ¬ HasFault text of at
+  not-fault : length text ≤ most_bytes → (of : FaultKind) (at : ℕ) → ¬ HasFault text of at
   not-fault short of at (HasFault.no_game live none trees) = none games spells
   not-fault short of at (HasFault.ended live none trees) = none games spells
   not-fault short of at (HasFault.unexpected l live dead) = dead (front-live (at + 1))
@@ -170,15 +170,15 @@ module _ (text : List ℕ) (games : List SpelledGame) (spells : Spells games tex
   not-fault short of at (HasFault.too_many_games h) = not-games at ((game_too_many-at text at).0 h)
 
 -- a spelled text within the limits is read
-pub within_limits-no_fault : (games : List SpelledGame) (text : List ℕ) → Spells games text → length text ≤ MAX_FILE → AreWithinLimits games → HasRead text games
+pub within_limits-no_fault : (games : List SpelledGame) (text : List ℕ) → SpellsGames games text → length text ≤ most_bytes → AreWithinLimits games → HasRead text games
 within_limits-no_fault games text spells short limits = record { spells = spells; no_fault = not-fault text games spells limits short }
 
 -- a text that is read is within the limits
-pub read-within_limits : (games : List SpelledGame) (text : List ℕ) → HasRead text games → (length text ≤ MAX_FILE) × AreWithinLimits games
+pub read-within_limits : (games : List SpelledGame) (text : List ℕ) → HasRead text games → (length text ≤ most_bytes) × AreWithinLimits games
 read-within_limits games text h =
     let fit = read-bounds text games h in (
-      elim (cases_lt MAX_FILE (length text)) [
-        | inl l ↦ absurd (h.no_fault kind.TooLong MAX_FILE (HasFault.too_long l))
+      elim (cases_lt most_bytes (length text)) [
+        | inl l ↦ absurd (h.no_fault kind.TooLong most_bytes (HasFault.too_long l))
         | inr l ↦ l
       ],
       record {

@@ -1,5 +1,7 @@
+pub mod Bytes
 pub mod Faults
 pub mod Grammar
+pub mod Limits
 pub mod Reading
 pub mod Scan
 pub mod Stays

@@ -5,7 +5,7 @@ use Rattle.sgf_reader.specs.declared.collection.RawNode.{RawNode}
 use Rattle.sgf_reader.specs.declared.collection.RawGame.{RawGame}
 use Rattle.sgf_reader.specs.declared.fault.FaultKind.TheVariants as kind
 use Rattle.sgf_reader.specs.declared.fault.SgfFault.{SgfFault}
-use Rattle.sgf_reader.specs.declared.limits.TheConstants.{MAX_GAMES, MAX_NODES, MAX_OPEN}
+use Rattle.sgf_reader.specs.Limits.{most_games, most_nodes, most_open}
 use Rattle.sgf_reader.specs.declared.place.Phase as phases
 use Rattle.sgf_reader.specs.declared.place.Phase.TheVariants as at
 use Rattle.sgf_reader.specs.declared.place.Place as places
@@ -25,7 +25,8 @@ pub record View : Type 0 where
 
 -- the nodes of which this one is still being read
 abbrev pub all_nodes : List RawNode → Bool → Option ℕ → List Pair → List RawNode
-all_nodes nodes is_reading parent pairs = if is_reading then nodes ++ record { parent = parent; pairs = pairs } ∷ [] else nodes
+all_nodes nodes is_reading parent pairs =
+    if is_reading then nodes ++ record { parent = parent; pairs = pairs } ∷ [] else nodes
 
 -- the last of these nodes has one more value
 abbrev pub with_raw_pair : List RawNode → Pair → List RawNode
@@ -35,17 +36,42 @@ with_raw_pair (node ∷ other ∷ nodes) pair = node ∷ with_raw_pair (other �
 
 -- one node more, without values so far
 abbrev pub with_raw_node : View → View
-with_raw_node v = record { games = v.games; nodes = v.nodes ++ record { parent = v.last; pairs = [] } ∷ []; is_reading = true; parents = v.parents; last = Some (length v.nodes) }
+with_raw_node v = record {
+  games = v.games;
+  nodes = v.nodes ++ record { parent = v.last; pairs = [] } ∷ [];
+  is_reading = true;
+  parents = v.parents;
+  last = Some (length v.nodes);
+}
 
 -- one open bracket more
 abbrev pub with_raw_bracket : View → View
-with_raw_bracket v = record { games = v.games; nodes = v.nodes; is_reading = false; parents = v.last ∷ v.parents; last = v.last }
+with_raw_bracket v = record {
+  games = v.games;
+  nodes = v.nodes;
+  is_reading = false;
+  parents = v.last ∷ v.parents;
+  last = v.last;
+}
 
 -- the innermost of these brackets is closed
 abbrev pub closed_view : View → List (Option ℕ) → View
-closed_view v [] = record { games = v.games; nodes = v.nodes; is_reading = false; parents = []; last = v.last }
-closed_view v (parent ∷ []) = record { games = v.games ++ record { nodes = v.nodes } ∷ []; nodes = []; is_reading = false; parents = []; last = parent }
-closed_view v (parent ∷ other ∷ parents) = record { games = v.games; nodes = v.nodes; is_reading = false; parents = other ∷ parents; last = parent }
+closed_view v [] =
+    record { games = v.games; nodes = v.nodes; is_reading = false; parents = []; last = v.last }
+closed_view v (parent ∷ []) = record {
+  games = v.games ++ record { nodes = v.nodes } ∷ [];
+  nodes = [];
+  is_reading = false;
+  parents = [];
+  last = parent;
+}
+closed_view v (parent ∷ other ∷ parents) = record {
+  games = v.games;
+  nodes = v.nodes;
+  is_reading = false;
+  parents = other ∷ parents;
+  last = parent;
+}
 
 -- where a reader stands when it is closed
 abbrev pub closed_place : List (Option ℕ) → places.Place
@@ -65,8 +91,14 @@ pub record ShowsInside (v : View) (now : phases.Phase) (s : Inside) : Type 0 whe
 -- the reader stands where the scan does
 pub data ShowsPlace (v : View) : places.Place → Place → Type 0 where
   none_open : v.nodes ≡ [] → v.parents ≡ [] → v.is_reading ≡ false → ShowsPlace v stands.Outside Outside
-  may_begin : {from : ℕ} → v.nodes ≡ [] → v.parents ≡ [] → v.is_reading ≡ false → ShowsPlace v (stands.Before from) (Before from)
-  inside : {phase : phases.Phase} {s : Inside} → ShowsInside v phase s → ShowsPlace v (stands.Within phase) (Within s)
+  may_begin : {from : ℕ} →
+      v.nodes ≡ [] →
+      v.parents ≡ [] →
+      v.is_reading ≡ false →
+      ShowsPlace v (stands.Before from) (Before from)
+  inside : {phase : phases.Phase} {s : Inside} →
+      ShowsInside v phase s →
+      ShowsPlace v (stands.Within phase) (Within s)
 
 -- what was read, and where the reader stands, are those of the scan
 pub record Shows (v : View) (now : places.Place) (s : Scan) : Type 0 where
@@ -75,9 +107,13 @@ pub record Shows (v : View) (now : places.Place) (s : Scan) : Type 0 where
 
 -- the limits hold at this place, behind so many games
 pub data IsWithinLimits (games : ℕ) : Place → Type 0 where
-  few_outside : games ≤ MAX_GAMES → IsWithinLimits games Outside
-  few_before : {from : ℕ} → games ≤ MAX_GAMES → IsWithinLimits games (Before from)
-  few_inside : {s : Inside} → games < MAX_GAMES → length s.parents ≤ MAX_OPEN → length s.nodes ≤ MAX_NODES → IsWithinLimits games (Within s)
+  few_outside : games ≤ most_games → IsWithinLimits games Outside
+  few_before : {from : ℕ} → games ≤ most_games → IsWithinLimits games (Before from)
+  few_inside : {s : Inside} →
+      games < most_games →
+      length s.parents ≤ most_open →
+      length s.nodes ≤ most_nodes →
+      IsWithinLimits games (Within s)
 
 -- The scan goes on over this byte, to what was then read, and the limits hold.
 pub record Leads (s : Scan) (offset byte : ℕ) (v : View) (now : places.Place) : Type 0 where
@@ -88,18 +124,31 @@ pub record Leads (s : Scan) (offset byte : ℕ) (v : View) (now : places.Place) 
 
 -- At this byte is this fault.
 pub data Fails (s : Scan) (offset byte : ℕ) : SgfFault → Type 0 where
-  refused : step s.games s.place offset byte ≡ None → Fails s offset byte (record { kind = kind.Unexpected; at = offset })
-  too_deep : (i : Inside) → step s.games s.place offset byte ≡ within s.games (with_bracket i offset) → length i.parents ≡ MAX_OPEN → Fails s offset byte (record { kind = kind.TooDeep; at = offset })
-  too_many_nodes : (i : Inside) (opened : Option ℕ) → step s.games s.place offset byte ≡ within s.games (with_node i opened offset) → length i.nodes ≡ MAX_NODES → Fails s offset byte (record { kind = kind.TooManyNodes; at = offset })
-  too_many_games : (from : ℕ) → s.place ≡ Before from → step s.games s.place offset byte ≡ within s.games (begun from offset) → length s.games ≡ MAX_GAMES → Fails s offset byte (record { kind = kind.TooManyGames; at = from })
+  refused : step s.games s.place offset byte ≡ None →
+      Fails s offset byte (record { kind = kind.Unexpected; at = offset })
+  too_deep : (i : Inside) →
+      step s.games s.place offset byte ≡ within s.games (with_bracket i offset) →
+      length i.parents ≡ most_open →
+      Fails s offset byte (record { kind = kind.TooDeep; at = offset })
+  too_many_nodes : (i : Inside) (opened : Option ℕ) →
+      step s.games s.place offset byte ≡ within s.games (with_node i opened offset) →
+      length i.nodes ≡ most_nodes →
+      Fails s offset byte (record { kind = kind.TooManyNodes; at = offset })
+  too_many_games : (from : ℕ) →
+      s.place ≡ Before from →
+      step s.games s.place offset byte ≡ within s.games (begun from offset) →
+      length s.games ≡ most_games →
+      Fails s offset byte (record { kind = kind.TooManyGames; at = from })
 
 -- From here this byte leads each scan that the reader shows on, to what was then read.
 abbrev pub StepsOn : View → places.Place → ℕ → ℕ → View → places.Place → Type 0
-StepsOn v now offset byte read next = (s : Scan) → Shows v now s → IsWithinLimits (length s.games) s.place → Leads s offset byte read next
+StepsOn v now offset byte read next =
+    (s : Scan) → Shows v now s → IsWithinLimits (length s.games) s.place → Leads s offset byte read next
 
 -- From here this byte is a fault of each scan that the reader shows.
 abbrev pub StepFails : View → places.Place → ℕ → ℕ → SgfFault → Type 0
-StepFails v now offset byte fault = (s : Scan) → Shows v now s → IsWithinLimits (length s.games) s.place → Fails s offset byte fault
+StepFails v now offset byte fault =
+    (s : Scan) → Shows v now s → IsWithinLimits (length s.games) s.place → Fails s offset byte fault
 
 -- outside trees
 abbrev pub IsPlaceOutside : places.Place → Type 0
@@ -108,5 +157,9 @@ IsPlaceOutside _ = Unit {0}
 
 -- the text ends at this offset with this fault
 pub data IsEndFault (v : View) (now : places.Place) (offset : ℕ) : SgfFault → Type 0 where
-  has_ended : (phase : phases.Phase) → now ≡ stands.Within phase → IsEndFault v now offset (record { kind = kind.Ended; at = offset })
-  has_no_game : IsPlaceOutside now → v.games ≡ [] → IsEndFault v now offset (record { kind = kind.NoGame; at = offset })
+  has_ended : (phase : phases.Phase) →
+      now ≡ stands.Within phase →
+      IsEndFault v now offset (record { kind = kind.Ended; at = offset })
+  has_no_game : IsPlaceOutside now →
+      v.games ≡ [] →
+      IsEndFault v now offset (record { kind = kind.NoGame; at = offset })

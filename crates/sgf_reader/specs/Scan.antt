@@ -1,6 +1,7 @@
 -- For the reader's private functions: where a reader stands in a text, and how each byte leads it on. What a text spells
 -- is said by the grammar alone; that the two agree is proved.
 use Rattle.std.specs.Prelude.{ℕ, ◌+◌, List, [], ◌∷◌, ◌++◌, length, Option, Some, None, Bool, ◌||◌, ◌&&◌, nat_le, ◌==◌, option_and_then, if◌then◌else◌}
+use Rattle.sgf_reader.specs.Bytes.{backslash, capital_a, capital_z, round_close, round_open, semicolon, small_a, small_z, space, square_close, square_open}
 use Rattle.sgf_reader.specs.declared.collection.Span.{Span}
 use Rattle.sgf_reader.specs.declared.collection.Pair.{Pair}
 use Rattle.sgf_reader.specs.Grammar.{SpelledGame, SpelledNode}
@@ -46,15 +47,15 @@ pub record Scan : Type 0 where
 
 -- white space
 abbrev pub is_white : ℕ → Bool
-is_white b = nat_le b 32
+is_white b = nat_le b space
 
 -- a letter `A` to `Z`
 abbrev pub is_upper : ℕ → Bool
-is_upper b = nat_le 65 b && nat_le b 90
+is_upper b = nat_le capital_a b && nat_le b capital_z
 
 -- a letter
 abbrev pub is_letter : ℕ → Bool
-is_letter b = is_upper b || (nat_le 97 b && nat_le b 122)
+is_letter b = is_upper b || (nat_le small_a b && nat_le b small_z)
 
 -- the phase is another one
 abbrev pub at_phase : Inside → Phase → Inside
@@ -78,13 +79,23 @@ with_node s opened at = record {
 
 -- a bracket is opened at this offset
 abbrev pub with_bracket : Inside → ℕ → Inside
-with_bracket s at = record { at = s.at; parents = s.last ∷ s.parents; last = s.last; nodes = s.nodes; phase = Opened at }
+with_bracket s at = record {
+  at = s.at;
+  parents = s.last ∷ s.parents;
+  last = s.last;
+  nodes = s.nodes;
+  phase = Opened at;
+}
 
 -- a bracket is closed: the one that is open alone ends the game
 abbrev pub closed : List SpelledGame → Inside → List (Option ℕ) → Scan
 closed games s [] = record { games = games; place = Outside }
-closed games s (parent ∷ []) = record { games = games ++ record { at = s.at; nodes = s.nodes } ∷ []; place = Outside }
-closed games s (parent ∷ other ∷ parents) = record { games = games; place = Within (record { at = s.at; parents = other ∷ parents; last = parent; nodes = s.nodes; phase = AfterTree }) }
+closed games s (parent ∷ []) =
+    record { games = games ++ record { at = s.at; nodes = s.nodes } ∷ []; place = Outside }
+closed games s (parent ∷ other ∷ parents) = record {
+  games = games;
+  place = Within (record { at = s.at; parents = other ∷ parents; last = parent; nodes = s.nodes; phase = AfterTree });
+}
 
 -- the reader goes on within the tree
 abbrev pub within : List SpelledGame → Inside → Option Scan
@@ -93,14 +104,14 @@ within games s = Some (record { games = games; place = Within s })
 -- behind all values of a node's properties: a node, a tree or the end of the tree may follow
 abbrev pub step_between : List SpelledGame → Inside → ℕ → ℕ → Option Scan
 step_between games s at b =
-    if b == 40 then within games (with_bracket s at)
-    else if b == 41 then Some (closed games s s.parents)
+    if b == round_open then within games (with_bracket s at)
+    else if b == round_close then Some (closed games s s.parents)
     else None
 
 -- behind a node: a node may follow
 abbrev pub step_node : List SpelledGame → Inside → ℕ → ℕ → Option Scan
 step_node games s at b =
-    if b == 59 then within games (with_node s None at)
+    if b == semicolon then within games (with_node s None at)
     else if is_letter b then within games (at_phase s (InName at (is_upper b)))
     else step_between games s at b
 
@@ -108,28 +119,32 @@ step_node games s at b =
 abbrev pub step_within : List SpelledGame → Inside → Phase → ℕ → ℕ → Option Scan
 step_within games s (Opened from) at b =
     if is_white b then within games s
-    else if b == 59 then within games (with_node s (Some from) at)
+    else if b == semicolon then within games (with_node s (Some from) at)
     else None
 step_within games s InNode at b = if is_white b then within games s else step_node games s at b
 step_within games s (InName from upper) at b =
     if is_letter b then within games (at_phase s (InName from (upper || is_upper b)))
     else if upper then
     (if is_white b then within games (at_phase s (AfterName (record { from = from; to = at })))
-    else if b == 91 then within games (at_phase s (InValue (record { from = from; to = at }) (at + 1)))
+    else if b == square_open then within games (at_phase s (InValue (record {
+      from =
+          from;
+      to = at;
+    }) (at + 1)))
     else None)
     else None
 step_within games s (AfterName name) at b =
     if is_white b then within games s
-    else if b == 91 then within games (at_phase s (InValue name (at + 1)))
+    else if b == square_open then within games (at_phase s (InValue name (at + 1)))
     else None
 step_within games s (InValue name from) at b =
-    if b == 93 then within games (record { at = s.at; parents = s.parents; last = s.last; nodes = with_pair s.nodes (record { name = name; value = record { from = from; to = at } }); phase = AfterValue name })
-    else if b == 92 then within games (at_phase s (Escaped name from))
+    if b == square_close then within games (record { at = s.at; parents = s.parents; last = s.last; nodes = with_pair s.nodes (record { name = name; value = record { from = from; to = at } }); phase = AfterValue name })
+    else if b == backslash then within games (at_phase s (Escaped name from))
     else within games s
 step_within games s (Escaped name from) at b = within games (at_phase s (InValue name from))
 step_within games s (AfterValue name) at b =
     if is_white b then within games s
-    else if b == 91 then within games (at_phase s (InValue name (at + 1)))
+    else if b == square_open then within games (at_phase s (InValue name (at + 1)))
     else step_node games s at b
 step_within games s AfterTree at b = if is_white b then within games s else step_between games s at b
 
@@ -139,11 +154,12 @@ begun from at = with_node (record { at = from; parents = None ∷ []; last = Non
 
 -- One byte leads a reader on.
 abbrev pub step : List SpelledGame → Place → ℕ → ℕ → Option Scan
-step games Outside at b = Some (record { games = games; place = if b == 40 then Before at else Outside })
+step games Outside at b =
+    Some (record { games = games; place = if b == round_open then Before at else Outside })
 step games (Before from) at b =
     if is_white b then Some (record { games = games; place = Before from })
-    else if b == 59 then within games (begun from at)
-    else Some (record { games = games; place = if b == 40 then Before at else Outside })
+    else if b == semicolon then within games (begun from at)
+    else Some (record { games = games; place = if b == round_open then Before at else Outside })
 step games (Within s) at b = step_within games s s.phase at b
 
 -- These bytes, the first at this offset, lead a reader on one after another.

@@ -4,7 +4,9 @@ use Rattle.sgf_reader.specs.declared.fault.FaultKind.TheVariants as kind
 use Rattle.sgf_reader.specs.declared.fault.ReadError.{ReadError}
 use Rattle.sgf_reader.specs.declared.fault.ReadError.TheVariants.{Fault}
 use Rattle.sgf_reader.specs.declared.fault.SgfFault.{SgfFault}
-use Rattle.sgf_reader.specs.declared.limits.TheConstants.{MAX_FILE, MAX_GAMES}
+use Rattle.sgf_reader.specs.Bytes.{backslash, round_open, space, square_close}
+use Rattle.sgf_reader.specs.Bytes.{semicolon as node_start}
+use Rattle.sgf_reader.specs.Limits.{most_bytes, most_games}
 use Rattle.sgf_reader.specs.declared.place.Phase as phases
 use Rattle.sgf_reader.specs.declared.place.Phase.TheVariants as at
 use Rattle.sgf_reader.specs.declared.place.Place as places
@@ -14,19 +16,19 @@ use Rattle.sgf_reader.specs.Reading.{View, Shows, IsWithinLimits, Fails}
 
 -- no byte of a value that ends it or hides the next one
 abbrev pub IsPlain : ℕ → Type 0
-IsPlain byte = (byte ≢ 93) × (byte ≢ 92)
+IsPlain byte = (byte ≢ square_close) × (byte ≢ backslash)
 
 -- this byte leaves a reader in this phase
 abbrev pub StaysIn : phases.Phase → ℕ → Type 0
 StaysIn (at.InName from upper) byte = ⊥
 StaysIn (at.Escaped name from) byte = ⊥
 StaysIn (at.InValue name from) byte = IsPlain byte
-StaysIn _ byte = byte ≤ 32
+StaysIn _ byte = byte ≤ space
 
 -- this byte leaves a reader at this place
 abbrev pub StaysAt : places.Place → ℕ → Type 0
-StaysAt stands.Outside byte = byte ≢ 40
-StaysAt (stands.Before from) byte = byte ≤ 32
+StaysAt stands.Outside byte = byte ≢ round_open
+StaysAt (stands.Before from) byte = byte ≤ space
 StaysAt (stands.Within phase) byte = StaysIn phase byte
 
 -- each byte from the first offset up to the second one
@@ -36,7 +38,10 @@ EachFrom text from to P = (k : ℕ) → from ≤ k → k < to → P (slice_index
 -- the first bytes, so many, lead the scan here, and the limits held all the way
 pub record IsReadTo (text : List ℕ) (count : ℕ) (s : Scan) : Type 0 where
   pub scans : scan at_start 0 (take count text) ≡ Some s
-  pub limits : (j : ℕ) (t : Scan) → j ≤ count → scan at_start 0 (take j text) ≡ Some t → IsWithinLimits (length t.games) t.place
+  pub limits : (j : ℕ) (t : Scan) →
+      j ≤ count →
+      scan at_start 0 (take j text) ≡ Some t →
+      IsWithinLimits (length t.games) t.place
 
 -- so many bytes were read, and this is what was read
 pub record HasReadTo (text : List ℕ) (count : ℕ) (v : View) (now : places.Place) : Type 0 where
@@ -57,13 +62,18 @@ pub record IsNodeNext (text : List ℕ) (from : ℕ) : Type 0 where
   pub semicolon : ℕ
   pub behind : from ≤ semicolon
   pub there : semicolon < length text
-  pub white : EachFrom text from semicolon (λ b. b ≤ 32)
-  pub here : slice_index text semicolon ≡ 59
+  pub white : EachFrom text from semicolon (λ b. b ≤ space)
+  pub here : slice_index text semicolon ≡ node_start
 
 -- the fault of a text that goes on at this offset, past its greatest length
 pub data IsPastEnd (v : View) (now : places.Place) (text : List ℕ) (end : ℕ) : ReadError → Type 0 where
-  too_many_games : (from : ℕ) → now ≡ stands.Before from → MAX_GAMES ≤ length v.games → IsNodeNext text end → IsPastEnd v now text end (Fault (record { kind = kind.TooManyGames; at = from }))
-  too_long : ((from : ℕ) → now ≡ stands.Before from → MAX_GAMES ≤ length v.games → ¬ IsNodeNext text end) → IsPastEnd v now text end (Fault (record { kind = kind.TooLong; at = MAX_FILE }))
+  too_many_games : (from : ℕ) →
+      now ≡ stands.Before from →
+      most_games ≤ length v.games →
+      IsNodeNext text end →
+      IsPastEnd v now text end (Fault (record { kind = kind.TooManyGames; at = from }))
+  too_long : ((from : ℕ) → now ≡ stands.Before from → most_games ≤ length v.games → ¬ IsNodeNext text end) →
+      IsPastEnd v now text end (Fault (record { kind = kind.TooLong; at = most_bytes }))
 
 -- nothing was read so far
 abbrev pub nothing : View

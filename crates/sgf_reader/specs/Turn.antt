@@ -21,7 +21,13 @@ phase_of at.AfterTree = AfterTree
 
 -- a value ends at this offset
 abbrev pub with_value : Inside → ℕ → Span → ℕ → Inside
-with_value s at name from = record { at = s.at; parents = s.parents; last = s.last; nodes = with_pair s.nodes (record { name = name; value = record { from = from; to = at } }); phase = AfterValue name }
+with_value s at name from = record {
+  at = s.at;
+  parents = s.parents;
+  last = s.last;
+  nodes = with_pair s.nodes (record { name = name; value = record { from = from; to = at } });
+  phase = AfterValue name;
+}
 
 -- where this turn leads the scan
 abbrev pub apply_turn : List SpelledGame → Inside → ℕ → turns.Turn → Option Scan

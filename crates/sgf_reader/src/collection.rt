@@ -18,36 +18,41 @@ pub struct Pair {
     pub value: Span,
 }
 
-/// The values of a node in order of the text. Contracts see it as a list.
+/// A list of items. Contracts see it as the list of what contracts see of each.
 #[derive(Debug, Drop)]
-pub struct PairList {
-    items: Vec<Pair>,
+pub struct Items<T> {
+    items: Vec<T>,
 }
 
-impl Model for PairList {
+impl<T> Model for Items<T> {
     ghost use Rattle.std.specs.Prelude.{List};
-    ghost use Rattle.sgf_reader.specs.declared.collection.Pair.{Pair};
+    ghost use Rattle.std.specs.Coded.{coded_list};
 
-    ghost Value = { List Pair };
+    ghost Value = { List T };
 
-    ghost view = { λ p. p.items.items };
+    ghost coded = { coded_list T.code };
+
+    ghost view = { λ l. l.items.items };
 }
 
-impl PairList {
+impl<T> Items<T> {
     /// The list of these items.
-    pub fn new(items: Vec<Pair>) -> Self
+    pub fn new(items: Vec<T>) -> Self
         ensures { result ≡ items.items }
     {
-        PairList { items }
+        Items { items }
     }
 
     /// The items.
-    pub fn as_slice(&self) -> &[Pair]
+    pub fn as_slice(&self) -> &[T]
         ensures { result.now ≡ self.now }
     {
         self.items.as_slice()
     }
 }
+
+/// The values of a node in order of the text.
+pub type PairList = Items<Pair>;
 
 /// A node: the number of its parent, which the root has not, and its values.
 #[derive(Debug, Drop)]
@@ -56,36 +61,8 @@ pub struct RawNode {
     pub pairs: PairList,
 }
 
-/// The nodes of a game in order of the text. Contracts see it as a list.
-#[derive(Debug, Drop)]
-pub struct RawNodeList {
-    items: Vec<RawNode>,
-}
-
-impl Model for RawNodeList {
-    ghost use Rattle.std.specs.Prelude.{List};
-    ghost use Rattle.sgf_reader.specs.declared.collection.RawNode.{RawNode};
-
-    ghost Value = { List RawNode };
-
-    ghost view = { λ n. n.items.items };
-}
-
-impl RawNodeList {
-    /// The list of these items.
-    pub fn new(items: Vec<RawNode>) -> Self
-        ensures { result ≡ items.items }
-    {
-        RawNodeList { items }
-    }
-
-    /// The items.
-    pub fn as_slice(&self) -> &[RawNode]
-        ensures { result.now ≡ self.now }
-    {
-        self.items.as_slice()
-    }
-}
+/// The nodes of a game in order of the text.
+pub type RawNodeList = Items<RawNode>;
 
 /// One game: a tree at the top level of the text.
 #[derive(Debug, Drop)]
@@ -93,36 +70,8 @@ pub struct RawGame {
     pub nodes: RawNodeList,
 }
 
-/// The games of a text, in order. Contracts see it as a list.
-#[derive(Debug, Drop)]
-pub struct RawGameList {
-    items: Vec<RawGame>,
-}
-
-impl Model for RawGameList {
-    ghost use Rattle.std.specs.Prelude.{List};
-    ghost use Rattle.sgf_reader.specs.declared.collection.RawGame.{RawGame};
-
-    ghost Value = { List RawGame };
-
-    ghost view = { λ g. g.items.items };
-}
-
-impl RawGameList {
-    /// The list of these items.
-    pub fn new(items: Vec<RawGame>) -> Self
-        ensures { result ≡ items.items }
-    {
-        RawGameList { items }
-    }
-
-    /// The items.
-    pub fn as_slice(&self) -> &[RawGame]
-        ensures { result.now ≡ self.now }
-    {
-        self.items.as_slice()
-    }
-}
+/// The games of a text, in order.
+pub type RawGameList = Items<RawGame>;
 
 /// The games of a text.
 #[derive(Debug, Drop)]

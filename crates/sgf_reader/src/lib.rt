@@ -17,10 +17,13 @@ mod step;
 mod turn;
 
 pub use collection::{
-    Collection, Pair, PairList, RawGame, RawGameList, RawNode, RawNodeList, Span,
+    Collection, Items, Pair, PairList, RawGame, RawGameList, RawNode, RawNodeList, Span,
 };
 pub use fault::{FaultKind, ReadError, SgfFault};
-pub use laws::{a_text_is_read_within_the_limits, a_text_spells_one_collection};
+pub use laws::{
+    a_text_has_one_first_fault, a_text_is_read_or_has_a_first_fault,
+    a_text_is_read_within_the_limits, a_text_spells_one_collection,
+};
 pub use limits::{MAX_FILE, MAX_GAMES, MAX_NODES, MAX_OPEN};
 pub use reader::read;
 

@@ -4,6 +4,7 @@ ghost use Rattle.sgf_reader.specs.declared.fault.ReadError.TheVariants.{Fault};
 ghost use Rattle.sgf_reader.specs.declared.fault.SgfFault.{SgfFault};
 ghost use Rattle.sgf_reader.specs.declared.fault.FaultKind.TheVariants as kind;
 ghost use Rattle.sgf_reader.specs.Faults.{IsRead, IsFirstFault};
+ghost use Rattle.sgf_reader.specs.Limits.{most_bytes};
 ghost use Rattle.sgf_reader.specs.Stays.{HasReadTo, FailsIn, IsPastEnd, nothing};
 
 use crate::limits::{MAX_FILE, MAX_GAMES};
@@ -18,7 +19,7 @@ use std::alloc::Global;
 fn read_bytes(reading: &mut Reading, text: &[u8], end: usize) -> Result<Place, ReadError>
     requires fresh { reading.old ≡ nothing }
     requires within { end ≤ length text.now }
-    requires short { end ≤ MAX_FILE }
+    requires short { end ≤ most_bytes }
     ensures ok { IfOk result (HasReadTo text.now end reading.new) }
     ensures fault { (f : SgfFault) → result ≡ Err (Fault f) → FailsIn text.now end f }
 {

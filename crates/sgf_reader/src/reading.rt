@@ -3,6 +3,7 @@ ghost use Rattle.std.specs.Prelude.{◌≡◌, ◌+◌, ◌<◌, ◌≤◌, ◌�
 ghost use Rattle.sgf_reader.specs.declared.fault.ReadError.TheVariants.{Fault};
 ghost use Rattle.sgf_reader.specs.declared.fault.SgfFault.{SgfFault};
 ghost use Rattle.sgf_reader.specs.declared.fault.FaultKind.TheVariants as kind;
+ghost use Rattle.sgf_reader.specs.Limits.{most_games, most_nodes, most_open};
 ghost use Rattle.sgf_reader.specs.Reading.{with_raw_pair, with_raw_node, with_raw_bracket, closed_view, closed_place, IsPlaceOutside, IsEndFault};
 
 use crate::limits::{MAX_GAMES, MAX_NODES, MAX_OPEN};
@@ -95,7 +96,8 @@ impl Reading {
 
     // One value more of the node that is being read.
     pub(crate) fn add_value(&mut self, pair: Pair) -> Result<(), ReadError>
-        ensures ok { self.old.is_reading ≡ true → IfOk result (λ _. self.new ≡ record self.old { nodes = with_raw_pair self.old.nodes pair }) }
+        ensures ok { self.old.is_reading ≡ true → IfOk result (λ _.
+            self.new ≡ record self.old { nodes = with_raw_pair self.old.nodes pair }) }
         ensures fault { (f : SgfFault) → result ≡ Err (Fault f) → ⊥ }
     {
         self.pairs.push(pair)?;
@@ -104,8 +106,10 @@ impl Reading {
 
     // A node begins at this offset.
     pub(crate) fn begin_node(&mut self, at: u32) -> Result<(), ReadError>
-        ensures ok { IfOk result (λ _. (self.new ≡ with_raw_node self.old) × (length self.old.nodes < MAX_NODES)) }
-        ensures fault { (f : SgfFault) → result ≡ Err (Fault f) → (f ≡ record { kind = kind.TooManyNodes; at = at }) × (MAX_NODES ≤ length self.old.nodes) }
+        ensures ok { IfOk result (λ _.
+            (self.new ≡ with_raw_node self.old) × (length self.old.nodes < most_nodes)) }
+        ensures fault { (f : SgfFault) → result ≡ Err (Fault f) →
+            (f ≡ record { kind = kind.TooManyNodes; at = at }) × (most_nodes ≤ length self.old.nodes) }
     {
         self.finish_node()?;
         let number = self.nodes.len();
@@ -121,8 +125,10 @@ impl Reading {
 
     // A bracket is opened at this offset.
     pub(crate) fn open_bracket(&mut self, at: u32) -> Result<(), ReadError>
-        ensures ok { IfOk result (λ _. (self.new ≡ with_raw_bracket self.old) × (length self.old.parents < MAX_OPEN)) }
-        ensures fault { (f : SgfFault) → result ≡ Err (Fault f) → (f ≡ record { kind = kind.TooDeep; at = at }) × (MAX_OPEN ≤ length self.old.parents) }
+        ensures ok { IfOk result (λ _.
+            (self.new ≡ with_raw_bracket self.old) × (length self.old.parents < most_open)) }
+        ensures fault { (f : SgfFault) → result ≡ Err (Fault f) →
+            (f ≡ record { kind = kind.TooDeep; at = at }) × (most_open ≤ length self.old.parents) }
     {
         self.finish_node()?;
         if self.parents.len() >= MAX_OPEN as usize {
@@ -134,7 +140,9 @@ impl Reading {
 
     // The innermost bracket is closed. With the outermost one the game ends.
     pub(crate) fn close_bracket(&mut self) -> Result<Place, ReadError>
-        ensures ok { IfOk result (λ place. (self.new ≡ closed_view self.old self.old.parents) × (place ≡ closed_place self.old.parents)) }
+        ensures ok { IfOk result (λ place.
+            (self.new ≡ closed_view self.old self.old.parents)
+            × (place ≡ closed_place self.old.parents)) }
         ensures fault { (f : SgfFault) → result ≡ Err (Fault f) → ⊥ }
     {
         self.finish_node()?;
@@ -154,8 +162,17 @@ impl Reading {
 
     // A game begins: its bracket at the first offset, its root at the second.
     pub(crate) fn begin_game(&mut self, from: u32, at: u32) -> Result<(), ReadError>
-        ensures ok { IfOk result (λ _. (self.new ≡ with_raw_node (record self.old { is_reading = false; parents = None ∷ self.old.parents; last = None })) × (length self.old.games < MAX_GAMES)) }
-        ensures fault { (f : SgfFault) → result ≡ Err (Fault f) → ((f ≡ record { kind = kind.TooManyGames; at = from }) × (MAX_GAMES ≤ length self.old.games)) ⊎ (MAX_NODES ≤ length self.old.nodes) }
+        ensures ok { IfOk result (λ _.
+            (self.new ≡ with_raw_node (record self.old {
+              is_reading = false;
+              parents = None ∷ self.old.parents;
+              last = None;
+            }))
+            × (length self.old.games < most_games)) }
+        ensures fault { (f : SgfFault) → result ≡ Err (Fault f) →
+            ((f ≡ record { kind = kind.TooManyGames; at = from })
+            × (most_games ≤ length self.old.games))
+            ⊎ (most_nodes ≤ length self.old.nodes) }
     {
         if self.games.len() >= MAX_GAMES as usize {
             return Err(fault(FaultKind::TooManyGames, from));
@@ -166,9 +183,12 @@ impl Reading {
         self.begin_node(at)
     }
 
-    // The text ends at this offset. The games are its collection where it ends outside trees, behind one or more.
+    // The text ends at this offset. The games are its collection where it ends outside trees, behind one
+    // or more.
     pub(crate) fn finish(self, place: Place, at: u32) -> Result<Collection, ReadError>
-        ensures ok { IfOk result (λ collection. (collection ≡ record { games = self.games }) × (1 ≤ length self.games) × IsPlaceOutside place) }
+        ensures ok { IfOk result (λ collection.
+            (collection ≡ record { games = self.games }) × (1 ≤ length self.games)
+            × IsPlaceOutside place) }
         ensures fault { (f : SgfFault) → result ≡ Err (Fault f) → IsEndFault self place at f }
     {
         if let Place::Within(_) = place {

@@ -1,5 +1,6 @@
 // How far a reader stays where it stands.
 ghost use Rattle.std.specs.Prelude.{◌≡◌, ◌≢◌, ◌<◌, ◌≤◌, ◌↔◌, IsTrue, length, slice_index};
+ghost use Rattle.sgf_reader.specs.Bytes.{round_open, space};
 ghost use Rattle.sgf_reader.specs.Stays.{EachFrom, IsPlain, StaysAt, IsNodeNext};
 
 use crate::place::{Phase, Place};
@@ -10,8 +11,8 @@ pub(crate) fn not_white_from(text: &[u8], from: usize, end: usize) -> usize
     requires within { end ≤ length text.now }
     ensures least { from ≤ result }
     ensures most { result ≤ end }
-    ensures white { EachFrom text.now from result (λ b. b ≤ 32) }
-    ensures not_white { result < end → 32 < slice_index text.now result }
+    ensures white { EachFrom text.now from result (λ b. b ≤ space) }
+    ensures not_white { result < end → space < slice_index text.now result }
 {
     for i in from..end {
         if text[i] > 32 {
@@ -43,7 +44,7 @@ fn bracket_from(text: &[u8], from: usize, end: usize) -> usize
     requires within { end ≤ length text.now }
     ensures least { from ≤ result }
     ensures most { result ≤ end }
-    ensures none { EachFrom text.now from result (λ b. b ≢ 40) }
+    ensures none { EachFrom text.now from result (λ b. b ≢ round_open) }
 {
     for i in from..end {
         if text[i] == b'(' {

@@ -2,6 +2,7 @@
 ghost use Rattle.std.specs.Prelude.{◌≡◌, ◌<◌, ◌^◌, IfOk, Err, if◌then◌else◌, ◌==◌};
 ghost use Rattle.sgf_reader.specs.declared.fault.ReadError.TheVariants.{Fault};
 ghost use Rattle.sgf_reader.specs.declared.fault.SgfFault.{SgfFault};
+ghost use Rattle.sgf_reader.specs.Bytes.{round_open};
 ghost use Rattle.sgf_reader.specs.Reading.{StepsOn, StepFails};
 
 use crate::place::{Phase, Place};
@@ -11,7 +12,7 @@ use crate::{FaultKind, Pair, ReadError, Span};
 
 // Where a reader outside trees stands behind this byte.
 fn outside(at: u32, byte: u8) -> Place
-    ensures { result ≡ (if byte == 40 then Place.Before at else Place.Outside) }
+    ensures { result ≡ (if byte == round_open then Place.Before at else Place.Outside) }
 {
     if byte == b'(' {
         Place::Before(at)

@@ -3,11 +3,10 @@ use Rattle.std.proofs.Common.{◌≡◌, ℕ, ◌+◌, ◌-◌, ◌<◌, ◌≤�
 use Rattle.std.proofs.lemmas.Bool.{le-ltb, lt-ltb}
 use Rattle.std.proofs.lemmas.List.{append-nil}
 use Rattle.std.proofs.lemmas.List.Elements.{All-nil}
-use Rattle.sgf_reader.specs.Grammar.{AreNodes, AreTrees, IsWhite, SpelledNode}
-use Rattle.sgf_reader.specs.Grammar.{IsTree as SpellsTree}
+use Rattle.sgf_reader.specs.Grammar.{AreNodes, AreTreeTexts, IsTreeText, IsWhite, SpelledNode}
 use Rattle.game_tree.specs.Built.{IsGrown}
 use Rattle.game_tree.specs.Stored.{one_if, siblings_from}
-use Rattle.game_tree.specs.Tree.{IsTree, Tree, branchings_to, children_of, first_child_of, first_of, next_sibling_of, node_count, parent_of}
+use Rattle.game_tree.specs.Tree.{IsTree, Tree, branchings_to, children_of, first_child_of, first_number, next_sibling_of, node_count, parent_of}
 use Rattle.game_tree.proofs.Subtrees.{IsSubtree, IsSubtree-at, IsSubtree-last}
 use Rattle.game_tree.proofs.Trees.{IsGrown-tree, first_child-found, parent-in_range, siblings_from-first}
 use Rattle.sgf_writer.specs.Written.{AreWritten, IsWrittenFrom, children, leaf, node_text, only_child}
@@ -42,14 +41,14 @@ pub record ReadsFrom (whole : List ℕ) (tree : Tree) (n depth : ℕ) (opened pa
   pub split : text ≡ sequence ++ inner
   pub own : AreNodes depth opened parent n at sequence nodes
   pub some : 1 ≤ length nodes
-  pub trees : AreTrees depth (Some (n + length nodes - 1)) (n + length nodes) (at + length sequence) inner inside
+  pub trees : AreTreeTexts depth (Some (n + length nodes - 1)) (n + length nodes) (at + length sequence) inner inside
   pub spelled : AreSpelled whole tree n (nodes ++ inside)
   pub subtree : IsSubtree tree n (n + length (nodes ++ inside))
 
 -- the text is trees, up to the end of their parent's subtree
 pub record ReadsTrees (whole : List ℕ) (tree : Tree) (depth : ℕ) (parent : Option ℕ) (number at : ℕ) (text : List ℕ) (end : ℕ) : Type 0 where
   pub nodes : List SpelledNode
-  pub trees : AreTrees depth parent number at text nodes
+  pub trees : AreTreeTexts depth parent number at text nodes
   pub spelled : AreSpelled whole tree number nodes
   pub all : number + length nodes ≡ end
 
@@ -62,9 +61,9 @@ record HasFirst (whole : List ℕ) (tree : Tree) (n depth : ℕ) (opened parent 
 no_white : IsWhite []
 no_white = All-nil (λ (b : ℕ). b ≤ 32)
 
-trees-moved : (depth a b m n at k : ℕ) (text : List ℕ) (nodes : List SpelledNode) → a ≡ b → m ≡ n → at ≡ k → AreTrees depth (Some a) m at text nodes → AreTrees depth (Some b) n k text nodes
+trees-moved : (depth a b m n at k : ℕ) (text : List ℕ) (nodes : List SpelledNode) → a ≡ b → m ≡ n → at ≡ k → AreTreeTexts depth (Some a) m at text nodes → AreTreeTexts depth (Some b) n k text nodes
 trees-moved depth a b m n at k text nodes e f g t =
-    subst (λ (i : ℕ). AreTrees depth (Some b) n i text nodes) g (subst (λ (i : ℕ). AreTrees depth (Some b) i at text nodes) f (subst (λ (i : ℕ). AreTrees depth (Some i) m at text nodes) e t))
+    subst (λ (i : ℕ). AreTreeTexts depth (Some b) n i text nodes) g (subst (λ (i : ℕ). AreTreeTexts depth (Some b) i at text nodes) f (subst (λ (i : ℕ). AreTreeTexts depth (Some i) m at text nodes) e t))
 
 module _ (whole : List ℕ) (tree : Tree) (is_tree : IsTree tree) where
   abbrev pub grown : IsGrown tree
@@ -81,7 +80,7 @@ module _ (whole : List ℕ) (tree : Tree) (is_tree : IsTree tree) where
       }
 
   -- behind a node that has no or several children
-  last-node : (n depth : ℕ) (opened parent : Option ℕ) (at : ℕ) (inner : List ℕ) (inside : List SpelledNode) → n < node_count tree → parent ≡ parent_of tree n → depth ≡ suc (branchings_above tree grown n) → Stands whole at (node_text tree n) → AreTrees depth (Some n) (n + 1) (at + length (node_text tree n)) inner inside → AreSpelled whole tree (n + 1) inside → IsSubtree tree n (n + 1 + length inside) → ReadsFrom whole tree n depth opened parent at (node_text tree n ++ inner)
+  last-node : (n depth : ℕ) (opened parent : Option ℕ) (at : ℕ) (inner : List ℕ) (inside : List SpelledNode) → n < node_count tree → parent ≡ parent_of tree n → depth ≡ suc (branchings_above tree grown n) → Stands whole at (node_text tree n) → AreTreeTexts depth (Some n) (n + 1) (at + length (node_text tree n)) inner inside → AreSpelled whole tree (n + 1) inside → IsSubtree tree n (n + 1 + length inside) → ReadsFrom whole tree n depth opened parent at (node_text tree n ++ inner)
   last-node n depth opened parent at inner inside h is_parent d stands trees spelled subtree =
       let first = first-node n depth opened parent at [] [] h is_parent d stands AreNodes.none in
       let same : node_text tree n ≡ 59 ∷ (properties_text tree n ++ []) = sym (append-nil (node_text tree n)) in
@@ -119,29 +118,29 @@ module _ (whole : List ℕ) (tree : Tree) (is_tree : IsTree tree) where
   -- an only child
   only_child-facts : (n child : ℕ) → children_of tree n ≡ child ∷ [] → (child ≡ n + 1) × (parent_of tree child ≡ Some n) × (next_sibling_of tree child ≡ None)
   only_child-facts n child e =
-      let first : first_child_of tree n ≡ Some child = ap first_of e in
+      let first : first_child_of tree n ≡ Some child = ap first_number e in
       let f = first_child-found tree grown n child first in
       let all : child ∷ [] ≡ child ∷ siblings_from tree (next_sibling_of tree child) = sym e ∙ children-first tree n child first in
       let rest : [] ≡ siblings_from tree (next_sibling_of tree child) = cc in
       (f.0, ap (parent_of tree) f.0 ∙ f.1, siblings-none tree (next_sibling_of tree child) rest)
 
   -- a bracketed tree
-  pub bracketed : (parent : Option ℕ) (depth number at : ℕ) (text : List ℕ) (r : ReadsFrom whole tree number (depth + 1) (Some at) parent (at + 1) text) → SpellsTree depth parent number at (40 ∷ (text ++ 41 ∷ [])) (r.nodes ++ r.inside)
+  pub bracketed : (parent : Option ℕ) (depth number at : ℕ) (text : List ℕ) (r : ReadsFrom whole tree number (depth + 1) (Some at) parent (at + 1) text) → IsTreeText depth parent number at (40 ∷ (text ++ 41 ∷ [])) (r.nodes ++ r.inside)
   bracketed parent depth number at text r =
       let same : 40 ∷ (r.sequence ++ r.inner ++ [] ++ 41 ∷ []) ≡ 40 ∷ (text ++ 41 ∷ []) =
       ap (λ t. 40 ∷ (t ++ 41 ∷ [])) (append-nil (r.sequence ++ r.inner) ∙ sym r.split) in
-      subst (λ (t : List ℕ). SpellsTree depth parent number at t (r.nodes ++ r.inside)) same
-      (SpellsTree.in_brackets r.sequence r.inner [] r.nodes r.inside r.own r.some (trees-moved (depth + 1) _ _ _ _ _ _ r.inner r.inside refl refl (omega arith) r.trees) no_white)
+      subst (λ (t : List ℕ). IsTreeText depth parent number at t (r.nodes ++ r.inside)) same
+      (IsTreeText.in_brackets r.sequence r.inner [] r.nodes r.inside r.own r.some (trees-moved (depth + 1) _ _ _ _ _ _ r.inner r.inside refl refl (omega arith) r.trees) no_white)
 
   one_tree : (m depth number at : ℕ) (text rest : List ℕ) (end : ℕ) (r : ReadsFrom whole tree number (depth + 1) (Some at) (Some m) (at + 1) text) → ReadsTrees whole tree depth (Some m) (number + length (r.nodes ++ r.inside)) (at + length (40 ∷ (text ++ 41 ∷ []))) rest end → ReadsTrees whole tree depth (Some m) number at (40 ∷ (text ++ 41 ∷ rest)) end
   one_tree m depth number at text rest end r others =
       let place : at ≡ at + length {A = ℕ} [] = omega arith in
-      let first : SpellsTree depth (Some m) number (at + length {A = ℕ} []) (40 ∷ (text ++ 41 ∷ [])) (r.nodes ++ r.inside) =
-      subst (λ (k : ℕ). SpellsTree depth (Some m) number k (40 ∷ (text ++ 41 ∷ [])) (r.nodes ++ r.inside)) place (bracketed (Some m) depth number at text r) in
+      let first : IsTreeText depth (Some m) number (at + length {A = ℕ} []) (40 ∷ (text ++ 41 ∷ [])) (r.nodes ++ r.inside) =
+      subst (λ (k : ℕ). IsTreeText depth (Some m) number k (40 ∷ (text ++ 41 ∷ [])) (r.nodes ++ r.inside)) place (bracketed (Some m) depth number at text r) in
       let same : (40 ∷ (text ++ 41 ∷ [])) ++ rest ≡ 40 ∷ (text ++ 41 ∷ rest) = ap (λ t. 40 ∷ t) (append_assoc text (41 ∷ []) rest) in
       record {
         nodes = (r.nodes ++ r.inside) ++ others.nodes;
-        trees = subst (λ (t : List ℕ). AreTrees depth (Some m) number at t ((r.nodes ++ r.inside) ++ others.nodes)) same (AreTrees.one_more [] (40 ∷ (text ++ 41 ∷ [])) rest (r.nodes ++ r.inside) others.nodes no_white first others.trees);
+        trees = subst (λ (t : List ℕ). AreTreeTexts depth (Some m) number at t ((r.nodes ++ r.inside) ++ others.nodes)) same (AreTreeTexts.one_more [] (40 ∷ (text ++ 41 ∷ [])) rest (r.nodes ++ r.inside) others.nodes no_white first others.trees);
         spelled = AreSpelled-append whole tree number (number + length (r.nodes ++ r.inside)) (r.nodes ++ r.inside) others.nodes r.spelled refl others.spelled;
         all = omega (arith, length-append (r.nodes ++ r.inside) others.nodes, others.all);
       }
@@ -153,7 +152,7 @@ module _ (whole : List ℕ) (tree : Tree) (is_tree : IsTree tree) where
   mutual
     pub reads-from : (n : ℕ) (text : List ℕ) → IsWrittenFrom tree n text → (at depth : ℕ) (opened parent : Option ℕ) → Stands whole at text → n < node_count tree → parent ≡ parent_of tree n → depth ≡ suc (branchings_above tree grown n) → ReadsFrom whole tree n depth opened parent at text
     reads-from n text (leaf none) at depth opened parent stands h is_parent d =
-        let read = last-node n depth opened parent at [] [] h is_parent d stands AreTrees.none tt (subst (λ (i : ℕ). IsSubtree tree n i) (omega arith) (leaf-end tree grown n h none)) in
+        let read = last-node n depth opened parent at [] [] h is_parent d stands AreTreeTexts.none tt (subst (λ (i : ℕ). IsSubtree tree n i) (omega arith) (leaf-end tree grown n h none)) in
         subst (λ (t : List ℕ). ReadsFrom whole tree n depth opened parent at t) (append-nil (node_text tree n)) read
     reads-from n text (only_child child rest e from) at depth opened parent stands h is_parent d =
         let f = only_child-facts n child e in
@@ -165,7 +164,7 @@ module _ (whole : List ℕ) (tree : Tree) (is_tree : IsTree tree) where
         (subst (λ (i : ℕ). ReadsFrom whole tree i depth None (Some n) (at + length (node_text tree n)) rest) f.0 r) all.1
         (subst (λ (i : ℕ). IsSubtree tree i all.0) f.0 (IsSubtree-last tree grown n child all.0 f.1 f.2 all.1))
     reads-from n text (children first second others rest e written) at depth opened parent stands h is_parent d =
-        let child : first_child_of tree n ≡ Some first = ap first_of e in
+        let child : first_child_of tree n ≡ Some first = ap first_number e in
         let f = first_child-found tree grown n first child in
         let several : ltb 1 (length (children_of tree n)) ≡ true = lt-ltb 1 (length (children_of tree n)) (omega (arith, ap length e)) in
         let step : branchings_to tree n ≡ branchings_above tree grown n + 1 = branchings-step tree grown n ∙ ap (λ b. branchings_above tree grown n + one_if b) several in
@@ -177,7 +176,7 @@ module _ (whole : List ℕ) (tree : Tree) (is_tree : IsTree tree) where
     pub reads-trees : (ns : List ℕ) (text : List ℕ) → AreWritten tree ns text → (o : Option ℕ) → ns ≡ siblings_from tree o → (m end number at depth : ℕ) → IsSubtree tree m end → Starts tree m end o number → depth ≡ branchings_to tree m → Stands whole at text → ReadsTrees whole tree depth (Some m) number at text end
     reads-trees ns text AreWritten.none o e m end number at depth all starts d stands =
         let last = subst (λ (i : Option ℕ). Starts tree m end i number) (siblings-none tree o e) starts in
-        record { nodes = []; trees = AreTrees.none; spelled = tt; all = omega (arith, last) }
+        record { nodes = []; trees = AreTreeTexts.none; spelled = tt; all = omega (arith, last) }
     reads-trees ns text (AreWritten.one_more {n = n} {others = others} first rest from written) o e m end number at depth all starts d stands =
         let head = siblings-head tree n others o e in
         let here = subst (λ (i : Option ℕ). Starts tree m end i number) head.0 starts in

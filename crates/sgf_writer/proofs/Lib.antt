@@ -1,11 +1,12 @@
 mod Appends
 mod Closings
+pub mod EachWritten
 mod Entries
 mod EntriesRead
 mod GrammarOf
 mod InBrackets
 mod NodeSpelling
-mod OneText
+pub mod OneText
 mod ReadsBack
 mod RootRead
 mod Spelling

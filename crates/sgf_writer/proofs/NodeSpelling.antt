@@ -32,10 +32,10 @@ digits-range (c ∷ cs) digits =
 pub decimal-range : (n : ℕ) → n < 100 → All (λ (b : ℕ). (48 ≤ b) × (b ≤ 57)) (decimal n)
 decimal-range n h = digits-range (decimal n) (decimal_is_IsNumeral n (omega arith)).0.1
 
-pub columns-le : (shape : Shape) → (1 ≤ cols_of shape) × (cols_of shape ≤ 19)
+pub columns-le : (shape : Shape) → (1 ≤ cols_of shape) × (cols_of shape ≤ 52)
 columns-le shape = shape.in_range.0
 
-pub rows-le : (shape : Shape) → (1 ≤ rows_of shape) × (rows_of shape ≤ 19)
+pub rows-le : (shape : Shape) → (1 ≤ rows_of shape) × (rows_of shape ≤ 52)
 rows-le shape = shape.in_range.1
 
 -- a size is one number on a square board, else two

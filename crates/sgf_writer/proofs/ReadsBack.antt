@@ -12,9 +12,9 @@ use Rattle.sgf_reader.specs.declared.collection.Pair.{Pair}
 use Rattle.sgf_reader.specs.declared.collection.RawGame.{RawGame}
 use Rattle.sgf_reader.specs.declared.collection.RawNode.{RawNode}
 use Rattle.sgf_reader.specs.declared.fault.FaultKind.{FaultKind}
-use Rattle.sgf_reader.specs.declared.limits.TheConstants.{MAX_FILE}
+use Rattle.sgf_reader.specs.Limits.{most_bytes}
 use Rattle.sgf_reader.specs.Faults.{AreWithinLimits}
-use Rattle.sgf_reader.specs.Grammar.{HasGames, SpelledGame, SpelledNode, Spells, raw_node}
+use Rattle.sgf_reader.specs.Grammar.{HasGames, SpelledGame, SpelledNode, SpellsGames, raw_node}
 use Rattle.sgf_reader.proofs.WithinLimits.{within_limits-no_fault}
 use Rattle.game_tree.specs.declared.node.Move.{Move}
 use Rattle.game_tree.specs.declared.node.Setup.{Setup}
@@ -175,9 +175,9 @@ module _ (whole : List ℕ) (tree : Tree) (is_tree : IsTree tree) (root : Spelle
         All-contains (λ (x : SpelledNode). x.depth ≤ 1024) (root ∷ others) node (depths 0 (root ∷ others) spelled) (subst (λ (x : SpelledGame). Contains x.nodes node) e d);
   }
 
-  pub read_back : HasGames 0 whole (record { at = 0; nodes = root ∷ others } ∷ []) → length whole ≤ MAX_FILE → IsReadBack whole tree
+  pub read_back : HasGames 0 whole (record { at = 0; nodes = root ∷ others } ∷ []) → length whole ≤ most_bytes → IsReadBack whole tree
   read_back games short =
-      let spells : Spells (record { at = 0; nodes = root ∷ others } ∷ []) whole = (games, omega arith) in
+      let spells : SpellsGames (record { at = 0; nodes = root ∷ others } ∷ []) whole = (games, omega arith) in
       record {
         collection = record { games = raw ∷ [] };
         read = (record { at = 0; nodes = root ∷ others } ∷ [], within_limits-no_fault _ whole spells short within, refl);
@@ -197,11 +197,11 @@ root_end tree is_tree end sub =
       | inr h ↦ let e : end ≡ node_count tree = omega (arith, sub.within) in e
     ]
 
-from_nodes : (whole : List ℕ) (tree : Tree) → IsTree tree → (nodes : List SpelledNode) → 1 ≤ length nodes → AreSpelled whole tree 0 nodes → length nodes ≡ node_count tree → HasGames 0 whole (record { at = 0; nodes = nodes } ∷ []) → length whole ≤ MAX_FILE → IsReadBack whole tree
+from_nodes : (whole : List ℕ) (tree : Tree) → IsTree tree → (nodes : List SpelledNode) → 1 ≤ length nodes → AreSpelled whole tree 0 nodes → length nodes ≡ node_count tree → HasGames 0 whole (record { at = 0; nodes = nodes } ∷ []) → length whole ≤ most_bytes → IsReadBack whole tree
 from_nodes whole tree is_tree [] some spelled count games short = absurd (omega arith)
 from_nodes whole tree is_tree (root ∷ others) some spelled count games short = read_back whole tree is_tree root others spelled count games short
 
-from_text : (tree : Tree) → IsTree tree → (text : List ℕ) → IsWrittenFrom tree 0 text → length (40 ∷ (text ++ 41 ∷ [])) ≤ MAX_FILE → IsReadBack (40 ∷ (text ++ 41 ∷ [])) tree
+from_text : (tree : Tree) → IsTree tree → (text : List ℕ) → IsWrittenFrom tree 0 text → length (40 ∷ (text ++ 41 ∷ [])) ≤ most_bytes → IsReadBack (40 ∷ (text ++ 41 ∷ [])) tree
 from_text tree is_tree text from short =
     let whole : List ℕ = 40 ∷ (text ++ 41 ∷ []) in
     let stands = Stands-front text (41 ∷ []) (Stands-back (40 ∷ []) (text ++ 41 ∷ []) (Stands-whole (40 ∷ (text ++ 41 ∷ [])))) in
@@ -214,14 +214,14 @@ from_text tree is_tree text from short =
     (subst (λ (t : List ℕ). HasGames 0 t (record { at = 0; nodes = r.nodes ++ r.inside } ∷ [])) (append-nil (40 ∷ (text ++ 41 ∷ []))) games) short
 
 -- the text of a tree is read and built as this tree
-pub written-read_back : (tree : Tree) → IsTree tree → (text : List ℕ) → IsWritten tree text → length text ≤ MAX_FILE → IsReadBack text tree
+pub written-read_back : (tree : Tree) → IsTree tree → (text : List ℕ) → IsWritten tree text → length text ≤ most_bytes → IsReadBack text tree
 written-read_back tree is_tree text written short = go (0 ∷ []) text written refl short
   where
     nothing_more : (ns : List ℕ) (text : List ℕ) → AreWritten tree ns text → ns ≡ [] → text ≡ []
     nothing_more ns text AreWritten.none e = refl
     nothing_more ns text (AreWritten.one_more first rest from more) e = absurd cc
 
-    go : (ns : List ℕ) (text : List ℕ) → AreWritten tree ns text → ns ≡ 0 ∷ [] → length text ≤ MAX_FILE → IsReadBack text tree
+    go : (ns : List ℕ) (text : List ℕ) → AreWritten tree ns text → ns ≡ 0 ∷ [] → length text ≤ most_bytes → IsReadBack text tree
     go ns text AreWritten.none e short = absurd cc
     go ns text (AreWritten.one_more {n = n} {others = others} first rest from more) e short =
         let root : n ≡ 0 = cc in

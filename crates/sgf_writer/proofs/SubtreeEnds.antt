@@ -6,7 +6,7 @@ use Rattle.std.specs.Prelude.{count_by}
 use Rattle.std.specs.Option.{option_map_or}
 use Rattle.game_tree.specs.Built.{IsGrown}
 use Rattle.game_tree.specs.Stored.{one_if, siblings_from}
-use Rattle.game_tree.specs.Tree.{Tree, branchings_to, children_of, first_child_of, first_of, next_sibling_of, node_count, parent_of, path_to}
+use Rattle.game_tree.specs.Tree.{Tree, branchings_to, children_of, first_child_of, first_number, next_sibling_of, node_count, parent_of, path_to}
 use Rattle.game_tree.proofs.Paths.{path_to-parent, path_to-root}
 use Rattle.game_tree.proofs.Subtrees.{IsSubtree, IsSubtree-at, IsSubtree-last, IsSubtree-next}
 use Rattle.game_tree.proofs.Trees.{IsAbove-le, IsAbove-step, cases_Option, first_child-behind, next_sibling-found, parent-in_range, parent-lt, siblings_from-next}
@@ -50,7 +50,7 @@ module _ (tree : Tree) (grown : IsGrown tree) where
             let step = IsAbove-step tree (sub.1.inside (n + 1) (omega arith) l) (omega arith) in
             let same : step.0 ≡ n = omega (arith, IsAbove-le tree grown step.2, parent-lt tree grown (n + 1) step.0 step.1) in
             let child : first_child_of tree n ≡ Some (n + 1) = first_child-behind tree grown n (step.1 ∙ ap (λ i. Some i) same) in
-            absurd (let f : None ≡ Some (n + 1) = sym (ap first_of none) ∙ child in cc)
+            absurd (let f : None ≡ Some (n + 1) = sym (ap first_number none) ∙ child in cc)
         | inr g ↦ let e : sub.0 ≡ n + 1 = omega (arith, sub.1.later) in subst (λ (i : ℕ). IsSubtree tree n i) e sub.1
       ]
 

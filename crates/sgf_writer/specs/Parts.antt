@@ -14,8 +14,9 @@ head_text shape = codes "GM[1]FF[4]SZ[" ++ size_text shape ++ codes "]"
 -- the texts of the information
 abbrev pub information_text : Information → List ℕ
 information_text info =
-    text_property (codes "PB") info.black ++ text_property (codes "PW") info.white ++ text_property (codes "EV") info.event
-    ++ text_property (codes "PC") info.place ++ text_property (codes "DT") info.date ++ text_property (codes "RE") info.outcome_text
+    text_property (codes "PB") info.black ++ text_property (codes "PW") info.white
+    ++ text_property (codes "EV") info.event ++ text_property (codes "PC") info.place
+    ++ text_property (codes "DT") info.date ++ text_property (codes "RE") info.outcome_text
 
 -- the identifier of a setup, unless the one before has it too
 abbrev pub setter_text : Option Cell → Cell → List ℕ

@@ -19,9 +19,16 @@ closing tree n = if in_brackets tree n then codes ")" else []
 pub data Closes (tree : Tree) : ℕ → Option ℕ → List ℕ → Type 0 where
   before_sibling : {n s : ℕ} → next_sibling_of tree n ≡ Some s → Closes tree n (Some s) (closing tree n)
   at_end : {n : ℕ} → parent_of tree n ≡ None → Closes tree n None (closing tree n)
-  last_child : {n p : ℕ} {next : Option ℕ} {text : List ℕ} → next_sibling_of tree n ≡ None → parent_of tree n ≡ Some p → Closes tree p next text → Closes tree n next (closing tree n ++ text)
+  last_child : {n p : ℕ} {next : Option ℕ} {text : List ℕ} →
+      next_sibling_of tree n ≡ None →
+      parent_of tree n ≡ Some p →
+      Closes tree p next text →
+      Closes tree n next (closing tree n ++ text)
 
 -- Behind this node stands this text, and then this node, if there is one.
 pub data Follows (tree : Tree) : ℕ → Option ℕ → List ℕ → Type 0 where
   before_child : {n c : ℕ} → first_child_of tree n ≡ Some c → Follows tree n (Some c) []
-  behind_leaf : {n : ℕ} {next : Option ℕ} {text : List ℕ} → first_child_of tree n ≡ None → Closes tree n next text → Follows tree n next text
+  behind_leaf : {n : ℕ} {next : Option ℕ} {text : List ℕ} →
+      first_child_of tree n ≡ None →
+      Closes tree n next text →
+      Follows tree n next text

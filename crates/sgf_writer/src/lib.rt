@@ -10,7 +10,7 @@ mod values;
 mod walk;
 mod writer;
 
-pub use laws::a_tree_has_one_text;
+pub use laws::{a_tree_has_one_text, each_tree_has_a_text};
 pub use writer::write;
 
 #[cfg(test)]

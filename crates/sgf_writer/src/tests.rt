@@ -6,7 +6,7 @@ use std::alloc::Global;
 use std::test::Fail;
 
 // A text, and what is written of its games.
-const TEXTS: [(&str, &str); 17] = [
+const TEXTS: [(&str, &str); 20] = [
     // Variations behind a move.
     (
         "(;SZ[3];B[bb](;B[cc])(;W[aa];AE[aa]))",
@@ -58,6 +58,17 @@ const TEXTS: [(&str, &str); 17] = [
         "(;SZ[9];C[opening](;)(;KM[6.5]))",
         "(;GM[1]FF[4]SZ[9];(;)(;))",
     ),
+    // Letters up to the last one, `tt` as a point, and a pass, on boards of more than 19 columns.
+    (
+        "(;SZ[52]AB[ZZ:aA];B[zA];W[tt];B[])",
+        "(;GM[1]FF[4]SZ[52]AB[aA:ZZ];B[zA];W[tt];B[])",
+    ),
+    (
+        "(;SZ[20:52]AB[tZ:sa]AE[tt];W[])",
+        "(;GM[1]FF[4]SZ[20:52]AB[sa:tZ]AE[tt];W[])",
+    ),
+    // `tt` where it is a pass.
+    ("(;SZ[19];B[tt];W[])", "(;GM[1]FF[4]SZ[19];B[];W[])"),
     // White space and bytes outside of games.
     ("x (\n;SZ[ 9 ] ; B [ aa ]\n) y", "(;GM[1]FF[4]SZ[9];B[aa])"),
     // One text behind another.

@@ -3,6 +3,7 @@ ghost use Rattle.std.specs.Prelude.{◌≡◌, ◌<◌, ◌++◌, ◌==◌, ◌|
 ghost use Rattle.std.specs.Fmt.{decimal};
 ghost use Rattle.std.specs.Option.{option_map_or};
 ghost use Rattle.kb_geometry.specs.declared.shape.Point.{Point};
+ghost use Rattle.sgf_reader.specs.Bytes.{backslash, colon, square_close};
 ghost use Rattle.sgf_writer.specs.Letters.{HasLetter, HasLetters};
 ghost use Rattle.sgf_writer.specs.Written.{escaped, letter_of, point_text, rect_text, size_text};
 
@@ -51,7 +52,7 @@ pub(crate) fn write_size(out: &mut Vec<u8>, shape: Shape) -> Result<(), NoMemory
 fn write_sides(out: &mut Vec<u8>, cols: u8, rows: u8) -> Result<(), NoMemory>
     requires columns { cols < 100 }
     requires rows { rows < 100 }
-    ensures { OnOk result (out.new.items ≡ out.old.items ++ (decimal cols ++ 58 ∷ decimal rows)) }
+    ensures { OnOk result (out.new.items ≡ out.old.items ++ (decimal cols ++ colon ∷ decimal rows)) }
 {
     write_decimal(out, cols)?;
     append(out, b":")?;
@@ -96,7 +97,7 @@ pub(crate) fn write_rect(out: &mut Vec<u8>, r: Rect) -> Result<(), NoMemory>
 // Appends one byte of a text, with a backslash before `]` and backslash (SGF FF[4], SimpleText).
 fn write_byte(out: &mut Vec<u8>, b: u8) -> Result<(), NoMemory>
     ensures { OnOk result (out.new.items ≡ out.old.items
-        ++ (if (b == 92) || (b == 93) then 92 ∷ b ∷ [] else b ∷ [])) }
+        ++ (if (b == backslash) || (b == square_close) then backslash ∷ b ∷ [] else b ∷ [])) }
 {
     if b == b'\\' || b == b']' {
         append(out, &[b'\\', b])

@@ -1,6 +1,6 @@
 // Writing of a tree.
 ghost use Rattle.std.specs.Prelude.{◌≡◌, ◌≤◌, ℕ, List, ◌++◌, length, IfOk, IfErr};
-ghost use Rattle.sgf_reader.specs.declared.limits.TheConstants.{MAX_FILE};
+ghost use Rattle.sgf_reader.specs.Limits.{most_bytes};
 ghost use Rattle.sgf_writer.specs.Written.{IsWritten};
 ghost use Rattle.sgf_writer.specs.ReadBack.{IsReadBack};
 
@@ -16,7 +16,7 @@ use kb_geometry::NoMemory;
 pub fn write(tree: &GameTree, out: &mut Vec<u8>) -> Result<(), NoMemory>
     ensures ok { IfOk result (λ _. (text : List ℕ) × IsWritten tree.now text
         × (out.new.items ≡ out.old.items ++ text)) }
-    ensures read_back { (text : List ℕ) → IsWritten tree.now text → length text ≤ MAX_FILE →
+    ensures read_back { (text : List ℕ) → IsWritten tree.now text → length text ≤ most_bytes →
         IsReadBack text tree.now }
     ensures error { IfErr result (λ _. out.new.items ≡ out.old.items) }
 {

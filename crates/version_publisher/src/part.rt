@@ -9,7 +9,8 @@ pub trait Part: Drop + Send + Sync {
     /// Its items, in order.
     ghost items: { Self → List Self.Item };
 
-    /// What contracts call the constant of the same name.
+    /// The greatest number of items that a version may have, as contracts speak of it. Each part is
+    /// proved to give the constant of the same name this value.
     ghost MOST: { ℕ };
 
     /// The greatest number of items that a version may have.
@@ -18,4 +19,11 @@ pub trait Part: Drop + Send + Sync {
     /// How many items it has.
     fn count(&self) -> u32
         ensures { result ≡ length (items self.now) };
+}
+
+/// A law: the greatest number of items is the one that contracts speak of, for every part.
+pub fn most_of<P: Part>() -> u32
+    ensures { result ≡ P.MOST }
+{
+    P::MOST
 }

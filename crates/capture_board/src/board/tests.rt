@@ -1,4 +1,5 @@
-// Moves on small boards, worked out by hand from the rules of Go, with their changes, and taken back.
+// Moves on small boards, worked out by hand from the rules of Go, with their changes, and taken
+// back.
 ghost use Rattle.std.specs.Prelude.{◌≡◌, ◌<◌, IfSome};
 ghost use Rattle.kb_geometry.specs.Board.{point_count, IsOnBoard};
 ghost use Rattle.kb_geometry.specs.declared.shape.Point.{Point};
@@ -7,8 +8,8 @@ ghost use Rattle.capture_board.specs.Changes.{LeadFrom};
 use super::*;
 use std::process::Abort;
 
-/// A move: columns, rows, the board row by row with `X` for Black and `O` for White, the side, the column and the
-/// row of its point, and the board after it.
+/// A move: columns, rows, the board row by row with `X` for Black and `O` for White, the side, the
+/// column and the row of its point, and the board after it.
 type Case = (u8, u8, &'static str, Colour, u8, u8, &'static str);
 
 fn cell_of(byte: u8) -> Cell {
@@ -243,5 +244,181 @@ fn lines(rt: HostRuntime) {
         };
         check(&rt, &(19, 1, before, side, at, 0, after));
         check(&rt, &(1, 19, before, side, 0, at, after));
+    }
+}
+
+/// Stones of one cell on a rectangle: its upper left corner's column and row, and those of its
+/// lower right corner.
+type Laid = (Cell, u8, u8, u8, u8);
+
+/// Columns, rows, two rectangles that are laid, the side that plays, the column and the row of its
+/// point, and the first and the last of the points that it captures.
+type LargeCase = (u8, u8, [Laid; 2], Colour, u8, u8, u16, u16);
+
+/// Lays a rectangle that is on the board.
+fn lay(board: &mut Board, shape: Shape, changes: &mut ChangeList, laid: Laid)
+    requires { board.old.shape ≡ shape }
+    ensures { board.new.shape ≡ shape }
+{
+    let (cell, x0, y0, x1, y1) = laid;
+    if x0 <= x1 && y0 <= y1 && x1 < shape.cols() && y1 < shape.rows() {
+        changes.clear();
+        board.set(cell, Rect { x0, y0, x1, y1 }, changes);
+    }
+}
+
+/// The board with these rectangles.
+fn laid(shape: Shape, rects: [Laid; 2]) -> Board
+    ensures { result.shape ≡ shape }
+{
+    let mut board = Board::empty(shape);
+    let mut changes = ChangeList::new();
+    for rect in rects {
+        lay(&mut board, shape, &mut changes, rect);
+    }
+    board
+}
+
+/// Whether a board is another one with a stone on a point, and without the stones from a first to a
+/// last point.
+fn is_with(
+    board: &Board,
+    before: &Board,
+    shape: Shape,
+    stone: (u16, Cell),
+    gone: (u16, u16),
+) -> bool
+    requires board { board.now.shape ≡ shape }
+    requires before { before.now.shape ≡ shape }
+{
+    for number in 0..shape.count() {
+        let old = before.cell(number);
+        let new = if number == stone.0 {
+            stone.1
+        } else if gone.0 <= number && number <= gone.1 {
+            Cell::Empty
+        } else {
+            old
+        };
+        if board.cell(number) != new {
+            return false;
+        }
+    }
+    true
+}
+
+/// Whether these are, by point ascending, a stone put on an empty point, and stones of the other
+/// side taken from each point of a range.
+fn are_captures(
+    changes: &[Change],
+    point: u16,
+    stone: Cell,
+    other: Cell,
+    gone: (u16, u16),
+) -> bool {
+    let mut from = 0;
+    for change in changes {
+        let is_played = change.point == point && change.old == Cell::Empty && change.new == stone;
+        let is_gone = gone.0 <= change.point
+            && change.point <= gone.1
+            && change.old == other
+            && change.new == Cell::Empty;
+        if change.point < from || !(is_played || is_gone) {
+            return false;
+        }
+        from = change.point.saturating_add(1);
+    }
+    changes.len() == usize::from(gone.1.saturating_sub(gone.0)) + 2
+}
+
+fn check_large(rt: &impl Abort, case: &LargeCase) {
+    let (cols, rows, rects, side, x, y, first, last) = *case;
+    let Some(shape) = Shape::new(cols, rows) else {
+        panic!(rt; "no shape");
+    };
+    let before = laid(shape, rects);
+    let mut board = laid(shape, rects);
+    let mut changes = ChangeList::new();
+    assert!(rt; x < shape.cols() && y < shape.rows(), "off the board");
+    let point = shape.number(Point { x, y });
+    let stone = stone_of(side);
+    play_one(&mut board, &mut changes, side, Some(Point { x, y }));
+    assert!(rt;
+        is_with(&board, &before, shape, (point, stone), (first, last)),
+        "{cols}, {first}"
+    );
+    let other = stone_of(other_side(side));
+    assert!(rt;
+        are_captures(changes.as_slice(), point, stone, other, (first, last)),
+        "changes on {cols}, {first}"
+    );
+    board.undo(changes.as_slice());
+    assert!(rt;
+        is_with(&board, &before, shape, (65535, stone), (1, 0)),
+        "undone {cols}, {first}"
+    );
+}
+
+#[test]
+fn the_greatest_boards(rt: HostRuntime) {
+    let (b, w) = (Cell::Black, Cell::White);
+    let cases = [
+        // a stone in the last corner, whose number is 2,703
+        (
+            52,
+            52,
+            [(w, 51, 51, 51, 51), (b, 50, 51, 50, 51)],
+            Colour::Black,
+            51,
+            50,
+            2703,
+            2703,
+        ),
+        // a group of 52 stones along the last row, whose first number is 2,652
+        (
+            52,
+            52,
+            [(w, 0, 51, 51, 51), (b, 0, 50, 50, 50)],
+            Colour::Black,
+            51,
+            50,
+            2652,
+            2703,
+        ),
+        // all of the board but its last point
+        (
+            52,
+            52,
+            [(b, 0, 0, 51, 50), (b, 0, 51, 50, 51)],
+            Colour::White,
+            51,
+            51,
+            0,
+            2702,
+        ),
+        // one row, and one column
+        (
+            52,
+            1,
+            [(w, 0, 0, 50, 0), (w, 0, 0, 0, 0)],
+            Colour::Black,
+            51,
+            0,
+            0,
+            50,
+        ),
+        (
+            1,
+            52,
+            [(b, 0, 1, 0, 51), (b, 0, 51, 0, 51)],
+            Colour::White,
+            0,
+            0,
+            1,
+            51,
+        ),
+    ];
+    for case in &cases {
+        check_large(&rt, case);
     }
 }

@@ -7,8 +7,8 @@ use crate::board::ROOM;
 use kb_bits::BitBoard;
 use kb_geometry::Cell;
 
-/// The points whose cells aren't those of an earlier position, and the cells that these had there. What stands for other
-/// points means nothing, so that a clear costs little.
+/// The points whose cells aren't those of an earlier position, and the cells that these had there.
+/// What stands for other points means nothing, so that a clear costs little.
 #[derive(Drop)]
 pub(crate) struct ChangedPoints {
     pub(crate) points: BitBoard,
@@ -30,11 +30,11 @@ impl ChangedPoints {
     pub fn clear(&mut self)
         ensures { self.new.points ≡ [] }
     {
-        self.points = BitBoard::empty();
+        self.points.clear();
     }
 
-    /// Notes that the cell of a point becomes another one. A point that gets back the cell of the earlier position has
-    /// not changed.
+    /// Notes that the cell of a point becomes another one. A point that gets back the cell of the
+    /// earlier position has not changed.
     pub fn note(&mut self, point: u16, old: Cell, new: Cell)
         requires in_room { point < ROOM }
         requires another { old ≢ new }

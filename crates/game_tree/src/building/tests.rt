@@ -1,6 +1,6 @@
 use super::{BuildError, build};
 use crate::tests::{Row, expect_nodes, setup, stone};
-use crate::{GameTree, Setup};
+use crate::{GameTree, Move, Setup};
 use kb_geometry::{Cell, Colour, Outcome};
 use sgf_reader::{FaultKind, SgfFault, read};
 use std::alloc::Global;
@@ -23,7 +23,7 @@ fn last_tree(rt: &impl Abort, alloc: Global, text: &str) -> Result<GameTree, Fai
 }
 
 // Each with the kind and the offset of its first fault.
-const FAULTS: [(&str, FaultKind, u32); 41] = [
+const FAULTS: [(&str, FaultKind, u32); 46] = [
     ("(;GM[2])", FaultKind::NotGo, 4),
     ("(;GM[\\1])", FaultKind::NotGo, 4),
     ("(;GM[01])", FaultKind::NotGo, 4),
@@ -31,14 +31,19 @@ const FAULTS: [(&str, FaultKind, u32); 41] = [
     ("(;GaMe[2])", FaultKind::NotGo, 6),
     ("(;GM[2][1])", FaultKind::NotGo, 4),
     ("(;GM[ 1 ])( ;GM[3])", FaultKind::NotGo, 15),
-    ("(;SZ[20])", FaultKind::BadSize, 4),
+    ("(;SZ[53])", FaultKind::BadSize, 4),
+    ("(;SZ[52:53])", FaultKind::BadSize, 4),
     ("(;SZ[19:])", FaultKind::BadSize, 4),
-    ("(;SZ[20][5])", FaultKind::BadSize, 4),
+    ("(;SZ[53][5])", FaultKind::BadSize, 4),
     ("(;SZ[5])(;SZ[0])", FaultKind::BadSize, 12),
     ("(;SZ[9];B[jj])", FaultKind::BadPoint, 9),
     ("(;SZ[9:5];B[ei])", FaultKind::BadPoint, 11),
     ("(;B[a\\a])", FaultKind::BadPoint, 3),
     ("(;AB[tt])", FaultKind::BadPoint, 4),
+    ("(;SZ[19:20];B[tt])", FaultKind::BadPoint, 13),
+    ("(;SZ[20:19];W[tt])", FaultKind::BadPoint, 13),
+    ("(;SZ[19:20]AB[aa:tt])", FaultKind::BadPoint, 13),
+    ("(;SZ[51];B[ZZ])", FaultKind::BadPoint, 10),
     ("(;SZ[5]AW[tt])", FaultKind::BadPoint, 9),
     ("(;AE[aa: bb])", FaultKind::BadPoint, 4),
     ("(;AddBlack[aa][zz])", FaultKind::BadPoint, 14),
@@ -81,7 +86,7 @@ fn first_faults(rt: HostRuntime) {
 }
 
 // Each with the number of its trees: no value is at fault.
-const FAULTLESS: [(&str, usize); 12] = [
+const FAULTLESS: [(&str, usize); 16] = [
     ("(;)", 1),
     ("(;)(;)(;)", 3),
     ("(;GM[]SZ[])", 1),
@@ -94,6 +99,10 @@ const FAULTLESS: [(&str, usize); 12] = [
     ("(;KO[]LB[zz:1]TR[zz]MN[x])", 1),
     ("(;B[ss])(;SZ[5]B[tt])", 2),
     ("(;SZ[1:19]AB[as:aa])", 1),
+    ("(;SZ[20])", 1),
+    ("(;SZ[20]AB[tt])", 1),
+    ("(;SZ[52];B[ZZ];W[tt])", 1),
+    ("(;SZ[52:1]AE[Za:aa])", 1),
 ];
 
 #[test]
@@ -108,7 +117,7 @@ fn texts_without_a_fault(rt: HostRuntime) {
 }
 
 // Each with the columns and rows of its last game.
-const BOARDS: [(&str, u8, u8); 11] = [
+const BOARDS: [(&str, u8, u8); 15] = [
     ("(;)", 19, 19),
     ("(;SZ[])", 19, 19),
     ("(;SZ[ \n])", 19, 19),
@@ -120,6 +129,10 @@ const BOARDS: [(&str, u8, u8); 11] = [
     ("(;SZ[5]SZ[0])", 5, 5),
     ("(;C[x];SZ[5])", 19, 19),
     ("(;SiZe[3])(;SZ[2])", 2, 2),
+    ("(;SZ[20])", 20, 20),
+    ("(;SZ[20:19])", 20, 19),
+    ("(;SZ[52])", 52, 52),
+    ("(;SZ[52:1])", 52, 1),
 ];
 
 #[test]
@@ -238,6 +251,29 @@ fn a_text_with_variations(rt: HostRuntime) -> Result<(), Fail> {
         (None, Some(3), [None; 3], 2, true),
         (Some(4), None, [Some(4), None, None], 2, false),
         (None, None, [None; 3], 2, false),
+    ];
+    expect_nodes(&rt, &tree, &rows, &places);
+    Ok(())
+}
+
+#[test]
+fn nodes_of_a_game_on_a_large_board(rt: HostRuntime) -> Result<(), Fail> {
+    let tree = last_tree(&rt, rt.alloc(), "(;SZ[52];B[ZZ];W[tt];B[])")?;
+    let pass = Move {
+        colour: Colour::Black,
+        point: None,
+    };
+    let rows: [Row; 4] = [
+        (None, None, [None; 2]),
+        (Some(0), stone(Colour::Black, 51, 51), [None; 2]),
+        (Some(1), stone(Colour::White, 19, 19), [None; 2]),
+        (Some(2), Some(pass), [None; 2]),
+    ];
+    let places = [
+        (Some(1), None, [Some(1), None, None], 0, true),
+        (Some(2), None, [Some(2), None, None], 1, true),
+        (Some(3), None, [Some(3), None, None], 2, true),
+        (None, None, [None; 3], 3, true),
     ];
     expect_nodes(&rt, &tree, &rows, &places);
     Ok(())

@@ -22,15 +22,20 @@ fn white_space_at_either_end(rt: HostRuntime) {
     }
 }
 
-// Each with its number, or 20 where it is greater than 19.
-const NUMBERS: [(&str, Option<u8>); 9] = [
+// Each with its number, or 53 where it is greater than 52.
+const NUMBERS: [(&str, Option<u8>); 14] = [
     ("7", Some(7)),
     ("19", Some(19)),
     ("0", Some(0)),
     ("20", Some(20)),
+    ("52", Some(52)),
+    ("53", Some(53)),
+    ("54", Some(53)),
+    ("520", Some(53)),
     ("000000000000000000000000000007", Some(7)),
-    ("18446744073709551623", Some(20)),
-    ("256", Some(20)),
+    ("18446744073709551623", Some(53)),
+    ("256", Some(53)),
+    ("308", Some(53)),
     ("1x", None),
     ("-1", None),
 ];
@@ -43,7 +48,7 @@ fn numbers(rt: HostRuntime) {
 }
 
 // Each with its columns and rows, if it is a size.
-const SIZES: [(&str, Option<(u8, u8)>); 26] = [
+const SIZES: [(&str, Option<(u8, u8)>); 32] = [
     ("9", Some((9, 9))),
     ("1", Some((1, 1))),
     ("19", Some((19, 19))),
@@ -55,12 +60,18 @@ const SIZES: [(&str, Option<(u8, u8)>); 26] = [
     ("\n9:13\r\n", Some((9, 13))),
     ("019", Some((19, 19))),
     ("007:05", Some((7, 5))),
+    ("20", Some((20, 20))),
+    ("20:19", Some((20, 19))),
+    ("19:20", Some((19, 20))),
+    ("52", Some((52, 52))),
+    ("52:1", Some((52, 1))),
+    ("1:52", Some((1, 52))),
     ("0", None),
-    ("20", None),
+    ("53", None),
     ("0:9", None),
     ("9:0", None),
-    ("9:20", None),
-    ("20:9", None),
+    ("9:53", None),
+    ("53:9", None),
     ("19:", None),
     (":19", None),
     (":", None),
@@ -133,6 +144,30 @@ const MOVES_ON_9_BY_5: [(&str, Play); 8] = [
     ("aa:aa", Play::Bad),
 ];
 
+// Each with what it is on a board of 52 by 52.
+const MOVES_ON_52: [(&str, Play); 9] = [
+    ("za", Play::At(25, 0)),
+    ("Aa", Play::At(26, 0)),
+    ("aA", Play::At(0, 26)),
+    ("ZZ", Play::At(51, 51)),
+    ("tt", Play::At(19, 19)),
+    (" tt ", Play::At(19, 19)),
+    ("TT", Play::At(45, 45)),
+    ("", Play::Pass),
+    ("[[", Play::Bad),
+];
+
+// Each with the columns and rows of a board, and what `tt` is there as a move.
+const MOVES_TT: [(u8, u8, Play); 7] = [
+    (19, 19, Play::Pass),
+    (1, 19, Play::Pass),
+    (19, 20, Play::Bad),
+    (20, 19, Play::Bad),
+    (1, 52, Play::Bad),
+    (20, 20, Play::At(19, 19)),
+    (52, 20, Play::At(19, 19)),
+];
+
 #[test]
 fn moves(rt: HostRuntime) {
     let standard = Shape::standard();
@@ -142,6 +177,18 @@ fn moves(rt: HostRuntime) {
     let small = board(&rt, 9, 5);
     for (value, play) in MOVES_ON_9_BY_5 {
         assert_eq!(rt; play_of(small, value), play, "{value}");
+    }
+    let large = board(&rt, 52, 52);
+    for (value, play) in MOVES_ON_52 {
+        assert_eq!(rt; play_of(large, value), play, "{value}");
+    }
+}
+
+#[test]
+fn moves_by_two_letters_t(rt: HostRuntime) {
+    for (cols, rows, play) in MOVES_TT {
+        let shape = board(&rt, cols, rows);
+        assert_eq!(rt; play_of(shape, "tt"), play, "{cols} by {rows}");
     }
 }
 
@@ -192,5 +239,26 @@ fn setups(rt: HostRuntime) {
     let shape = board(&rt, 9, 5);
     for (value, area) in SETUPS {
         assert_eq!(rt; area_of(shape, value), area, "{value}");
+    }
+}
+
+// Each with the columns and rows of a board, and what it is there.
+const LARGE_SETUPS: [(u8, u8, &str, Area); 9] = [
+    (19, 19, "tt", Area::Bad),
+    (19, 19, "aa:tt", Area::Bad),
+    (20, 19, "tt", Area::Bad),
+    (19, 20, "tt:aa", Area::Bad),
+    (20, 20, "tt", Area::Corners(19, 19, 19, 19)),
+    (20, 20, "tt:sa", Area::Corners(18, 0, 19, 19)),
+    (52, 52, "aa:ZZ", Area::Corners(0, 0, 51, 51)),
+    (52, 52, "Zt:tZ", Area::Corners(19, 19, 51, 51)),
+    (51, 52, "aa:ZZ", Area::Bad),
+];
+
+#[test]
+fn setups_on_large_boards(rt: HostRuntime) {
+    for (cols, rows, value, area) in LARGE_SETUPS {
+        let shape = board(&rt, cols, rows);
+        assert_eq!(rt; area_of(shape, value), area, "{value} {cols} {rows}");
     }
 }

@@ -13,8 +13,9 @@ use std::process::Abort;
 use std::sync::ledger::Ledger;
 use std::test::Fail;
 
-// A node: its parent, and what is done there, as `Bcd` for a black move on the point cd, and `bcd`, `wcd` and `ecd` for a
-// setup of a black stone, of a white one and of an empty point. The letters tell column and row, as in SGF.
+// A node: its parent, and what is done there, as `Bcd` for a black move on the point cd, and `bcd`,
+// `wcd` and `ecd` for a setup of a black stone, of a white one and of an empty point. The letters
+// tell column and row, as in SGF.
 pub(super) type Row = (Option<u32>, &'static str);
 
 // The game with these nodes.
@@ -47,7 +48,8 @@ pub(super) fn add_node<L: Ledger>(
     requires stands { StandsIn deltas.old walker.old }
     requires last { walker.old.here ≡ node_before (node_count deltas.old) }
     ensures stands { IfOk result (λ done. IsTrue done → StandsIn deltas.new walker.new) }
-    ensures last { IfOk result (λ done. IsTrue done → walker.new.here ≡ node_before (node_count deltas.new)) }
+    ensures last { IfOk result (λ done. IsTrue done
+        → walker.new.here ≡ node_before (node_count deltas.new)) }
 {
     let count = deltas.node_count();
     if count == 65536 || !go_to_parent(deltas, walker, parent) {
@@ -89,6 +91,26 @@ fn board_of(walker: &Walker, shape: Shape) -> Board
     board
 }
 
+// The letter of a column or a row, as in SGF.
+pub(super) fn letter_of(side: u8) -> char
+    requires { side < 52 }
+{
+    if side < 26 {
+        char::from(b'a' + side)
+    } else {
+        char::from(b'A' + (side - 26))
+    }
+}
+
+// The column or the row of a letter; past the greatest board for any other byte.
+fn side_of(letter: u8) -> u8 {
+    match letter {
+        b'a'..=b'z' => letter - b'a',
+        b'A'..=b'Z' => letter - b'A' + 26,
+        _ => 255,
+    }
+}
+
 fn take_step(board: &mut Board, shape: Shape, changes: &mut ChangeList, step: &[u8])
     requires shape { board.old.shape ≡ shape }
     requires leads { (base : Position) × LeadFrom base changes.old board.old.position }
@@ -98,12 +120,9 @@ fn take_step(board: &mut Board, shape: Shape, changes: &mut ChangeList, step: &[
     let [kind, x, y] = step else {
         return;
     };
-    if *x < b'a' || *y < b'a' {
-        return;
-    }
     let p = Point {
-        x: *x - b'a',
-        y: *y - b'a',
+        x: side_of(*x),
+        y: side_of(*y),
     };
     if p.x >= shape.cols() || p.y >= shape.rows() {
         return;
@@ -133,7 +152,8 @@ fn put(board: &mut Board, shape: Shape, changes: &mut ChangeList, cell: Cell, p:
     board.set(cell, rect, changes);
 }
 
-// Goes from the last node back to the parent that the next node is to have; false if it can't have it.
+// Goes from the last node back to the parent that the next node is to have; false if it can't have
+// it.
 fn go_to_parent(deltas: &NodeDeltas, walker: &mut Walker, parent: Option<u32>) -> bool
     requires stands { StandsIn deltas.now walker.old }
     requires last { walker.old.here ≡ node_before (node_count deltas.now) }

@@ -2,7 +2,7 @@
 ghost use Rattle.std.specs.Prelude.{◌≡◌, ◌<◌};
 ghost use Rattle.capture_board.specs.Deltas.{node_count};
 
-use super::games::add_node;
+use super::games::{add_node, letter_of};
 use super::plain::found_plainly;
 use crate::match_game;
 use capture_board::{NodeDeltas, Steps, Walker};
@@ -45,12 +45,7 @@ fn next_step(alloc: Global, shape: Shape, numbers: &mut Numbers) -> Result<Strin
     let x = numbers.below(u32::from(shape.cols())) as u8;
     let y = numbers.below(u32::from(shape.rows())) as u8;
     let mut text = String::new(alloc);
-    write!(
-        text,
-        "{kind}{}{}",
-        char::from(b'a' + x),
-        char::from(b'a' + y)
-    )?;
+    write!(text, "{kind}{}{}", letter_of(x), letter_of(y))?;
     Ok(text)
 }
 
@@ -90,7 +85,8 @@ fn made_game<L: Ledger>(
     Ok(deltas)
 }
 
-// The cells of a rectangle in the position at the last node, every fifth one as a wildcard.
+// The cells of a rectangle in the position at the last node, with wildcards and half wildcards that
+// allow them.
 fn cut<L: Ledger>(
     rt: &impl Abort,
     alloc: Global,
@@ -108,22 +104,36 @@ fn cut<L: Ledger>(
     for y in rect.y0..rect.y1 + 1 {
         for x in rect.x0..rect.x1 + 1 {
             let cell = walker.cell(deltas.shape().number(Point { x, y }));
-            let wild = cells.len() % 5 == 4;
-            cells.push(pattern_cell(cell, wild))?;
+            cells.push(pattern_cell(cell, cells.len()))?;
         }
     }
     let pattern = Pattern::new(rect.x1 - rect.x0 + 1, rect.y1 - rect.y0 + 1, cells);
     Ok(pattern.expect(rt, "a pattern"))
 }
 
-fn pattern_cell(cell: Cell, wild: bool) -> PatternCell {
-    if wild {
+// The pattern's cell with this number, which allows the board's cell: every fifth one a wildcard,
+// every third one of the others a half wildcard.
+fn pattern_cell(cell: Cell, number: usize) -> PatternCell {
+    if number % 5 == 4 {
         return PatternCell::Any;
+    }
+    if number % 3 == 0 {
+        return half_wildcard(cell, number % 2 == 0);
     }
     match cell {
         Cell::Empty => PatternCell::Empty,
         Cell::Black => PatternCell::Black,
         Cell::White => PatternCell::White,
+    }
+}
+
+// A half wildcard that allows the cell, of this kind where none stands.
+fn half_wildcard(cell: Cell, not_white: bool) -> PatternCell {
+    match cell {
+        Cell::Black => PatternCell::NotWhite,
+        Cell::White => PatternCell::NotBlack,
+        Cell::Empty if not_white => PatternCell::NotWhite,
+        Cell::Empty => PatternCell::NotBlack,
     }
 }
 
@@ -158,8 +168,8 @@ fn expect_same<L: Ledger>(
 fn expect_game<L: Ledger>(
     rt: &impl Abort,
     alloc: Global,
-    cols: u8,
-    rows: u8,
+    board: (u8, u8),
+    nodes: u32,
     cuts: &[(u8, u8, u8, u8)],
     blank: Blank,
 ) -> Result<(), Fail>
@@ -167,9 +177,9 @@ fn expect_game<L: Ledger>(
     requires parts { blank.parts ≡ L.parts }
     requires some { 0 < blank.parts }
 {
-    let shape = Shape::new(cols, rows).expect(rt, "a board");
+    let shape = Shape::new(board.0, board.1).expect(rt, "a board");
     let mut steps = Steps::<L>::new(blank);
-    let deltas = made_game(rt, alloc, shape, 60, &mut steps)?;
+    let deltas = made_game(rt, alloc, shape, nodes, &mut steps)?;
     for (x0, y0, x1, y1) in cuts {
         let rect = Rect {
             x0: *x0,
@@ -201,24 +211,32 @@ fn a_square_board(rt: HostRuntime) -> Result<(), Fail> {
         (0, 0, 4, 4),
         (0, 4, 4, 4),
     ];
-    expect_game::<Brand>(&rt, rt.alloc(), 5, 5, &cuts, Blank::new(1))
+    expect_game::<Brand>(&rt, rt.alloc(), (5, 5), 60, &cuts, Blank::new(1))
 }
 
 #[test]
 fn boards_that_are_not_square(rt: HostRuntime) -> Result<(), Fail> {
     let wide = [(0, 0, 6, 3), (6, 3, 6, 3), (2, 0, 4, 2), (0, 1, 6, 1)];
-    expect_game::<Brand>(&rt, rt.alloc(), 7, 4, &wide, Blank::new(1))?;
+    expect_game::<Brand>(&rt, rt.alloc(), (7, 4), 60, &wide, Blank::new(1))?;
     let line = [(0, 0, 0, 8), (0, 3, 0, 5)];
-    expect_game::<Brand>(&rt, rt.alloc(), 1, 9, &line, Blank::new(1))
+    expect_game::<Brand>(&rt, rt.alloc(), (1, 9), 60, &line, Blank::new(1))?;
+    let long = [(0, 0, 51, 0), (49, 0, 51, 0)];
+    expect_game::<Brand>(&rt, rt.alloc(), (52, 1), 60, &long, Blank::new(1))
 }
 
 #[test]
-fn the_greatest_board(rt: HostRuntime) -> Result<(), Fail> {
+fn the_standard_board(rt: HostRuntime) -> Result<(), Fail> {
     let cuts = [
         (0, 0, 5, 5),
         (8, 8, 10, 10),
         (0, 0, 18, 18),
         (18, 0, 18, 18),
     ];
-    expect_game::<Brand>(&rt, rt.alloc(), 19, 19, &cuts, Blank::new(1))
+    expect_game::<Brand>(&rt, rt.alloc(), (19, 19), 60, &cuts, Blank::new(1))
+}
+
+#[test]
+fn the_greatest_board(rt: HostRuntime) -> Result<(), Fail> {
+    let cuts = [(0, 0, 51, 3), (46, 0, 51, 51), (0, 0, 51, 51)];
+    expect_game::<Brand>(&rt, rt.alloc(), (52, 52), 20, &cuts, Blank::new(1))
 }

@@ -71,6 +71,8 @@ fn allows(cell: PatternCell, on_board: Cell) -> bool {
         PatternCell::Empty => on_board == Cell::Empty,
         PatternCell::Black => on_board == Cell::Black,
         PatternCell::White => on_board == Cell::White,
+        PatternCell::NotWhite => on_board != Cell::White,
+        PatternCell::NotBlack => on_board != Cell::Black,
     }
 }
 

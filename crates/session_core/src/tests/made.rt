@@ -2,7 +2,7 @@
 ghost use Rattle.std.specs.Prelude.{All, IfOk, OnOk};
 ghost use Rattle.session_core.specs.Games.{HasItsChanges};
 
-use crate::{MAX_GAMES, Session, Stored};
+use crate::{MAX_BASE_GAMES, Session, Stored};
 use game_tree::{GameTree, build};
 use kb_geometry::{Rect, Shape};
 use node_position::deltas;
@@ -106,7 +106,7 @@ pub(crate) fn search_text(
 ) -> Result<String, Fail> {
     let query = query_of(alloc, asked)?;
     let games = games_of(alloc, files)?;
-    assert!(rt; games.len() <= MAX_GAMES as usize);
+    assert!(rt; games.len() <= MAX_BASE_GAMES as usize);
     let mut out = Vec::new(alloc);
     let statement = Statement::Search { query };
     Session::new().answer(alloc, LINE, &statement, VERSION, &games, &mut out)?;
@@ -121,7 +121,7 @@ pub(crate) fn game_text(
     number: u32,
 ) -> Result<String, Fail> {
     let games = games_of(alloc, files)?;
-    assert!(rt; games.len() <= MAX_GAMES as usize);
+    assert!(rt; games.len() <= MAX_BASE_GAMES as usize);
     let mut out = Vec::new(alloc);
     let statement = Statement::Game { number };
     Session::new().answer(alloc, LINE, &statement, VERSION, &games, &mut out)?;
@@ -138,7 +138,7 @@ pub(crate) fn two_texts(
 ) -> Result<String, Fail> {
     let query = query_of(alloc, asked)?;
     let games = games_of(alloc, files)?;
-    assert!(rt; games.len() <= MAX_GAMES as usize);
+    assert!(rt; games.len() <= MAX_BASE_GAMES as usize);
     let mut out = Vec::new(alloc);
     let mut session = Session::new();
     let statement = Statement::Game { number };

@@ -26,7 +26,7 @@ pub returns-then-not-still_holds-clause-none : goal.returns-then-not-still_holds
 returns-then-not-still_holds-clause-none c =
     let placement = placement_at c.args.images.now.placements c.args.i in
     let holds = IsWayDown-holds c.args.tree.now c.args.deltas.now placement c.args.node c.loop-child.here c.loop-child.now c.loop-child.invariant.way in
-    let parent = c.requires.deltas.2.parents c.in-Some.child c.in-Some.ensures.in_range.1 ∙ c.in-Some.ensures.child in
+    let parent = c.requires.deltas.lead.parents c.in-Some.child c.in-Some.ensures.in_range.1 ∙ c.in-Some.ensures.child in
     no_continuation-lost c.args.tree.now c.args.deltas.now placement c.args.node c.loop-child.here c.loop-child.now c.loop-child.invariant.way
     c.in-Some.child (sym c.in-Some.ensures.value) (c.in_default-move_inside.ensures.none placement c.place-place.ensures.value)
     (λ still. let no : false ≡ true = sym c.if-not-still_holds.true ∙ (c.still_holds.ensures c.loop-child.here parent holds).1 still in absurd cc)
@@ -35,7 +35,7 @@ pub loop-child-preserved-then-now : goal.loop-child-preserved-then-now
 loop-child-preserved-then-now c =
     let placement = placement_at c.args.images.now.placements c.args.i in
     let holds = IsWayDown-holds c.args.tree.now c.args.deltas.now placement c.args.node c.loop-child.here c.loop-child.now c.loop-child.invariant.way in
-    let parent = c.requires.deltas.2.parents c.in-Some.child c.in-Some.ensures.in_range.1 ∙ c.in-Some.ensures.child in
+    let parent = c.requires.deltas.lead.parents c.in-Some.child c.in-Some.ensures.in_range.1 ∙ c.in-Some.ensures.child in
     record {
       in_range = c.in-Some.ensures.in_range.1;
       way = IsWayDown-more c.args.tree.now c.args.deltas.now placement c.args.node c.loop-child.here c.loop-child.now c.loop-child.invariant.way
@@ -49,7 +49,7 @@ pub loop-child-preserved : goal.loop-child-preserved
 loop-child-preserved c =
     let placement = placement_at c.args.images.now.placements c.args.i in
     let holds = IsWayDown-holds c.args.tree.now c.args.deltas.now placement c.args.node c.loop-child.here c.loop-child.now c.loop-child.invariant.way in
-    let parent = c.requires.deltas.2.parents c.in-Some.child c.in-Some.ensures.in_range.1 ∙ c.in-Some.ensures.child in
+    let parent = c.requires.deltas.lead.parents c.in-Some.child c.in-Some.ensures.in_range.1 ∙ c.in-Some.ensures.child in
     record {
       in_range = c.in-Some.ensures.in_range.1;
       way = IsWayDown-more c.args.tree.now c.args.deltas.now placement c.args.node c.loop-child.here c.loop-child.now c.loop-child.invariant.way

@@ -13,4 +13,4 @@ returns-in-Some-clause-ok c = size _ (rw c.bytes_of.ensures at c.trimmed-value.e
 
 pub returns-in-None-clause-fault : goal.returns-in-None-clause-fault
 returns-in-None-clause-fault c =
-    bad_size c.args.text.now c.args.pair _ _ (rw c.bytes_of.ensures at c.trimmed-value.ensures) (not_empty _ c.if-is_empty.ensures) (c.in-None.ensures.none refl) c.fault_of.ensures
+    bad_size c.args.text.now c.args.pair _ _ (rw c.bytes_of.ensures at c.trimmed-value.ensures) (not_empty _ c.if-is_empty.ensures) (c.in-None.ensures.none refl) c.fault_at.ensures

@@ -9,4 +9,4 @@ pub returns-then-is_go : goal.returns-then-is_go
 returns-then-is_go c = same_game_value _ _ _ (sym c.in_ok-pair.ensures.value) (c.if-is_go.ensures.go refl)
 
 pub returns-else-is_go : goal.returns-else-is_go
-returns-else-is_go c = other_game_value _ _ _ _ (sym c.in_ok-pair.ensures.value) (c.if-is_go.ensures.other not_true) c.fault_of.ensures
+returns-else-is_go c = other_game_value _ _ _ _ (sym c.in_ok-pair.ensures.value) (c.if-is_go.ensures.other not_true) c.fault_at.ensures

@@ -1,5 +1,5 @@
 -- The row at hand stands at the start that the loop keeps.
-use Rattle.std.proofs.Common.{◌+◌, ◌*◌, ℕ, slice_index_or, below_more, refl, sym, subst, arith}
+use Rattle.std.proofs.Common.{ℕ, slice_index_or, below_more, refl, sym, subst, arith}
 use Rattle.std.proofs.lemmas.Bool.{false≢true}
 use Rattle.line_matcher.specs.Masks.{FitsRow, no_mask}
 use Rattle.line_matcher.proofs.mask.rows_fit.Goals as goal

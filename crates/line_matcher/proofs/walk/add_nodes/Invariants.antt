@@ -1,5 +1,6 @@
 use Rattle.std.proofs.Common.{◌≡◌, ◌+◌}
 use Rattle.capture_board.specs.Walking.{StandsIn, node_before}
+use Rattle.line_matcher.specs.Concerned.{no_points}
 use Rattle.line_matcher.specs.Nodes.{IsFoundTo}
 use Rattle.line_matcher.proofs.walk.add_nodes.Given as goal
 
@@ -10,4 +11,5 @@ invariant-loop-node g l = record {
   stands : StandsIn l.deltas l.walker;
   here : l.walker.here ≡ node_before l.node;
   steps : l.steps ≡ l.initial.steps + l.node;
+  none : l.points ≡ no_points;
 }

@@ -9,9 +9,9 @@ use Rattle.query_script.proofs.progress.end_block.Goals as goal
 pub returns-then-is_empty-clause-bad_line : goal.returns-then-is_empty-clause-bad_line
 returns-then-is_empty-clause-bad_line c = λ k is lines h at.
     let none : length c.args.block.searches.items ≡ 0 = grind (arith, nat_tests) in
-    subst (IsLeastBadLine lines) (same_bad_line is) (end_too_early lines c.args.number c.args.placed.now.items c.args.block h (nil_from_length c.args.block.searches.items none) at)
+    subst (IsLeastBadLine lines) (same_bad_line is) (end_too_early lines c.args.number c.args.placed.now.items c.args.block.line c.args.block.searches.items h (nil_from_length c.args.block.searches.items none) at)
 
 pub returns-clause-read : goal.returns-clause-read
 returns-clause-read c = λ lines h at.
     let some : 1 ≤ length c.args.block.searches.items = grind (arith, nat_tests) in
-    rw (c.in_ok-push.ensures.items, c.new.ensures) (end_inside lines c.args.number c.args.placed.now.items c.args.block h some at)
+    rw (c.in_ok-push.ensures.items, c.new.ensures) (end_inside lines c.args.number c.args.placed.now.items c.args.block.line c.args.block.searches.items h some at)

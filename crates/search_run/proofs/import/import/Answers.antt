@@ -1,8 +1,7 @@
 use Rattle.std.proofs.Common.{◌≡◌, ◌<◌, ◌≤◌, ◌∙◌, Err, ap, arith, inr, length, map, refl, sym}
 use Rattle.std.specs.Prelude.{string_bytes}
 use Rattle.std.proofs.lemmas.List.{length-map}
-use Rattle.search_run.specs.Course.{nothing_lost}
-use Rattle.search_run.specs.declared.import.TheConstants.{MAX_NAMES}
+use Rattle.search_run.specs.Course.{TooMany, Unlisted, nothing_lost}
 use Rattle.search_run.proofs.ImportLemmas.{AreNames-from_listing, AreNames-there, IsImported-read, no_more_names, unlisted_by}
 use Rattle.search_run.proofs.import.import.Goals as goal
 
@@ -14,15 +13,29 @@ pub returns-in-Err-Missing-clause-found : goal.returns-in-Err-Missing-clause-fou
 returns-in-Err-Missing-clause-found g c = λ files told.
     let none = c.in-Err-Missing.ensures.missing (ap Err c.in-Err-Missing.field-0-is) files told in
     let later = c.list.ensures.later in
-    (nothing_lost, (inr (refl, none), refl), omega (arith, later))
+    (nothing_lost, Unlisted, refl, (inr (refl, none), refl), omega (arith, later))
 
 pub returns-then-are_too_many-clause-found : goal.returns-then-are_too_many-clause-found
 returns-then-are_too_many-clause-found g c = λ files told.
     let later = c.list.ensures.later in
     let are = AreNames-from_listing files _ _ _ (c.in-Ok.ensures.listing files told) c.sort_names.ensures.kept c.sort_names.ensures.none_added c.sort_names.ensures.ascending in
     let counted : c.len-listed.result ≡ length c.sort_names.new.names.items = omega arith in
-    let many : MAX_NAMES < c.len-listed.result = omega (arith, (rw c.deref.ensures.value at (c.are_too_many.ensures.0 c.if-are_too_many.true))) in
-    (nothing_lost, (map string_bytes c.sort_names.new.names.items, c.in-Ok.ensures.there files told, are, counted ∙ sym (length-map c.sort_names.new.names.items string_bytes), many, refl), omega (arith, later))
+    let many : 100000 < c.len-listed.result = omega (arith, (rw c.deref.ensures.value at (c.are_too_many.ensures.0 c.if-are_too_many.true))) in (
+      nothing_lost,
+      TooMany c.len-listed.result,
+      refl,
+      (
+        record {
+          names = map string_bytes c.sort_names.new.names.items;
+          path_there = c.in-Ok.ensures.there files told;
+          are_names = are;
+          counted = counted ∙ sym (length-map c.sort_names.new.names.items string_bytes);
+          many = many;
+        },
+        refl,
+      ),
+      omega (arith, later),
+    )
 
 pub returns-clause-found : goal.returns-clause-found
 returns-clause-found g c = λ files told.
@@ -30,5 +43,5 @@ returns-clause-found g c = λ files told.
     let are = AreNames-from_listing files _ _ _ (c.in-Ok.ensures.listing files told) c.sort_names.ensures.kept c.sort_names.ensures.none_added c.sort_names.ensures.ascending in
     let there = AreNames-there files _ _ are in
     let read = c.in_ok-files.ensures.found files (c.list.ensures.same ∙ told) (rw c.deref-2.ensures.value there) in
-    let few : length names ≤ MAX_NAMES = no_more_names c.are_too_many.result names (rw c.deref.ensures.value at c.are_too_many.ensures.1) c.if-are_too_many.false in
-    IsImported-read files c.args.path.now c.args.before names _ _ _ _ _ c.list.ensures.later (c.in-Ok.ensures.there files told) are few (rw c.deref-2.ensures.value at read)
+    let few : length names ≤ 100000 = no_more_names c.are_too_many.result names (rw c.deref.ensures.value at c.are_too_many.ensures.1) c.if-are_too_many.false in
+    IsImported-read files c.args.path.now c.args.before names _ _ _ c.in_ok-files.files c.in_ok-files.games c.list.ensures.later (c.in-Ok.ensures.there files told) are few (rw c.deref-2.ensures.value at read)

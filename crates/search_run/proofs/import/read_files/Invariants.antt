@@ -2,7 +2,8 @@ use Rattle.std.proofs.Common.{◌≡◌, ◌≤◌, map, take, vec_len}
 use Rattle.std.specs.Prelude.{All, string_bytes}
 use Rattle.kb_edges.specs.Files.{HasFile}
 use Rattle.kb_edges.specs.Told.{IfTold}
-use Rattle.search_run.specs.Reads.{HasReadAll, file_reports}
+use Rattle.search_run.specs.Imported.{file_reports}
+use Rattle.search_run.specs.Reads.{HasReadAll}
 use Rattle.search_run.specs.Course.{trees_in}
 use Rattle.search_run.specs.Rooms.{AreAdded}
 use Rattle.search_run.specs.Stores.{HasFewGames}

@@ -2,7 +2,8 @@ use Rattle.std.proofs.Common.{◌≡◌, ◌++◌, ◌∙◌, ap, append-nil, in
 use Rattle.kb_edges.specs.Faults.{Rose}
 use Rattle.session_core.specs.Games.{games_of}
 use Rattle.search_run.specs.Course.{FileReport, games_from}
-use Rattle.search_run.specs.Reads.{IsOneMoreRead, file_reports}
+use Rattle.search_run.specs.Imported.{file_reports}
+use Rattle.search_run.specs.Reads.{IsOneMoreRead}
 use Rattle.search_run.proofs.ImportLemmas.{one_more-not_read, one_more-read, reports_push, rose_there}
 use Rattle.search_run.proofs.RoomLemmas.{HasFewGames-more, cases_unread, few_added, trees_in-games_from, unread_adds_none}
 use Rattle.search_run.proofs.import.read_next.Goals as goal

@@ -1,5 +1,5 @@
 use Rattle.std.proofs.Common.{rules}
-use Rattle.search_run.specs.Reads.{file_report}
+use Rattle.search_run.specs.Imported.{file_report}
 use Rattle.search_run.specs.Texts.{is_accepted}
 use Rattle.search_run.proofs.PrintLemmas.{count_by-map}
 use Rattle.search_run.proofs.print.accepted_count.Goals as goal

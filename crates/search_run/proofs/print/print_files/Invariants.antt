@@ -1,7 +1,7 @@
 use Rattle.std.proofs.Common.{◌≡◌, ◌++◌, take}
 use Rattle.std.specs.Prelude.{string_bytes}
 use Rattle.std.specs.List.{flat_map}
-use Rattle.search_run.specs.Reads.{file_reports}
+use Rattle.search_run.specs.Imported.{file_reports}
 use Rattle.search_run.specs.Texts.{file_text}
 use Rattle.search_run.proofs.print.print_files.Given as goal
 

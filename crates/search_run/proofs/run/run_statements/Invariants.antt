@@ -1,7 +1,6 @@
 use Rattle.std.proofs.Common.{◌≡◌, ◌≤◌, ◌*◌, take}
 use Rattle.kb_edges.specs.Told.{IfTold}
 use Rattle.search_run.specs.Run.{HasRun}
-use Rattle.search_run.specs.declared.import.TheConstants.{MAX_VERSIONS}
 use Rattle.search_run.proofs.run.run_statements.Given as goal
 
 abbrev pub invariant-loop-statement : goal.invariant-loop-statement
@@ -9,6 +8,6 @@ invariant-loop-statement g l = record {
   same : g.F.Folder.files l.folder ≡ g.F.Folder.files l.fn.folder;
   later : g.F.Folder.faults l.fn.folder ≤ g.F.Folder.faults l.folder;
   sink_later : g.K.Sink.faults l.fn.out ≤ g.K.Sink.faults l.out;
-  version : l.standing.version ≤ l.statement-index * MAX_VERSIONS;
+  version : l.standing.version ≤ l.statement-index * 1563;
   run : IfTold (g.F.Folder.files l.fn.folder) (λ files. IfTold (g.K.Sink.written l.fn.out) (λ before. HasRun files (take l.statement-index l.placed) l.standing before (g.K.Sink.written l.out) (g.F.Folder.faults l.fn.folder) (g.F.Folder.faults l.folder)));
 }

@@ -1,11 +1,10 @@
 use Rattle.std.proofs.Common.{◌+◌, arith}
 use Rattle.std.proofs.lemmas.List.{length-take}
-use Rattle.query_script.specs.declared.statement.TheConstants.{MAX_SCRIPT}
 use Rattle.search_run.proofs.ScriptLemmas.{IsCut-all, IsCut-behind, last_allowed}
 use Rattle.search_run.proofs.script.before_cut.Goals as goal
 
 pub slice_bounds-allowed-end : goal.slice_bounds-allowed-end
-slice_bounds-allowed-end c = omega (arith, length-take MAX_SCRIPT c.args.text.now, c.requires)
+slice_bounds-allowed-end c = omega (arith, length-take 1048576 c.args.text.now, c.requires)
 
 pub overflow_add-result : goal.overflow_add-result
 overflow_add-result c =

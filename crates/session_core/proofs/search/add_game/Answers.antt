@@ -10,5 +10,5 @@ returns-then-is_empty c =
 
 pub returns : goal.returns
 returns c =
-    OnOk-then c.add_found.result c.add_found.ensures
-    (AreHitsIn-added c.args.query.now c.args.number c.args.game.now.tree c.args.game.now.deltas c.requires.changes c.args.matcher.now.images.now.placements c.requires.placements c.args.hits.now.items c.add_found.new.hits.items)
+    OnOk-then c.add_hits.result (rw (c.deref.ensures.value, c.in_ok-found.ensures) at c.add_hits.ensures)
+    (AreHitsIn-added c.args.query.now c.args.number c.args.game.now.tree c.args.game.now.deltas c.requires.changes c.args.matcher.now.images.now.placements c.requires.placements c.args.hits.now.items c.add_hits.new.hits.items)

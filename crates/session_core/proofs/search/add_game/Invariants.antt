@@ -1,4 +1,4 @@
 use Rattle.session_core.proofs.search.add_game.Given as goal
 
-abbrev pub ghosts-found_in : goal.ghosts-found_in
-ghosts-found_in a = record { name = a.blank.name; parts = a.blank.parts }
+abbrev pub ghosts-occurrences : goal.ghosts-occurrences
+ghosts-occurrences a = record { name = a.blank.name; parts = a.blank.parts }

@@ -1,4 +1,4 @@
-use Rattle.std.proofs.Common.{ℕ, ◌<◌, ◌↔◌, subst}
+use Rattle.std.proofs.Common.{ℕ, ◌<◌, ◌↔◌, replicate, subst}
 use Rattle.std.proofs.lemmas.List.{take-replicate}
 use Rattle.std.specs.Prelude.{Contains}
 use Rattle.kb_geometry.specs.Board.{point_count}
@@ -13,5 +13,9 @@ returns-clause-position c = take-replicate (point_count c.args.shape) MAX_POINTS
 
 pub invariant_of-result : goal.invariant_of-result
 invariant_of-result c =
-    ArePointsOf-empty (point_count c.args.shape) MAX_POINTS (record { empty = c.below.result; black = c.empty.result; white = c.empty-2.result }) (point_count-le-most c.args.shape)
-    (subst (λ n. (p : ℕ) → Contains c.below.result p ↔ (p < n)) c.count.ensures.value c.below.ensures) c.empty.ensures c.empty-2.ensures
+    let count = point_count c.args.shape in
+    ArePointsOf-empty count (replicate MAX_POINTS cell.Empty)
+    (record { empty = c.below.result; black = c.empty.result; white = c.empty-2.result })
+    (take-replicate count MAX_POINTS cell.Empty (point_count-le-most c.args.shape))
+    (subst (λ n. (p : ℕ) → Contains c.below.result p ↔ (p < n)) c.count.ensures.value c.below.ensures)
+    c.empty.ensures c.empty-2.ensures

@@ -1,7 +1,6 @@
 use Rattle.std.proofs.Common.{sym, ◌∙◌, ap, arith}
 use Rattle.std.proofs.lemmas.Bool.{not-false}
 use Rattle.kb_geometry.specs.Board.{point_count}
-use Rattle.kb_geometry.specs.declared.shape.Shape.{Shape}
 use Rattle.capture_board.proofs.Cells.{same_cell, other_cell}
 use Rattle.capture_board.proofs.HandMade.{AreChangesBelow-next}
 use Rattle.capture_board.proofs.walker.tests.are_changes.Goals as goal

@@ -21,3 +21,9 @@ returns-clause-there c =
     let found = content_of-found c.args.self.now.entries.items _ c.args.path.now c.args.name.now c.first_file.result c.deref.ensures.value c.first_file.ensures in
     let content = found ∙ ap (option_map (λ entry. entry.now.bytes.items)) c.in-Some.is in
     rw content
+
+pub returns-in_err-to_vec-clause-no_memory : goal.returns-in_err-to_vec-clause-no_memory
+returns-in_err-to_vec-clause-no_memory c =
+    let found = content_of-found c.args.self.now.entries.items _ c.args.path.now c.args.name.now c.first_file.result c.deref.ensures.value c.first_file.ensures in
+    let content = found ∙ ap (option_map (λ entry. entry.now.bytes.items)) c.in-Some.is in
+    λ _. rw content

@@ -1,4 +1,4 @@
-use Rattle.std.proofs.Common.{◌+◌, ◌*◌, slice_index}
+use Rattle.std.proofs.Common.{◌*◌, slice_index}
 use Rattle.kb_geometry.specs.Board.{cols_of}
 use Rattle.line_matcher.specs.Visits.{IsFoundAt}
 use Rattle.line_matcher.proofs.matcher.Matcher.add_area.Given as goal

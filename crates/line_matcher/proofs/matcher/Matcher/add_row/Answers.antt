@@ -1,8 +1,8 @@
 -- Left of the area and right of it nothing begins to hold.
-use Rattle.std.proofs.Common.{ℕ, ◌+◌, ◌*◌, ◌<◌, ◌≤◌, ◌∙◌, ◌≡◌, length, slice_index, subst, sym, ap, arith}
+use Rattle.std.proofs.Common.{ℕ, ◌+◌, ◌*◌, ◌<◌, ◌≤◌, ◌∙◌, ◌≡◌, length, slice_index, subst, ap, arith}
 use Rattle.kb_geometry.specs.declared.shape.Shape.{Shape}
 use Rattle.kb_geometry.specs.Board.{cols_of, point_count}
-use Rattle.line_matcher.specs.Begins.{IsAdded, begins}
+use Rattle.line_matcher.specs.Begins.{IsAdded, holds_anew, seen}
 use Rattle.line_matcher.proofs.Areas.{at_point, row_left, row_right, start_le}
 use Rattle.line_matcher.proofs.FoundLists.{IsAdded-trans}
 use Rattle.line_matcher.proofs.matcher.Matcher.add_row.Goals as goal
@@ -35,7 +35,7 @@ pub loop-x-preserved : goal.loop-x-preserved
 loop-x-preserved c =
     let images = c.args.self.now.images.now in
     let starts = c.args.self.now.starts.items in
-    let test = begins images.shape c.args.visit.now.walker.now.position c.args.visit.now.changed in
+    let test = holds_anew images.shape c.args.visit.now.walker.now.position (seen c.args.visit.now.changed) in
     let row_start = c.args.y * cols_of images.shape in
     let p = c.number-first.result in
     let here : p ≡ row_start + c.loop-x.x = c.number-first.ensures.value ∙ ap (λ (s : Shape). c.args.y * cols_of s + c.loop-x.x) c.shape.ensures in
@@ -49,5 +49,5 @@ loop-x-preserved c =
 pub returns : goal.returns
 returns c =
     let images = c.args.self.now.images.now in
-    IsAdded-trans images.placements (begins images.shape c.args.visit.now.walker.now.position c.args.visit.now.changed) c.args.visit.now.node c.loop-x.invariant
+    IsAdded-trans images.placements (holds_anew images.shape c.args.visit.now.walker.now.position (seen c.args.visit.now.changed)) c.args.visit.now.node c.loop-x.invariant
     (row_right images c.len-count.ensures.images.placed c.args.self.now.starts.items c.args.self.now.made.starts_are c.args.visit.now c.args.area c.requires.near c.requires.area c.args.y c.requires.row c.loop-x.x c.loop-x.found.items (omega arith))

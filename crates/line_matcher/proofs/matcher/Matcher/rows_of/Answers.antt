@@ -1,4 +1,4 @@
-use Rattle.pattern_images.specs.ImageList.{no_grid, placement_at}
+use Rattle.pattern_images.specs.ImageList.{placement_at}
 use Rattle.line_matcher.proofs.Beginning.{placement_rows}
 use Rattle.line_matcher.proofs.matcher.Matcher.rows_of.Goals as goal
 

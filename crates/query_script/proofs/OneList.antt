@@ -1,0 +1,137 @@
+-- Lines have one list of statements and one least bad line, and not both.
+use Rattle.std.proofs.Common.{◌≡◌, ◌<◌, ◌∙◌, ℕ, inl, inr, List, [], ◌∷◌, codes, length, get_or, ap, subst, arith}
+use Rattle.std.specs.List.{AllPairs, Any}
+use Rattle.std.specs.Prelude.{Contains}
+use Rattle.std.proofs.lemmas.Bool.{cases_lt}
+use Rattle.std.proofs.lemmas.List.{get_or_default}
+use Rattle.pattern_images.specs.declared.query.Query.{Query}
+use Rattle.pattern_images.proofs.OneList.{same_order}
+use Rattle.query_script.specs.declared.statement.Placed.{Placed}
+use Rattle.query_script.specs.declared.statement.PlacedSearch.{PlacedSearch}
+use Rattle.query_script.specs.declared.statement.Statement.{Statement}
+use Rattle.query_script.specs.declared.statement.Statement.TheVariants as statement
+use Rattle.query_script.specs.Script.{AreSearchesOf, AreStatements, IsLeastBadLine, IsPlacedAt, IsSearchOf, StandsAlone, StandsAt, line_at}
+use Rattle.query_script.specs.Statements.{IsStatement, SpellsStatement, SpellsSearch, SpellsTogether}
+use Rattle.query_script.specs.Words.{bare}
+use Rattle.query_script.proofs.LineStatements.{not_together, one_word}
+use Rattle.query_script.proofs.LineWords.{AreWords-once}
+use Rattle.query_script.proofs.ToldStatements.{statement_once}
+
+pub one_bad_line : (lines : List (List ℕ)) (j k : ℕ) → IsLeastBadLine lines j → IsLeastBadLine lines k → j ≡ k
+one_bad_line lines j k one other = elim (cases_lt j k) [
+  | inl less ↦ absurd (other.least j less one.bad)
+  | inr le ↦ elim (cases_lt k j) [ inl less ↦ absurd (one.least k less other.bad) | inr ge ↦ omega arith ]
+]
+
+-- a line spells one statement at most
+spells_once : (text : List ℕ) (s t : Statement) → SpellsStatement text s → SpellsStatement text t → s ≡ t
+spells_once text s t (words, are, is) (others, are_others, is_other) =
+    statement_once words s t is (subst (λ l. IsStatement l t) (AreWords-once text others words are_others are) is_other)
+
+same_search : (p q : Query) → statement.Search p ≡ statement.Search q → p ≡ q
+same_search p q e = cc
+
+search_once : (text : List ℕ) (p q : Query) → SpellsSearch text p → SpellsSearch text q → p ≡ q
+search_once text p q one other = same_search p q (spells_once text (statement.Search p) (statement.Search q) one other)
+
+-- a line that begins a block spells no statement
+not_both : (text : List ℕ) (s : Statement) → SpellsTogether text → SpellsStatement text s → ⊥
+not_both text s together (words, are, is) =
+    one_word words (codes "together") s not_together (AreWords-once text words (bare (codes "together") ∷ []) are together) is
+
+-- ---- lists in order of lines
+
+module _ {X : Type 0} (line_of : X → ℕ) where
+  -- each member of the one list stands in the other
+  all_there : (a b : List X) → ((k : ℕ) (d : X) → k < length a → Any (λ (y : X). y ≡ get_or a k d) b) →
+      (x : X) → Contains a x → Contains b x
+  all_there a b each x (k, below, is) =
+      let (j, y, j_in, j_is, same) = each k x below in
+      (j, j_in, get_or_default b j x y j_in ∙ j_is ∙ same ∙ is)
+
+  pub one_order : (a b : List X) →
+      AllPairs (λ (x : X) (y : X). line_of x < line_of y) a → AllPairs (λ (x : X) (y : X). line_of x < line_of y) b →
+      ((k : ℕ) (d : X) → k < length a → Any (λ (y : X). y ≡ get_or a k d) b) →
+      ((k : ℕ) (d : X) → k < length b → Any (λ (y : X). y ≡ get_or b k d) a) → a ≡ b
+  one_order a b a_order b_order there back =
+      same_order (λ (x : X) (y : X). line_of x < line_of y) (λ x y less more. omega arith) a b a_order b_order
+      (all_there a b there) (all_there b a back)
+
+-- ---- the searches of a block
+
+module _ (lines : List (List ℕ)) (first : ℕ) where
+  same_placed_search : (s t : PlacedSearch) → s.line ≡ t.line → s.query ≡ t.query → s ≡ t
+  same_placed_search s t line query =
+      ap (λ n. record { line = n; query = s.query }) line ∙ ap (λ (q : Query). record { line = t.line; query = q }) query
+
+  search_same : (s t : PlacedSearch) → IsSearchOf lines first s → IsSearchOf lines first t → t.line ≡ s.line → t ≡ s
+  search_same s t one other same =
+      same_placed_search t s same
+      (search_once (line_at lines s.line) t.query s.query (subst (λ n. SpellsSearch (line_at lines n) t.query) same other.spelled) one.spelled)
+
+  searches_there : (a b : List PlacedSearch) → AreSearchesOf lines first a → AreSearchesOf lines first b →
+      (k : ℕ) (d : PlacedSearch) → k < length a → Any (λ (t : PlacedSearch). t ≡ get_or a k d) b
+  searches_there a b are_a are_b k d below =
+      let s : PlacedSearch = get_or a k d in
+      let is : IsSearchOf lines first s = are_a.sound k d below in
+      let (j, t, j_in, j_is, same) = are_b.complete s.line s.query is.there is.within is.spelled in
+      (j, t, j_in, j_is, search_same s t is (subst (IsSearchOf lines first) j_is (are_b.sound j t j_in)) same)
+
+  one_block_list : (a b : List PlacedSearch) → AreSearchesOf lines first a → AreSearchesOf lines first b → a ≡ b
+  one_block_list a b are_a are_b =
+      one_order (λ (s : PlacedSearch). s.line) a b are_a.ordered are_b.ordered
+      (searches_there a b are_a are_b) (searches_there b a are_b are_a)
+
+-- ---- the statements
+
+module _ (lines : List (List ℕ)) where
+  -- what stands alone at a line is its statement, and no block
+  alone_once : (k : ℕ) (s t : Statement) → StandsAlone lines k s → StandsAt lines k t → s ≡ t
+  alone_once k s (statement.Import path) one other = spells_once (line_at lines k) s (statement.Import path) one.spelled other.spelled
+  alone_once k s statement.Wait one other = spells_once (line_at lines k) s statement.Wait one.spelled other.spelled
+  alone_once k s (statement.Until number) one other = spells_once (line_at lines k) s (statement.Until number) one.spelled other.spelled
+  alone_once k s (statement.Search query) one other = spells_once (line_at lines k) s (statement.Search query) one.spelled other.spelled
+  alone_once k s (statement.Together searches) one other = absurd (not_both (line_at lines k) s other.0 one.spelled)
+  alone_once k s (statement.Game number) one other = spells_once (line_at lines k) s (statement.Game number) one.spelled other.spelled
+
+  block_once : (k : ℕ) (searches : List PlacedSearch) (t : Statement) → StandsAt lines k (statement.Together searches) → StandsAt lines k t →
+      statement.Together searches ≡ t
+  block_once k searches (statement.Import path) one other = absurd (not_both (line_at lines k) (statement.Import path) one.0 other.spelled)
+  block_once k searches statement.Wait one other = absurd (not_both (line_at lines k) statement.Wait one.0 other.spelled)
+  block_once k searches (statement.Until number) one other = absurd (not_both (line_at lines k) (statement.Until number) one.0 other.spelled)
+  block_once k searches (statement.Search query) one other = absurd (not_both (line_at lines k) (statement.Search query) one.0 other.spelled)
+  block_once k searches (statement.Together others) one other = ap (λ l. statement.Together l) (one_block_list lines k searches others one.1 other.1)
+  block_once k searches (statement.Game number) one other = absurd (not_both (line_at lines k) (statement.Game number) one.0 other.spelled)
+
+  stands_once : (k : ℕ) (s t : Statement) → StandsAt lines k s → StandsAt lines k t → s ≡ t
+  stands_once k (statement.Import path) t one other = alone_once k (statement.Import path) t one other
+  stands_once k statement.Wait t one other = alone_once k statement.Wait t one other
+  stands_once k (statement.Until number) t one other = alone_once k (statement.Until number) t one other
+  stands_once k (statement.Search query) t one other = alone_once k (statement.Search query) t one other
+  stands_once k (statement.Together searches) t one other = block_once k searches t one other
+  stands_once k (statement.Game number) t one other = alone_once k (statement.Game number) t one other
+
+  same_placed : (p q : Placed) → p.line ≡ q.line → p.statement ≡ q.statement → p ≡ q
+  same_placed p q line statement =
+      ap (λ n. record { line = n; statement = p.statement }) line ∙ ap (λ (s : Statement). record { line = q.line; statement = s }) statement
+
+  placed_same : (p q : Placed) → IsPlacedAt lines p → IsPlacedAt lines q → q.line ≡ p.line → q ≡ p
+  placed_same p q one other same =
+      same_placed q p same
+      (stands_once p.line q.statement p.statement (subst (λ n. StandsAt lines n q.statement) same other.stands) one.stands)
+
+  placed_there : (a b : List Placed) → AreStatements lines a → AreStatements lines b →
+      (k : ℕ) (d : Placed) → k < length a → Any (λ (q : Placed). q ≡ get_or a k d) b
+  placed_there a b are_a are_b k d below =
+      let p : Placed = get_or a k d in
+      let is : IsPlacedAt lines p = are_a.sound k d below in
+      let (j, q, j_in, j_is, same) = are_b.complete p.line p.statement is.from_one is.to_last is.stands in
+      (j, q, j_in, j_is, placed_same p q is (subst (IsPlacedAt lines) j_is (are_b.sound j q j_in)) same)
+
+  pub one_list : (a b : List Placed) → AreStatements lines a → AreStatements lines b → a ≡ b
+  one_list a b are_a are_b =
+      one_order (λ (p : Placed). p.line) a b are_a.ordered are_b.ordered
+      (placed_there a b are_a are_b) (placed_there b a are_b are_a)
+
+  pub not_both_answers : (placed : List Placed) (k : ℕ) → AreStatements lines placed → IsLeastBadLine lines k → ⊥
+  not_both_answers placed k are bad = are.good k bad.bad

@@ -1,0 +1,25 @@
+// Laws of the words for scripts, for who reads a contract of this crate.
+ghost use Rattle.std.specs.Prelude.{◌≡◌, ◌⊎◌, ℕ, List};
+ghost use Rattle.query_script.specs.declared.statement.Placed.{Placed};
+ghost use Rattle.query_script.specs.declared.statement.TheConstants.{MAX_SCRIPT};
+ghost use Rattle.query_script.specs.Script.{AreStatements, IsLeastBadLine, most_bytes, script_lines};
+
+/// The longest script that [`read_script`](crate::read_script) reads has 1,048,576 bytes.
+pub fn the_longest_script_has_1048576_bytes()
+    ensures number { MAX_SCRIPT ≡ 1048576 }
+    ensures limit { MAX_SCRIPT ≡ most_bytes }
+{}
+
+/// A script has its statements or a least bad line, which is what [`read_script`](crate::read_script) answers. It has one
+/// list of statements only, one least bad line only, and not both.
+pub fn a_script_has_its_statements_or_a_bad_line()
+    ensures some { (text : List ℕ) →
+        ((placed : List Placed) × AreStatements (script_lines text) placed)
+        ⊎ ((k : ℕ) × IsLeastBadLine (script_lines text) k) }
+    ensures one_list { (text : List ℕ) (a b : List Placed) →
+        AreStatements (script_lines text) a → AreStatements (script_lines text) b → a ≡ b }
+    ensures one_bad_line { (text : List ℕ) (j k : ℕ) →
+        IsLeastBadLine (script_lines text) j → IsLeastBadLine (script_lines text) k → j ≡ k }
+    ensures not_both { (text : List ℕ) (placed : List Placed) (k : ℕ) →
+        AreStatements (script_lines text) placed → ¬ IsLeastBadLine (script_lines text) k }
+{}
