@@ -1,5 +1,5 @@
 -- The points of changes, and a rectangle that holds them.
-use Rattle.std.proofs.Common.{◌≡◌, ◌≢◌, ℕ, ◌+◌, ◌<◌, ◌≤◌, ◌⊎◌, ◌↔◌, inl, inr, List, [], ◌∷◌, length, get_or, refl, sym, ap, ◌∙◌, arith, subst, Contains}
+use Rattle.std.proofs.Common.{◌≡◌, ℕ, ◌+◌, ◌<◌, ◌≤◌, ◌⊎◌, ◌↔◌, inl, inr, List, [], length, get_or, sym, ap, ◌∙◌, arith, subst, Contains}
 use Rattle.std.proofs.lemmas.Bool.{cases_eq}
 use Rattle.std.proofs.lemmas.List.{get_or_default}
 use Rattle.kb_geometry.specs.declared.shape.Shape.{Shape}
@@ -10,8 +10,7 @@ use Rattle.kb_geometry.specs.declared.stone.Cell.{Cell}
 use Rattle.kb_geometry.specs.declared.stone.Cell.TheVariants as cell
 use Rattle.kb_geometry.specs.Board.{IsInside, IsOnBoard, number_of}
 use Rattle.line_matcher.specs.Areas.{HoldsChanges, IsWithPoint}
-use Rattle.line_matcher.specs.Concerned.{ArePointsWith, Concerns, IsWithChange, no_points}
-use Rattle.line_matcher.specs.declared.changed.Concerned.{Concerned}
+use Rattle.line_matcher.specs.Concerned.{ArePointsWith, Concerns, IsWithChange}
 
 -- the change with this number, or one of point 0
 abbrev pub change_at : List Change → ℕ → Change
@@ -62,41 +61,6 @@ ConcernsBelow-all s changes n points count have p =
       λ h. let k = (have p).0 h in (k.0, change_at changes k.0, omega arith, get_or_default changes k.0 (change_at changes k.0) none (omega arith), k.2),
       λ (k, c, lt, at, is). (have p).1 (k, omega arith, subst (λ (d : Change). Concerns s d p) (sym (get_or_default changes k none c lt ∙ at)) is),
     )
-
--- the points after those of the first n changes were taken out
-pub record IsEmptied (changes : List Change) (old new : List ℕ) (n : ℕ) : Type 0 where
-  pub kept : (p : ℕ) → Contains new p → Contains old p
-  pub gone : (p k : ℕ) → k < n → Contains new p → p ≢ (change_at changes k).point
-
-pub IsEmptied-start : (changes : List Change) (points : List ℕ) → IsEmptied changes points points 0
-IsEmptied-start changes points = record { kept = λ p h. h; gone = λ p k lt. absurd (omega arith) }
-
-pub IsEmptied-more : (changes : List Change) (old now later : List ℕ) (n : ℕ) → IsEmptied changes old now n → ((p : ℕ) → Contains later p ↔ (Contains now p × (p ≢ (change_at changes n).point))) → IsEmptied changes old later (n + 1)
-IsEmptied-more changes old now later n emptied removed = record {
-  kept = λ p h. emptied.kept p ((removed p).0 h).0;
-  gone = λ p k lt h. elim (cases_eq k n) [
-    | inl last ↦ subst (λ (i : ℕ). p ≢ (change_at changes i).point) (sym last) ((removed p).0 h).1
-    | inr earlier ↦ emptied.gone p k (omega arith) ((removed p).0 h).0
-  ];
-}
-
--- a list that contains nothing
-nothing_in : (points : List ℕ) → ((p : ℕ) → Contains points p → ⊥) → points ≡ []
-nothing_in [] none = refl
-nothing_in (p ∷ ps) none = absurd (none p (0, omega arith, refl))
-
-pub IsEmptied-all : (s : Cell) (changes : List Change) (old new : List ℕ) (n : ℕ) → ArePointsWith s changes old → length changes ≡ n → IsEmptied changes old new n → new ≡ []
-IsEmptied-all s changes old new n are count emptied =
-    let none : Change = record { point = 0; old = cell.Empty; new = cell.Empty } in
-    nothing_in new (λ p h.
-    let at = (are p).0 (emptied.kept p h) in
-    emptied.gone p at.0 (omega (arith, at.2)) h (sym at.4.0 ∙ ap (λ (d : Change). d.point) (sym (get_or_default changes at.0 none at.1 at.2 ∙ at.3))))
-
-pub no_points-from : (points : Concerned) → points.black ≡ [] → points.white ≡ [] → points ≡ no_points
-no_points-from points black white = same points.black [] points.white [] black white
-  where
-    same : (b c w v : List ℕ) → b ≡ c → w ≡ v → ◌≡◌ {A = Concerned} (record { black = b; white = w }) (record { black = c; white = v })
-    same b c w v e f = rw (e, f) refl
 
 -- ---- the rectangle
 

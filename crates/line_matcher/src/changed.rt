@@ -12,7 +12,7 @@ use kb_bits::BitBoard;
 use kb_geometry::{Cell, Change, MAX_POINTS, Point, Rect, Shape};
 
 // The points that changes concern, by colours: where a stone of the colour stood or stands. It is
-// made once for a walk, filled at a node and emptied again, since it is as large as the greatest
+// made once for a walk, filled at a node and cleared again, since it is as large as the greatest
 // board.
 #[derive(Debug, Drop)]
 pub(crate) struct Concerned {
@@ -43,16 +43,12 @@ impl Concerned {
         }
     }
 
-    // No point again, where those of these changes were.
-    pub(crate) fn empty(&mut self, changes: &[Change])
-        requires on_board { All (λ (c : Change). c.point < MAX_POINTS) changes.now }
-        requires concerned { AreConcerned changes.now self.old }
+    // No point again.
+    pub(crate) fn clear(&mut self)
         ensures { self.new ≡ no_points }
     {
-        for change in changes {
-            self.black.remove(change.point);
-            self.white.remove(change.point);
-        }
+        self.black.clear();
+        self.white.clear();
     }
 }
 

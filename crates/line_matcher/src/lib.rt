@@ -1,7 +1,7 @@
 //! The occurrences of placements in one game.
 //!
 //! Stands on kb_geometry, kb_bits, capture_board and pattern_images. The layer above uses that
-//! `match_with` finds exactly the nodes and placements where a placement begins to hold, in order.
+//! `match_along` finds exactly the nodes and placements where a placement begins to hold, in order.
 #![tactic(auto)]
 
 mod changed;
@@ -19,7 +19,7 @@ pub use laws::{
 };
 pub use matcher::Matcher;
 pub use occurrence::Occurrence;
-pub use walk::{match_game, match_with};
+pub use walk::{match_along, match_game, match_with};
 
 #[cfg(test)]
 mod tests;

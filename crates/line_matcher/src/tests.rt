@@ -1,8 +1,8 @@
 // Occurrences in small games, worked out by hand.
 ghost use Rattle.std.specs.Prelude.{◌≡◌, ◌<◌};
 
-use crate::{Matcher, Occurrence, match_game, match_with};
-use capture_board::{NodeDeltas, Steps};
+use crate::{Matcher, Occurrence, match_along, match_game};
+use capture_board::{NodeDeltas, Steps, Walker};
 use games::{Row, game_of};
 use kb_geometry::{Rect, Shape};
 use pattern_images::{Found, Pattern, PatternCell, Query, images};
@@ -148,8 +148,17 @@ fn numbers_in<L: Ledger>(
     assert_eq!(rt; deltas.shape(), shape);
     let images = images(alloc, query, shape)?;
     let matcher = Matcher::new(alloc, &images)?;
+    // A walker that stands at the game's last node serves as well as a new one.
+    let mut walker = Walker::new(deltas);
+    let _first = match_along(alloc, deltas, &matcher, &mut walker, steps)?;
     let mut text = String::new(alloc);
-    for Occurrence { node, placement } in match_with(alloc, deltas, &matcher, steps)? {
+    for Occurrence { node, placement } in match_along(
+        alloc,
+        deltas,
+        &matcher,
+        &mut walker,
+        steps,
+    )? {
         if !text.is_empty() {
             text.push_str(", ")?;
         }

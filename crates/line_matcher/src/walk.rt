@@ -20,7 +20,7 @@ use std::alloc::Global;
 use std::sync::ledger::Ledger;
 
 /// The nodes of a game and the placements that begin to hold there, as [`match_with`] lists them,
-/// each with its place. For the library's callers and tests: the program calls `match_with`.
+/// each with its place. For the library's callers and tests: the program calls [`match_along`].
 ///
 /// The images are those of a board of the game's shape. The count of steps only grows, by at most
 /// the number of the game's nodes. The only error is `NoMemory`.
@@ -60,8 +60,27 @@ pub fn match_with<L: Ledger>(
     ensures ticks { steps.new ≤ steps.old + node_count deltas.now }
     ensures grows { steps.old ≤ steps.new }
 {
+    let mut walker = Walker::new(deltas);
+    match_along(alloc, deltas, matcher, &mut walker, steps)
+}
+
+/// The same, by a walker that was made before, for whatever game. It has room for the greatest board,
+/// so where there are many games it is made once.
+pub fn match_along<L: Ledger>(
+    alloc: Global,
+    deltas: &NodeDeltas,
+    matcher: &Matcher,
+    walker: &mut Walker,
+    steps: &mut Steps<L>,
+) -> Result<Vec<Occurrence>, NoMemory>
+    requires { matcher.now.images.now.shape ≡ deltas.now.shape }
+    ensures found { IfOk result (λ found. found.items
+        ≡ occurrences_in deltas.now matcher.now.images.now.placements) }
+    ensures ticks { steps.new ≤ steps.old + node_count deltas.now }
+    ensures grows { steps.old ≤ steps.new }
+{
     let mut found = Vec::new(alloc);
-    add_nodes(matcher, deltas, &mut found, steps)?;
+    add_nodes(matcher, deltas, walker, &mut found, steps)?;
     Ok(found)
 }
 
@@ -89,6 +108,7 @@ fn with_places(
 fn add_nodes<L: Ledger>(
     matcher: &Matcher,
     deltas: &NodeDeltas,
+    walker: &mut Walker,
     found: &mut Vec<Occurrence>,
     steps: &mut Steps<L>,
 ) -> Result<(), NoMemory>
@@ -98,11 +118,11 @@ fn add_nodes<L: Ledger>(
     ensures ticks { steps.new ≤ steps.old + node_count deltas.now }
     ensures grows { steps.old ≤ steps.new }
 {
-    let mut walker = Walker::new(deltas);
+    walker.restart(deltas);
     let mut points = Concerned::none();
     for node in 0..deltas.node_count() {
         walker.enter_next(deltas, node, steps);
-        add_node(matcher, deltas, &walker, &mut points, node, found)?;
+        add_node(matcher, deltas, walker, &mut points, node, found)?;
     }
     Ok(())
 }
@@ -169,7 +189,7 @@ fn add_child(
 {
     points.fill(changes);
     add_touched(matcher, walker, points, node, changes, found)?;
-    points.empty(changes);
+    points.clear();
     Ok(())
 }
 

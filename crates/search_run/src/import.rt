@@ -3,6 +3,7 @@ ghost use Rattle.std.specs.Prelude.{◌≡◌, ◌≢◌, ◌⊎◌, ◌↔◌, 
 ghost use Rattle.kb_edges.specs.Faults.{Rose, RoseBy};
 ghost use Rattle.kb_edges.specs.Files.{File, HasFile};
 ghost use Rattle.kb_edges.specs.Told.{IfTold};
+ghost use Rattle.node_position.specs.Games.{AreNodeChanges};
 ghost use Rattle.search_run.specs.declared.outcome.FileOutcome.TheVariants.{Unread};
 ghost use Rattle.search_run.specs.Course.{Finding, ImportCourse, IsContent, IsImported, games_from, losses_of, trees_in};
 ghost use Rattle.search_run.specs.Imported.{Tells, file_reports, games_kept};
@@ -14,10 +15,11 @@ ghost use Rattle.search_run.specs.Stores.{HaveTheirChanges, HasFewFiles, HasFewG
 ghost use Rattle.session_core.specs.Games.{HasItsChanges, games_of};
 
 use crate::outcome::{Counts, FileOutcome, outcome_of, with_added};
+use capture_board::{Board, ChangeList, NodeDeltas};
 use game_tree::{GameTree, Setup};
 use kb_edges::{Folder, FolderError, sort_names};
-use kb_geometry::NoMemory;
-use node_position::deltas;
+use kb_geometry::{NoMemory, Shape};
+use node_position::deltas_with;
 use session_core::Stored;
 use sgf_reader::{MAX_FILE, Pair, RawNode};
 use std::alloc::Global;
@@ -174,9 +176,34 @@ pub fn import_one<F: Folder>(
     Ok((outcome, games))
 }
 
+// What the changes of games are made with: a board and a list with room for the greatest board. An
+// import makes them once.
+#[derive(Drop)]
+struct Follower {
+    board: Board,
+    changes: ChangeList,
+}
+
+impl Follower {
+    fn new() -> Self {
+        Follower {
+            board: Board::empty(Shape::standard()),
+            changes: ChangeList::new(),
+        }
+    }
+
+    // What each node of a tree changes.
+    fn deltas(&mut self, alloc: Global, tree: &GameTree) -> Result<NodeDeltas, NoMemory>
+        ensures { IfOk result (AreNodeChanges tree.now) }
+    {
+        deltas_with(alloc, tree, &mut self.board, &mut self.changes)
+    }
+}
+
 // Adds the trees of a file of this name, each with its place in the file and with its changes.
 fn store(
     alloc: Global,
+    follower: &mut Follower,
     name: &str,
     trees: Vec<GameTree>,
     games: &mut Vec<Stored>,
@@ -187,7 +214,7 @@ fn store(
 {
     let mut place = 0;
     for tree in trees {
-        let deltas = deltas(alloc, &tree)?;
+        let deltas = follower.deltas(alloc, &tree)?;
         let file = String::from_str(alloc, name)?;
         games.push(Stored {
             file,
@@ -206,6 +233,7 @@ fn read_next<F: Folder>(
     folder: &mut F,
     path: &str,
     name: &str,
+    follower: &mut Follower,
     counts: &mut Counts,
     files: &mut Vec<ImportedFile>,
     games: &mut Vec<Stored>,
@@ -223,7 +251,7 @@ fn read_next<F: Folder>(
     let own_name = String::from_str(alloc, name)?;
     let (outcome, trees) = import_one(alloc, folder, path, name, *counts)?;
     *counts = with_added(*counts, outcome, &trees);
-    store(alloc, name, trees, games)?;
+    store(alloc, follower, name, trees, games)?;
     files.push(ImportedFile {
         name: own_name,
         outcome,
@@ -252,12 +280,14 @@ fn read_files<F: Folder>(
     let mut files = Vec::new(alloc);
     let mut games = Vec::new(alloc);
     let mut counts = before;
+    let mut follower = Follower::new();
     for name in names {
         read_next(
             alloc,
             folder,
             path,
             name.as_str(),
+            &mut follower,
             &mut counts,
             &mut files,
             &mut games,

@@ -10,11 +10,11 @@ ghost use Rattle.session_core.specs.Hits.{AreHits, AreHitsIn, AreHitsOf, IsHit, 
 ghost use Rattle.session_core.specs.Searching.{AreHitsAdded, IsRun};
 
 use crate::stored::{MAX_BASE_GAMES, Stored};
-use capture_board::{NodeDeltas, Steps};
+use capture_board::{NodeDeltas, Steps, Walker};
 use continuation_table::next_below;
 use game_tree::GameTree;
 use kb_geometry::NoMemory;
-use line_matcher::{Matcher, Occurrence, match_with};
+use line_matcher::{Matcher, Occurrence, match_along};
 use pattern_images::{Hit, Images, Query, images};
 use std::alloc::Global;
 use std::marker::Brand;
@@ -59,7 +59,8 @@ fn have_one_shape(a: &Stored, b: &Stored) -> bool
     a.deltas.shape() == b.deltas.shape()
 }
 
-// Adds the hits of the games of a run. The images are made once, for they are the same on all its boards.
+// Adds the hits of the games of a run. The images are made once, for they are the same on all its
+// boards, and so is the walker, which has room for the greatest board.
 fn add_run(
     alloc: Global,
     query: &Query,
@@ -78,8 +79,18 @@ fn add_run(
 {
     let images = images(alloc, query, games[from].deltas.shape())?;
     let matcher = Matcher::new(alloc, &images)?;
+    let mut walker = Walker::new(&games[from].deltas);
     for number in from..to {
-        add_game(alloc, query, number as u32, &games[number], &matcher, hits)?;
+        let game = &games[number];
+        add_game(
+            alloc,
+            query,
+            number as u32,
+            game,
+            &matcher,
+            &mut walker,
+            hits,
+        )?;
     }
     Ok(())
 }
@@ -91,6 +102,7 @@ fn add_game(
     number: u32,
     game: &Stored,
     matcher: &Matcher,
+    walker: &mut Walker,
     hits: &mut Vec<Hit>,
 ) -> Result<(), NoMemory>
     requires changes { HasItsChanges game.now }
@@ -101,7 +113,7 @@ fn add_game(
     if matcher.images.is_empty() {
         return Ok(());
     }
-    let found = occurrences::<Brand>(alloc, &game.deltas, matcher, Blank::new(1))?;
+    let found = occurrences::<Brand>(alloc, &game.deltas, matcher, walker, Blank::new(1))?;
     add_hits(query, number, game, matcher.images, &found, hits)
 }
 
@@ -110,6 +122,7 @@ fn occurrences<L: Ledger>(
     alloc: Global,
     deltas: &NodeDeltas,
     matcher: &Matcher,
+    walker: &mut Walker,
     blank: Blank,
 ) -> Result<Vec<Occurrence>, NoMemory>
     requires name { blank.name ≡ L.name }
@@ -120,7 +133,7 @@ fn occurrences<L: Ledger>(
         found.items ≡ occurrences_in deltas.now matcher.now.images.now.placements) }
 {
     let mut steps = Steps::<L>::new(blank);
-    match_with(alloc, deltas, matcher, &mut steps)
+    match_along(alloc, deltas, matcher, walker, &mut steps)
 }
 
 // Adds the hits of the occurrences in a game.

@@ -2,7 +2,7 @@
 use Rattle.std.proofs.Common.{List, ◌++◌, ◌∙◌, ap}
 use Rattle.line_matcher.specs.declared.occurrence.Occurrence.{Occurrence}
 use Rattle.line_matcher.specs.Occurrences.{occurrences_in}
-use Rattle.line_matcher.proofs.walk.match_with.Goals as goal
+use Rattle.line_matcher.proofs.walk.match_along.Goals as goal
 
 pub returns-clause-found : goal.returns-clause-found
 returns-clause-found g c =
