@@ -43,7 +43,7 @@ fn refused_texts(rt: HostRuntime) -> Result<(), Fail> {
         ("(;B[aa]", "Ended 7"),
         ("(;SZ[5];b[aa])", "Unexpected 9"),
         ("(;GM[2])", "NotGo 4"),
-        ("(;SZ[20])", "BadSize 4"),
+        ("(;SZ[53])", "BadSize 4"),
         ("(;SZ[9];B[jj])", "BadPoint 9"),
         ("(;B[aa]W[bb])", "TwoMoves 8"),
         // the second game is bad, and the first isn't added
