@@ -29,7 +29,7 @@ pub mod Splits
 pub mod Subtrees
 mod TextChoices
 pub mod Trees
-mod TreesOrFault
+pub mod TreesOrFault
 pub mod Trimming
 mod ValueChoices
 pub mod Values

@@ -1,5 +1,5 @@
 -- Files cut into batches, and the segments that they make.
-use Rattle.std.proofs.Common.{◌≡◌, ◌⊎◌, inl, inr, ℕ, zero, suc, ◌+◌, ◌-◌, ◌*◌, ◌/◌, ◌≤◌, List, [], ◌∷◌, ◌++◌, length, map, take, refl, sym, ap, ◌∙◌, add-one, zero-add, zero-mul, suc-mul, arith}
+use Rattle.std.proofs.Common.{◌≡◌, ◌⊎◌, inl, inr, ℕ, zero, suc, ◌+◌, ◌-◌, ◌*◌, ◌/◌, List, [], ◌∷◌, ◌++◌, length, map, take, sym, ap, ◌∙◌, add-one, zero-add, zero-mul, suc-mul, arith}
 use Rattle.std.specs.Prelude.{Vec}
 use Rattle.std.specs.declared.alloc.Global.{Global}
 use Rattle.std.specs.Fork.{slice_chunk}
@@ -19,7 +19,7 @@ use Rattle.search_run.specs.declared.import.Imported.TheVariants as imported
 use Rattle.search_run.specs.declared.import.ImportedFile.{ImportedFile}
 
 -- the games of the first so many pieces are those of the files in them
-pieces_joined : (files : List ImportFile) (batch k : ℕ) → games_in (map games_of_files (map (slice_chunk files batch) (range_with_len 0 k))) ≡ games_of_files (take (k * batch) files)
+pub pieces_joined : (files : List ImportFile) (batch k : ℕ) → games_in (map games_of_files (map (slice_chunk files batch) (range_with_len 0 k))) ≡ games_of_files (take (k * batch) files)
 pieces_joined files batch zero = ap (λ n. games_of_files (take n files)) (sym (zero-mul batch))
 pieces_joined files batch (suc k) =
     let piece = slice_chunk files batch in

@@ -9,6 +9,7 @@ use Rattle.std.proofs.lemmas.List.Folds.{Any-from_list_any, list_any-from_Any}
 use Rattle.std.proofs.lemmas.Slice.Eq.{bytes_eq-Decides}
 use Rattle.std.specs.Str.{bytes_eq}
 use Rattle.std.proofs.lemmas.Grind.{flat_map-append}
+use Rattle.std.proofs.lemmas.List.Sums.{sum_by-append}
 use Rattle.std.proofs.lemmas.List.{append-nil, get_or-map, length-map, map_more, map_push}
 use Rattle.std.specs.Cmp.Lexicographic.{slice_cmp}
 use Rattle.std.specs.Ordering.{nat_cmp}
@@ -61,6 +62,10 @@ rose_by_none before now later = omega arith
 -- a count that rose twice
 pub RoseBy-then : (m n before between now : ℕ) → RoseBy m before between → RoseBy n between now → RoseBy (m + n) before now
 RoseBy-then m n before between now first second = omega arith
+
+-- the losses of two courses
+pub losses_of-append : (course more : List ImportCourse) → losses_of (course ++ more) ≡ losses_of course + losses_of more
+losses_of-append course more = sum_by-append (λ (c : ImportCourse). cond c.unlisted 1 0 + length c.unread) course more
 
 -- one more file has one more report
 pub reports_push : (all more : List ImportedFile) (f : ImportedFile) (name : List ℕ) → more ≡ all ++ f ∷ [] → string_bytes f.name ≡ name → file_reports more ≡ file_reports all ++ record { name = name; outcome = f.outcome } ∷ []
@@ -204,7 +209,7 @@ rose_there before now path name files told is (inr (all, also, gone)) there =
     absurd (gone (subst (λ fs. HasFile fs path name) same there))
 
 -- a file has the path, or none has
-has_path_by : (files : List File) (path : List ℕ) (r : Bool) → r ≡ list_any (λ (file : File). bytes_eq file.path path) files → HasPath files path ⊎ (¬ HasPath files path)
+pub has_path_by : (files : List File) (path : List ℕ) (r : Bool) → r ≡ list_any (λ (file : File). bytes_eq file.path path) files → HasPath files path ⊎ (¬ HasPath files path)
 has_path_by files path true is =
     inl (Any-weaker _ _ (λ file h. (bytes_eq-Decides file.path path).0 h) files (Any-from_list_any (λ (file : File). bytes_eq file.path path) files (sym is)))
 has_path_by files path false is =

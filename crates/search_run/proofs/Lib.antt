@@ -1,9 +1,14 @@
 mod BatchLemmas
 mod ImportLemmas
+mod ImportsExist
 mod NamesExist
+mod OneFinding
+mod OneOutput
+mod OutcomesExist
 mod PrintLemmas
 mod ReadLemmas
 mod RoomLemmas
 mod RunLemmas
 mod ScriptLemmas
 mod StatementLemmas
+mod WholeOutputs

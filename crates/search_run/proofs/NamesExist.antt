@@ -1,5 +1,5 @@
--- Each folder and path has its names: they are put in order one after another.
-use Rattle.std.proofs.Common.{◌≡◌, ◌⊎◌, inl, inr, ℕ, zero, suc, ◌+◌, ◌<◌, Bool, true, List, [], ◌∷◌, length, get_or, refl, sym, ap, ◌∙◌, subst, arith}
+-- Each folder and path has its names, put in order one after another, and has one list of them.
+use Rattle.std.proofs.Common.{◌≡◌, ◌⊎◌, inl, inr, ℕ, zero, suc, List, [], ◌∷◌, get_or, refl, sym, ap, ◌∙◌, subst, arith}
 use Rattle.std.specs.Prelude.{All, AllPairs, Contains}
 use Rattle.std.specs.Cmp.Lexicographic.{slice_cmp}
 use Rattle.std.specs.Ordering.{is_eq, nat_cmp, ordering_reverse}
@@ -145,3 +145,55 @@ names-exist files path =
         ascending = those.ascending;
       },
     )
+
+-- ---- one list alone
+
+no_name_itself : (x y : Name) → x ≡ y → IsBefore x y → ⊥
+no_name_itself x y same before = 
+    let less : IsBefore x x = subst (IsBefore x) (sym same) before in
+    absurd (cc (less, nat_list_cmp_total.antisymm x x ∙ ap ordering_reverse less))
+
+not_both : (x y : Name) → IsBefore x y → IsBefore y x → ⊥
+not_both x y before after = no_name_itself x x refl (nat_list_cmp_total.trans x y x before after)
+
+-- each member of the one is a member of the other
+abbrev IsWithin : List Name → List Name → Type 0
+IsWithin xs ys = (n : Name) → Contains xs n → Contains ys n
+
+-- the first name of a list does not come before all names of a list that it is in
+not_first : (x y : Name) (ys : List Name) → AllPairs IsBefore (y ∷ ys) → Contains (y ∷ ys) x → IsBefore x y → ⊥
+not_first x y ys ascends there before = elim (cases_front y ys x there) [
+  | inl same ↦ no_name_itself x y (sym same) before
+  | inr inside ↦ not_both x y before (All-contains (IsBefore y) ys x (before_all y ys ascends) inside)
+]
+
+-- what is behind the one first name is behind the other
+within_tail : (x y : Name) (xs ys : List Name) → x ≡ y → AllPairs IsBefore (x ∷ xs) → IsWithin (x ∷ xs) (y ∷ ys) → IsWithin xs ys
+within_tail x y xs ys same ascends within n there = elim (cases_front y ys n (within n (behind x xs n there))) [
+  | inl first ↦ absurd (no_name_itself x n (same ∙ first) (All-contains (IsBefore x) xs n (before_all x xs ascends) there))
+  | inr inside ↦ inside
+]
+
+-- two ascending lists that hold each other's first names have one first name
+same_first : (x y : Name) (xs ys : List Name) → AllPairs IsBefore (x ∷ xs) → AllPairs IsBefore (y ∷ ys) → Contains (y ∷ ys) x → Contains (x ∷ xs) y → x ≡ y
+same_first x y xs ys ascends others there too = by_order (slice_cmp nat_cmp x y) refl
+  where
+    by_order : (o : Ordering) → slice_cmp nat_cmp x y ≡ o → x ≡ y
+    by_order Less is = absurd (not_first x y ys others there is)
+    by_order Equal is = same_name x y is
+    by_order Greater is = absurd (not_first y x xs ascends too (nat_list_cmp_total.antisymm y x ∙ ap ordering_reverse is))
+
+same_list : (xs ys : List Name) → AllPairs IsBefore xs → AllPairs IsBefore ys → IsWithin xs ys → IsWithin ys xs → xs ≡ ys
+same_list [] [] ascends others within too = refl
+same_list [] (y ∷ ys) ascends others within too = let none = (too y (at_front y ys)).1 in absurd (omega arith)
+same_list (x ∷ xs) [] ascends others within too = let none = (within x (at_front x xs)).1 in absurd (omega arith)
+same_list (x ∷ xs) (y ∷ ys) ascends others within too =
+    let same = same_first x y xs ys ascends others (within x (at_front x xs)) (too y (at_front y ys)) in
+    let rest = same_list xs ys (ascending_tail x xs ascends) (ascending_tail y ys others) (within_tail x y xs ys same ascends within) (within_tail y x ys xs (sym same) others too) in
+    ap (λ (n : Name). n ∷ xs) same ∙ ap (λ (ns : List Name). y ∷ ns) rest
+
+pub names-one : (files : List File) (path : List ℕ) (a b : List (List ℕ)) → AreNames files path a → AreNames files path b → a ≡ b
+names-one files path a b one other =
+    same_list a b one.ascending other.ascending
+    (λ n there. (other.each n).1 ((one.each n).0 there))
+    (λ n there. (one.each n).1 ((other.each n).0 there))

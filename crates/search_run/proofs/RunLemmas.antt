@@ -1,26 +1,21 @@
 -- A run, statement by statement.
-use Rattle.std.proofs.Common.{◌≡◌, ◌⊎◌, inl, inr, ℕ, suc, ◌+◌, ◌<◌, ◌≤◌, List, [], ◌∷◌, ◌++◌, Option, Some, None, Ok, Err, length, get_or, take, drop, refl, sym, ap, ◌∙◌, append_assoc, arith}
-use Rattle.std.specs.Prelude.{OnErr, Result, cond, max}
-use Rattle.std.specs.Option.{option_map_or}
-use Rattle.std.proofs.Math.Nat.{max-le}
-use Rattle.std.proofs.lemmas.List.Sums.{sum_by-append}
+use Rattle.std.proofs.Common.{◌≡◌, ◌⊎◌, inl, inr, ℕ, suc, ◌+◌, ◌<◌, ◌≤◌, List, [], ◌∷◌, ◌++◌, Option, Some, Ok, Err, length, get_or, take, drop, refl, sym, ap, ◌∙◌, append_assoc, arith}
+use Rattle.std.specs.Prelude.{OnErr, Result}
 use Rattle.std.proofs.Math.Seq.{split_at}
-use Rattle.std.proofs.lemmas.List.{append-nil, take_all, take_more}
+use Rattle.std.proofs.lemmas.List.{append-nil, take_more}
+use mathlib.Core.List.{IsPrefix}
 use Rattle.kb_edges.specs.Faults.{Rose, RoseBy}
 use Rattle.kb_edges.specs.Files.{File}
 use Rattle.query_script.specs.declared.statement.Placed.{Placed}
-use Rattle.query_script.specs.declared.statement.PlacedSearch.{PlacedSearch}
-use Rattle.session_core.specs.Answers.{IsSearchText}
-use Rattle.node_position.specs.Games.{Game}
-use Rattle.search_run.specs.Course.{ImportCourse, losses_of}
-use Rattle.search_run.specs.Lawful.{AreSearchTexts, IsNamed, IsNextPrefix, IsPrefix, State, at_start, last_of, nothing, one_more, view_at, waiting_text}
-use Rattle.search_run.specs.Log.{games_in}
-use Rattle.search_run.specs.Run.{HasRun, WritesBegun, WritesLawful, serial_rules}
+use Rattle.search_run.specs.Course.{losses_of}
+use Rattle.search_run.specs.Lawful.{IsNextPrefix, State, at_start, nothing, one_more, waiting_text}
+use Rattle.search_run.specs.Run.{HasRun, WritesLawful, WritesPrefix, serial_rules}
 use Rattle.search_run.specs.Script.{IsScript}
 use Rattle.search_run.specs.Serial.{PrintsAll}
-use Rattle.search_run.specs.Steps.{BlockTexts, IsKept, IsTextByKept, Kept, PassesStatement, kept_report, nothing_kept, view_of}
-use Rattle.search_run.proofs.ImportLemmas.{RoseBy-then, rose_by_none}
+use Rattle.search_run.specs.Steps.{IsKept, IsTextByKept, Kept, PassesStatement, kept_report, nothing_kept}
+use Rattle.search_run.proofs.ImportLemmas.{RoseBy-then, losses_of-append, rose_by_none}
 use Rattle.search_run.proofs.StatementLemmas.{waiting_is}
+use Rattle.search_run.proofs.WholeOutputs.{begun-completed}
 
 -- nothing is run yet
 pub HasRun-start : (files : List File) (before : List ℕ) (written : Option (List ℕ)) (count : ℕ) → written ≡ Some before → HasRun files [] nothing_kept before written count count
@@ -33,10 +28,6 @@ HasRun-start files before written count is = record {
   written_is = is ∙ ap Some (sym (append-nil before));
   paid = rose_by_none count count (omega arith);
 }
-
--- the losses of two courses
-losses_of-append : (course more : List ImportCourse) → losses_of (course ++ more) ≡ losses_of course + losses_of more
-losses_of-append course more = sum_by-append (λ (c : ImportCourse). cond c.unlisted 1 0 + length c.unread) course more
 
 -- one statement more is run
 pub HasRun-more : (files : List File) (placed : List Placed) (p : Placed) (kept after : Kept) (before : List ℕ) (between written : Option (List ℕ)) (first second third : ℕ) (h : HasRun files placed kept before between first second) → PassesStatement files serial_rules kept p after (before ++ h.text) written second third → HasRun files (placed ++ p ∷ []) after before written first third
@@ -66,14 +57,17 @@ rose_later : (n before between now : ℕ) → RoseBy n before between → betwee
 rose_later n before between now rose later = omega arith
 
 -- a prefix of what comes next is written
-pub WritesBegun-stopped : (files : List File) (placed passed left : List Placed) (kept : Kept) (before more : List ℕ) (between written : Option (List ℕ)) (first second third : ℕ) (h : HasRun files passed kept before between first second) → placed ≡ passed ++ left → IsNextPrefix files serial_rules h.state left more → written ≡ Some ((before ++ h.text) ++ more) → second ≤ third → WritesBegun files placed before written first third
-WritesBegun-stopped files placed passed left kept before more between written first second third h split prefix is later = record {
-  course = h.course;
-  text = h.text ++ more;
-  begun = record { passed = passed; left = left; state = h.state; text = h.text; more = more; split = split; printed = h.printed; prefix = prefix; out_is = refl };
-  written_is = is ∙ ap Some (append_assoc before h.text more);
-  paid = rose_later (losses_of h.course) first second third h.paid later;
-}
+pub WritesPrefix-stopped : (files : List File) (placed passed left : List Placed) (kept : Kept) (before more : List ℕ) (between written : Option (List ℕ)) (first second third : ℕ) (h : HasRun files passed kept before between first second) → placed ≡ passed ++ left → IsNextPrefix files serial_rules h.state left more → written ≡ Some ((before ++ h.text) ++ more) → second ≤ third → WritesPrefix files placed before written first third
+WritesPrefix-stopped files placed passed left kept before more between written first second third h split prefix is later =
+    let whole = begun-completed files serial_rules h.course placed (h.text ++ more) (record { passed = passed; left = left; state = h.state; text = h.text; more = more; split = split; printed = h.printed; prefix = prefix; out_is = refl }) in record {
+      course = whole.whole_course;
+      whole = whole.whole;
+      lawful = whole.lawful;
+      text = h.text ++ more;
+      prefix = whole.prefix;
+      written_is = is ∙ ap Some (append_assoc before h.text more);
+      paid = rose_later (losses_of whole.whole_course) first second third (rw whole.losses h.paid) later;
+    }
 
 -- what is written in a statement is a prefix of what comes next
 pub next_prefix : (files : List File) (s : State) (kept : Kept) (p : Placed) (left : List Placed) (more : List ℕ) → IsKept s kept → (more ≡ []) ⊎ ((text : List ℕ) × IsTextByKept serial_rules kept p.line p.statement text × IsPrefix more text) → IsNextPrefix files serial_rules s (p ∷ left) more

@@ -1,5 +1,5 @@
 -- What statements print and where they lead, by what is kept of a state.
-use Rattle.std.proofs.Common.{◌≡◌, ◌⊎◌, inl, inr, ℕ, ◌+◌, ◌≤◌, List, [], ◌∷◌, ◌++◌, Option, Some, None, length, take, refl, sym, ap, ◌∙◌, subst, append_assoc, length-append, arith}
+use Rattle.std.proofs.Common.{◌≡◌, inr, ℕ, ◌+◌, ◌≤◌, List, [], ◌∷◌, ◌++◌, Option, Some, None, length, refl, sym, ap, ◌∙◌, subst, append_assoc, length-append, arith}
 use Rattle.std.specs.Prelude.{max}
 use Rattle.std.specs.Option.{option_map_or}
 use Rattle.std.proofs.Math.Nat.{max-le}
@@ -7,16 +7,14 @@ use Rattle.std.proofs.lemmas.Grind.{flat_map-append}
 use Rattle.std.proofs.lemmas.List.{append-nil, take_all}
 use Rattle.kb_edges.specs.Faults.{RoseBy}
 use Rattle.kb_edges.specs.Files.{File}
-use Rattle.query_script.specs.declared.statement.Placed.{Placed}
 use Rattle.query_script.specs.declared.statement.PlacedSearch.{PlacedSearch}
-use Rattle.query_script.specs.declared.statement.Statement.{Statement}
 use Rattle.query_script.specs.declared.statement.Statement.TheVariants as statement
 use Rattle.query_script.specs.Texts.{import_text, until_text, wait_text}
 use Rattle.pattern_images.specs.declared.query.Query.{Query}
-use Rattle.session_core.specs.Answers.{IsAnswer, IsAnswered, IsSearchText, View}
+use Rattle.session_core.specs.Answers.{IsAnswer, IsSearchText}
 use Rattle.node_position.specs.Games.{Game}
 use Rattle.search_run.specs.Course.{Finding, ImportCourse, IsImported, losses_of, trees_in}
-use Rattle.search_run.specs.Lawful.{AreSearchTexts, IsAwaited, IsNamed, IsPassed, IsTextOf, State, after_import, joined, last_of, view_at, waiting_text, with_floor}
+use Rattle.search_run.specs.Lawful.{AreSearchTexts, IsNamed, IsTextOf, State, after_import, joined, last_of, view_at, waiting_text, with_floor}
 use Rattle.search_run.specs.Log.{games_in, segments_of}
 use Rattle.search_run.specs.Outcome.{counts_of}
 use Rattle.search_run.specs.Run.{serial_rules}
@@ -59,10 +57,10 @@ greatest-le s [] greatest text h = rw h.0 (omega arith)
 greatest-le s (p ∷ ps) greatest text h = rw h.7 (max-le h.4.to (greatest-le s ps h.2 h.3 h.6))
 
 -- a floor that is at most the last version
-floor-named : (s : State) (n : ℕ) → s.floor ≤ last_of s → n ≤ last_of s → max s.floor n ≤ last_of s
+pub floor-named : (s : State) (n : ℕ) → s.floor ≤ last_of s → n ≤ last_of s → max s.floor n ≤ last_of s
 floor-named s n floor named = max-le floor named
 
-floor-joined : (waiting : Option (List ℕ)) (floor last : ℕ) → floor ≤ last → option_map_or (λ report. last) waiting floor ≤ last
+pub floor-joined : (waiting : Option (List ℕ)) (floor last : ℕ) → floor ≤ last → option_map_or (λ report. last) waiting floor ≤ last
 floor-joined None floor last le = le
 floor-joined (Some report) floor last le = omega arith
 

@@ -1,5 +1,5 @@
 -- What the code keeps of an import, as what was found.
-use Rattle.std.specs.Prelude.{◌≡◌, ℕ, List, [], map, string_bytes}
+use Rattle.std.specs.Prelude.{◌≡◌, List, [], map, string_bytes}
 use Rattle.node_position.specs.Games.{Game}
 use Rattle.session_core.specs.Games.{games_of}
 use Rattle.search_run.specs.Course.{FileReport, Files, Finding, ImportFile, TooMany, Unlisted, games_of_files, reports_of}

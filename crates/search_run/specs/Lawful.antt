@@ -1,7 +1,8 @@
 -- What a run of a script prints: where it stands, what each statement prints and where it leads,
 -- and the lawful outputs.
-use Rattle.std.specs.Prelude.{◌≡◌, ◌⊎◌, ℕ, ◌+◌, ◌≤◌, max, Bool, IsTrue, List, [], ◌∷◌, ◌++◌, length, Option, Some, None}
+use Rattle.std.specs.Prelude.{◌≡◌, ◌⊎◌, ℕ, ◌≤◌, max, Bool, IsTrue, List, [], ◌∷◌, ◌++◌, length, Option, Some, None}
 use Rattle.std.specs.Option.{option_map_or}
+use mathlib.Core.List.{IsPrefix}
 use Rattle.kb_edges.specs.Files.{File}
 use Rattle.query_script.specs.declared.statement.Placed.{Placed}
 use Rattle.query_script.specs.declared.statement.PlacedSearch.{PlacedSearch}
@@ -121,10 +122,6 @@ abbrev pub IsLawful : List File → Rules → List ImportCourse → List Placed 
 IsLawful files rules course placed out =
     (s : State) × (text : List ℕ) × HasPrinted files rules course placed s text
     × (out ≡ text ++ waiting_text s)
-
--- the text is a prefix of the whole
-abbrev pub IsPrefix : List ℕ → List ℕ → Type 0
-IsPrefix text whole = (rest : List ℕ) × (whole ≡ text ++ rest)
 
 -- the text of a statement; that of an import is known before the folder is asked
 abbrev pub IsTextOf : List File → Rules → State → ℕ → Statement → List ℕ → Type 0

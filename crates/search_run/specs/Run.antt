@@ -1,10 +1,11 @@
 -- What a run of a script leaves: what it wrote, and what it lost to faults of the folder.
 use Rattle.std.specs.Prelude.{◌≡◌, ℕ, List, ◌++◌, Option, Some, true}
+use mathlib.Core.List.{IsPrefix}
 use Rattle.kb_edges.specs.Faults.{RoseBy}
 use Rattle.kb_edges.specs.Files.{File}
 use Rattle.query_script.specs.declared.statement.Placed.{Placed}
 use Rattle.search_run.specs.Course.{ImportCourse, losses_of}
-use Rattle.search_run.specs.Lawful.{HasPrinted, IsBegun, IsLawful, Rules, State}
+use Rattle.search_run.specs.Lawful.{HasPrinted, IsLawful, Rules, State}
 use Rattle.search_run.specs.Steps.{IsKept, Kept}
 
 -- how a run on one thread names versions: 64 files make one
@@ -31,11 +32,13 @@ pub record WritesLawful (files : List File) (placed : List Placed) (before : Lis
   pub written_is : written ≡ Some (before ++ text)
   pub paid : RoseBy (losses_of course) faults_before faults_now
 
--- A begun text of these statements was written, by a course whose losses are at most the rise of the
--- folder's count.
-pub record WritesBegun (files : List File) (placed : List Placed) (before : List ℕ) (written : Option (List ℕ)) (faults_before faults_now : ℕ) : Type 0 where
+-- A prefix of a lawful output of these statements was written, and the losses of its course are at
+-- most the rise of the folder's count.
+pub record WritesPrefix (files : List File) (placed : List Placed) (before : List ℕ) (written : Option (List ℕ)) (faults_before faults_now : ℕ) : Type 0 where
   pub course : List ImportCourse
+  pub whole : List ℕ
+  pub lawful : IsLawful files serial_rules course placed whole
   pub text : List ℕ
-  pub begun : IsBegun files serial_rules course placed text
+  pub prefix : IsPrefix text whole
   pub written_is : written ≡ Some (before ++ text)
   pub paid : RoseBy (losses_of course) faults_before faults_now

@@ -3,7 +3,7 @@ use Rattle.std.specs.Prelude.{◌≡◌, ◌++◌, ℕ, List, Option, Some}
 use Rattle.kb_edges.specs.Files.{File}
 use Rattle.search_run.specs.Course.{ImportCourse, losses_of}
 use Rattle.search_run.specs.Lawful.{IsLawful}
-use Rattle.search_run.specs.Run.{WritesBegun, WritesLawful, serial_rules}
+use Rattle.search_run.specs.Run.{WritesLawful, WritesPrefix, serial_rules}
 use Rattle.search_run.specs.Script.{IsScript}
 use Rattle.query_script.specs.declared.statement.Placed.{Placed}
 use Rattle.search_run.specs.declared.status.Status.{Status}
@@ -26,11 +26,12 @@ pub record PrintsAll (script : List ℕ) (files : List File) (before : List ℕ)
   pub written_is : written ≡ Some (before ++ text)
   pub nothing_lost : losses_of course ≡ 0
 
--- A begun text for the script's statements was written, by a course whose losses are at most the rise of the folder's count.
-pub record Begins (script : List ℕ) (files : List File) (before : List ℕ) (written : Option (List ℕ)) (faults_before faults_now : ℕ) : Type 0 where
+-- A prefix of a lawful output for the script's statements was written, and the losses of its course are at most the rise of the
+-- folder's count.
+pub record PrintsPrefix (script : List ℕ) (files : List File) (before : List ℕ) (written : Option (List ℕ)) (faults_before faults_now : ℕ) : Type 0 where
   pub placed : List Placed
   pub spelled : IsScript script placed
-  pub begun : WritesBegun files placed before written faults_before faults_now
+  pub begun : WritesPrefix files placed before written faults_before faults_now
 
 -- the run ended before the first statement
 abbrev pub IsEarly : Status → Type 0

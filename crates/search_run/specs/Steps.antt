@@ -1,6 +1,7 @@
 -- One statement of a run on one thread: words of the private functions.
 use Rattle.std.specs.Prelude.{◌≡◌, ◌⊎◌, ℕ, ◌≤◌, List, [], ◌∷◌, ◌++◌, Option, Some, None}
 use Rattle.std.specs.Option.{option_map_or}
+use mathlib.Core.List.{IsPrefix}
 use Rattle.kb_edges.specs.Faults.{RoseBy}
 use Rattle.kb_edges.specs.Files.{File}
 use Rattle.query_script.specs.declared.statement.Placed.{Placed}
@@ -9,7 +10,7 @@ use Rattle.query_script.specs.declared.statement.Statement.{Statement}
 use Rattle.session_core.specs.Answers.{IsSearchText, View}
 use Rattle.node_position.specs.Games.{Game}
 use Rattle.search_run.specs.Course.{ImportCourse, losses_of}
-use Rattle.search_run.specs.Lawful.{IsPassed, IsPrefix, IsTextOf, Rules, State, last_of}
+use Rattle.search_run.specs.Lawful.{IsPassed, IsTextOf, Rules, State, last_of}
 use Rattle.search_run.specs.Log.{games_in}
 
 -- what the code keeps of a state: the number and the games of the last version, and the report that

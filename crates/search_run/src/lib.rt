@@ -18,7 +18,11 @@ mod status;
 mod write;
 
 pub use import::import_one;
-pub use laws::an_import_has_a_list_of_names;
+pub use laws::{
+    a_begun_text_is_a_prefix_of_a_lawful_output, a_file_has_one_outcome,
+    a_run_on_one_thread_without_a_loss_has_one_output, an_import_has_one_list_of_names,
+    an_import_without_a_loss_finds_one_thing, each_script_has_a_lawful_output,
+};
 pub use outcome::{Counts, FileOutcome, MAX_BASE_NODES};
 pub use serial::run_serial;
 pub use session_core::MAX_BASE_GAMES;

@@ -2,7 +2,7 @@
 ghost use Rattle.std.specs.Prelude.{◌≡◌, ◌≤◌, ◌<◌, ◌+◌, ◌^◌, IsErrOf, OnErr, OnOk, length};
 ghost use Rattle.kb_edges.specs.Faults.{Rose};
 ghost use Rattle.kb_edges.specs.Told.{IfTold};
-ghost use Rattle.search_run.specs.Run.{WritesBegun, WritesLawful, serial_rules};
+ghost use Rattle.search_run.specs.Run.{WritesLawful, WritesPrefix, serial_rules};
 ghost use Rattle.search_run.specs.Steps.{PassesStatement, StopsInStatement};
 
 use crate::standing::Standing;
@@ -56,7 +56,7 @@ pub(crate) fn run_statements<F: Folder, K: Sink>(
     ensures lawful { IfTold (F.files folder.old) (λ files. IfTold (K.written out.old) (λ before. OnOk result
         (WritesLawful files placed.now before (K.written out.new) (F.faults folder.old) (F.faults folder.new)))) }
     ensures begun { IfTold (F.files folder.old) (λ files. IfTold (K.written out.old) (λ before. OnErr result
-        (WritesBegun files placed.now before (K.written out.new) (F.faults folder.old) (F.faults folder.new)))) }
+        (WritesPrefix files placed.now before (K.written out.new) (F.faults folder.old) (F.faults folder.new)))) }
     ensures sink_fault { IsErrOf result Stopped.SinkFault → Rose (K.faults out.old) (K.faults out.new) }
     ensures same { F.files folder.new ≡ F.files folder.old }
     ensures later { F.faults folder.old ≤ F.faults folder.new }

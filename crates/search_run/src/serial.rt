@@ -3,7 +3,7 @@ ghost use Rattle.std.specs.Prelude.{◌≡◌, ◌≢◌, ◌≤◌, ◌+◌, �
 ghost use Rattle.kb_edges.specs.Faults.{Rose};
 ghost use Rattle.kb_edges.specs.Files.{File};
 ghost use Rattle.search_run.specs.Script.{IsBad, IsInGrammar};
-ghost use Rattle.search_run.specs.Serial.{Begins, IsEarly, Prints, PrintsAll};
+ghost use Rattle.search_run.specs.Serial.{IsEarly, Prints, PrintsAll, PrintsPrefix};
 ghost use Rattle.search_run.specs.declared.status.Status.{Status};
 
 use crate::read::{ReadScriptError, read_text};
@@ -49,9 +49,9 @@ pub fn run_serial<F: Folder, S: Source, K: Sink>(
     ensures done { (bytes : List ℕ) (files : List File) (before : List ℕ) → S.left script.old ≡ Some bytes → F.files folder ≡ Some files → K.written out.old ≡ Some before →
         result.0 ≡ Status.Done → Prints bytes files before (K.written out.new) (F.faults folder) (F.faults result.1) }
     ensures stopped { (bytes : List ℕ) (files : List File) (before : List ℕ) → S.left script.old ≡ Some bytes → F.files folder ≡ Some files → K.written out.old ≡ Some before →
-        result.0 ≡ Status.SinkFault → Begins bytes files before (K.written out.new) (F.faults folder) (F.faults result.1) }
+        result.0 ≡ Status.SinkFault → PrintsPrefix bytes files before (K.written out.new) (F.faults folder) (F.faults result.1) }
     ensures no_memory { (bytes : List ℕ) (files : List File) (before : List ℕ) → S.left script.old ≡ Some bytes → F.files folder ≡ Some files → K.written out.old ≡ Some before →
-        result.0 ≡ Status.NoMemory → (K.written out.new ≡ Some before) × (result.1 ≡ folder) ⊎ Begins bytes files before (K.written out.new) (F.faults folder) (F.faults result.1) }
+        result.0 ≡ Status.NoMemory → (K.written out.new ≡ Some before) × (result.1 ≡ folder) ⊎ PrintsPrefix bytes files before (K.written out.new) (F.faults folder) (F.faults result.1) }
 
     // Where nothing fails, the run is done, or memory was wanted. Where the folder doesn't fail, nothing is lost.
     ensures complete { (bytes : List ℕ) → S.left script.old ≡ Some bytes → words.now ≡ [] → IsInGrammar bytes →

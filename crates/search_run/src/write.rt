@@ -1,8 +1,8 @@
 // Writing a text whole.
+ghost use mathlib.Core.List.{IsPrefix};
 ghost use Rattle.std.specs.Prelude.{◌≡◌, ◌≤◌, ◌++◌, ℕ, List, Some, IsErrOf, OnErr, OnOk};
 ghost use Rattle.kb_edges.specs.Faults.{Rose};
 ghost use Rattle.kb_edges.specs.Told.{IfTold};
-ghost use Rattle.search_run.specs.Lawful.{IsPrefix};
 
 use kb_edges::{Sink, SinkError};
 

@@ -38,7 +38,7 @@ module _ (line : ℕ) (view : View) (trees : All (λ (g : Game). IsTree g.tree) 
       let table = some_table hits.0 in
       (search_text line view.version (length view.games) hits.0 table.0, record { hits = hits.0; table = table.0; are_hits = hits.1; is_table = table.1; text_is = refl })
 
-  search-one : (query : Query) (a b : List ℕ) → IsSearchText line view query a → IsSearchText line view query b → a ≡ b
+  pub search-one : (query : Query) (a b : List ℕ) → IsSearchText line view query a → IsSearchText line view query b → a ≡ b
   search-one query a b one other =
       let hits = hits-unique 0 query view.games view.games one.hits other.hits trees one.are_hits other.are_hits refl in
       let table = one_table other.hits one.table other.table (subst (λ hs. IsTable hs one.table) hits one.is_table) other.is_table in

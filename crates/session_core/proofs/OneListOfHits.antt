@@ -20,22 +20,8 @@ use Rattle.pattern_images.proofs.OneList.{one_list}
 use Rattle.continuation_table.proofs.OneContinuation.{one_continuation}
 use Rattle.line_matcher.specs.declared.occurrence.Occurrence.{Occurrence}
 use Rattle.line_matcher.specs.Occurrences.{occurrences_in}
+use Rattle.session_core.proofs.LastItems.{push_not_nil, push_same}
 use Rattle.session_core.specs.Hits.{AreGameHits, AreHitsFrom, AreHitsIn, AreHitsOf, GoesOn, IsHit, LooksAt}
-
--- ---- lists that end with an element
-
-push_not_nil : {A : Type 0} (xs : List A) (x : A) → [] ≡ xs ++ x ∷ [] → ⊥
-push_not_nil [] x e = cc
-push_not_nil (y ∷ ys) x e = cc
-
-push_same : {A : Type 0} (xs ys : List A) (x y : A) → xs ++ x ∷ [] ≡ ys ++ y ∷ [] → (xs ≡ ys) × (x ≡ y)
-push_same [] [] x y e = (refl, cc)
-push_same [] (b ∷ ys) x y e = absurd (push_not_nil ys y (cc))
-push_same (a ∷ xs) [] x y e = absurd (push_not_nil xs x (cc))
-push_same (a ∷ xs) (b ∷ ys) x y e =
-    let heads : a ≡ b = cc in
-    let rest = push_same xs ys x y (cc) in
-    (λ i. heads i ∷ rest.0 i, rest.1)
 
 -- ---- the hit of an occurrence
 

@@ -1,6 +1,6 @@
-use Rattle.std.specs.Prelude.{count_by, length, string_bytes}
+use Rattle.std.specs.Prelude.{string_bytes}
 use Rattle.search_run.specs.Imported.{file_reports}
-use Rattle.search_run.specs.Texts.{counts_head, counts_tail, is_accepted, is_full, is_refused, is_unread}
+use Rattle.search_run.specs.Texts.{counts_head, counts_tail}
 use Rattle.search_run.proofs.PrintLemmas.{appended_twice}
 use Rattle.search_run.proofs.print.print_counts.Goals as goal
 

@@ -1,4 +1,4 @@
-use Rattle.std.proofs.Common.{◌≡◌, ◌≤◌, ◌++◌, ◌-◌, ◌+◌, List, ℕ, Some, length, vec_len}
+use Rattle.std.proofs.Common.{◌≡◌, ◌≤◌, ◌++◌, ◌-◌, List, ℕ, Some, length, vec_len}
 use Rattle.kb_edges.specs.Told.{IfTold}
 use Rattle.search_run.proofs.read.read_text.Given as goal
 

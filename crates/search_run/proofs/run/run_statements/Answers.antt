@@ -1,6 +1,6 @@
 use Rattle.std.proofs.Common.{◌≡◌, ◌++◌, ◌∙◌, ◌∷◌, [], append-nil, arith, drop, refl, suc, sym, take}
 use Rattle.std.proofs.lemmas.List.{take_all}
-use Rattle.search_run.proofs.RunLemmas.{HasRun-more, HasRun-start, WritesBegun-stopped, WritesLawful-end, after_error, next_prefix, split_here, taken_more}
+use Rattle.search_run.proofs.RunLemmas.{HasRun-more, HasRun-start, WritesPrefix-stopped, WritesLawful-end, after_error, next_prefix, split_here, taken_more}
 use Rattle.search_run.proofs.StatementLemmas.{waiting_is}
 use Rattle.search_run.proofs.run.run_statements.Goals as goal
 
@@ -11,7 +11,7 @@ returns-in_err-run_statement-clause-begun g c = λ files told before written.
     let p = c.statement-item.result in
     let h = c.loop-statement.invariant.run files told before written in
     let stop = c.in_err-run_statement.ensures.stopped (before ++ h.text) h.written_is in
-    after_error _ _ (WritesBegun-stopped files placed (take i placed) (p ∷ drop (suc i) placed) c.loop-statement.standing before stop.more _ _ _ _ _ h (split_here placed i p c.loop-statement-test.true c.statement-item.is) (next_prefix files h.state c.loop-statement.standing p (drop (suc i) placed) stop.more h.is_kept stop.prefix) stop.written_is c.in_err-run_statement.ensures.later)
+    after_error _ _ (WritesPrefix-stopped files placed (take i placed) (p ∷ drop (suc i) placed) c.loop-statement.standing before stop.more _ _ _ _ _ h (split_here placed i p c.loop-statement-test.true c.statement-item.is) (next_prefix files h.state c.loop-statement.standing p (drop (suc i) placed) stop.more h.is_kept stop.prefix) stop.written_is c.in_err-run_statement.ensures.later)
 
 pub loop-statement-init : goal.loop-statement-init
 loop-statement-init g c = record {
@@ -44,7 +44,7 @@ returns-in_err-write_all-clause-begun g c = λ files told before written.
     let h = c.loop-statement.invariant.run files told before written in
     let part = c.in_err-write_all.ensures.part (before ++ h.text) h.written_is in
     let all : take i placed ≡ placed = take_all i placed (omega arith) in
-    after_error _ _ (WritesBegun-stopped files placed (take i placed) [] c.loop-statement.standing before part.0 _ _ _ _ _ h (sym (append-nil (take i placed) ∙ all)) (rw (c.report.ensures, waiting_is h.state c.loop-statement.standing h.is_kept) at part.1) part.2 (omega arith))
+    after_error _ _ (WritesPrefix-stopped files placed (take i placed) [] c.loop-statement.standing before part.0 _ _ _ _ _ h (sym (append-nil (take i placed) ∙ all)) (rw (c.report.ensures, waiting_is h.state c.loop-statement.standing h.is_kept) at part.1) part.2 (omega arith))
 
 pub returns-clause-lawful : goal.returns-clause-lawful
 returns-clause-lawful g c = λ files told before written.

@@ -1,4 +1,4 @@
-use Rattle.std.proofs.Common.{refl, sym, ap, ◌∙◌, ◌+◌, ◌++◌}
+use Rattle.std.proofs.Common.{sym, ap, ◌∙◌, ◌+◌, ◌++◌}
 use Rattle.node_position.specs.Games.{Game}
 use Rattle.session_core.specs.Games.{games_of}
 use Rattle.std.specs.Prelude.{List, ℕ, string_bytes}
