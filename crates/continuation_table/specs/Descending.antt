@@ -26,5 +26,5 @@ abbrev pub AreAllowed : Shape → Placement → List Change → Type 0
 AreAllowed shape placement changes = All (AllowsChange shape placement) changes
 
 -- the point lies in the rectangle of the place
-abbrev pub IsWithin : Place → Point → Type 0
-IsWithin place p = (place.x ≤ p.x) × (p.x < place.x + place.cols) × (place.y ≤ p.y) × (p.y < place.y + place.rows)
+abbrev pub IsInPlace : Place → Point → Type 0
+IsInPlace place p = (place.x ≤ p.x) × (p.x < place.x + place.cols) × (place.y ≤ p.y) × (p.y < place.y + place.rows)

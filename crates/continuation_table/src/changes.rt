@@ -5,7 +5,7 @@ ghost use Rattle.kb_geometry.specs.Board.{point_count};
 ghost use Rattle.capture_board.specs.Deltas.{node_count, parent_of};
 ghost use Rattle.pattern_images.specs.ImageList.{IsPlaceOf, IsPlacedOn, placement_at};
 ghost use Rattle.continuation_table.specs.Continuation.{HoldsAt};
-ghost use Rattle.continuation_table.specs.Descending.{AllowsAt, AreAllowed, IsWithin};
+ghost use Rattle.continuation_table.specs.Descending.{AllowsAt, AreAllowed, IsInPlace};
 
 use crate::allowing::allows;
 use capture_board::NodeDeltas;
@@ -14,7 +14,7 @@ use pattern_images::{Images, Place};
 
 // Whether the point lies in the rectangle of a place.
 pub(crate) fn covers(place: Place, p: Point) -> bool
-    ensures { IsTrue result ↔ IsWithin place p }
+    ensures { IsTrue result ↔ IsInPlace place p }
 {
     p.x >= place.x && p.x - place.x < place.cols && p.y >= place.y && p.y - place.y < place.rows
 }

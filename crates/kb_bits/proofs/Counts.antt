@@ -10,7 +10,7 @@ use Rattle.std.proofs.lemmas.List.Sums.{length-filter, count_by-le-length}
 use Rattle.std.proofs.lemmas.Bool.{ne_eqb}
 use Rattle.kb_bits.specs.declared.bit_board.TheConstants.{BOUND}
 use Rattle.kb_bits.specs.Members.{numbers_below}
-use Rattle.kb_bits.specs.Words.{bit_of, has_bit, members, AreWords}
+use Rattle.kb_bits.specs.Words.{bit_of, has_bit, members, AreWordsOf}
 use Rattle.kb_bits.specs.WordLaws.{bit_of-place}
 
 -- ---- one number more
@@ -80,7 +80,7 @@ numbers_in_word words k (suc w) le =
     let more' = rw one at more in
     rw e (omega arith)
 
-module _ (words : List ℕ) (used : ℕ) (held : AreWords words used) where
+module _ (words : List ℕ) (used : ℕ) (held : AreWordsOf words used) where
   -- one word more
   pub count-more : (k : ℕ) → length (numbers_below ((k + 1) * 64) (has_bit words)) ≡ length (numbers_below (k * 64) (has_bit words)) + ones (slice_index words k)
   count-more k =

@@ -6,7 +6,7 @@ use Rattle.std.proofs.lemmas.Nat.{one_shl, pow_below}
 use Rattle.std.proofs.lemmas.Nat.Bits.{bit_at-zero, bit_at_ones, bit_at_ones_above}
 use Rattle.std.proofs.lemmas.Bool.{cases_lt, cases_eq, cases_order}
 use Rattle.kb_bits.specs.declared.bit_board.TheConstants.{BOUND, WORDS}
-use Rattle.kb_bits.specs.Words.{bit_of, members, AreWords}
+use Rattle.kb_bits.specs.Words.{bit_of, members, AreWordsOf}
 use Rattle.kb_bits.specs.WordLaws.{member_from_bit, bit_from_member}
 use Rattle.kb_bits.proofs.OneBit.{word-same, word-other}
 use Rattle.kb_bits.proofs.Readings.{zero_words}
@@ -89,7 +89,7 @@ module _ (words : List ℕ) (n full rest : ℕ) (at : full ≡ n / 64) (over : r
 
   -- how many words are in use
   module _ (bound : n ≤ BOUND) where
-    pub AreWords-whole : rest ≡ 0 → AreWords words full
+    pub AreWords-whole : rest ≡ 0 → AreWordsOf words full
     AreWords-whole none = record {
       count = filled.count;
       fits = word-fits;
@@ -102,7 +102,7 @@ module _ (words : List ℕ) (n full rest : ℕ) (at : full ≡ n / 64) (over : r
       bounded = λ m le. bit-from m (omega arith);
     }
 
-    pub AreWords-part : 0 < rest → AreWords words (full + 1)
+    pub AreWords-part : 0 < rest → AreWordsOf words (full + 1)
     AreWords-part some = record {
       count = filled.count;
       fits = word-fits;

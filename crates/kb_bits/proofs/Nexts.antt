@@ -5,12 +5,12 @@ use Rattle.std.proofs.lemmas.Nat.{shr_le}
 use Rattle.std.proofs.lemmas.Nat.Bits.{bit_at-zero, bit_at_above, bit_at-trailing_zeros}
 use Rattle.std.proofs.lemmas.Bool.{cases_lt}
 use Rattle.kb_bits.specs.Members.{IsNextFrom}
-use Rattle.kb_bits.specs.Words.{members, AreWords}
+use Rattle.kb_bits.specs.Words.{members, AreWordsOf}
 use Rattle.kb_bits.specs.WordLaws.{bit_of-place, member_from_bit, bit_from_member}
 use Rattle.kb_bits.proofs.JoinedWords.{bit_at-shr}
 use Rattle.kb_bits.proofs.Readings.{no_member}
 
-module _ (words : List ℕ) (used n first : ℕ) (held : AreWords words used) (at : first ≡ n / 64) where
+module _ (words : List ℕ) (used n first : ℕ) (held : AreWordsOf words used) (at : first ≡ n / 64) where
   -- no word from that of the number on is in use
   pub none-behind : used ≤ first → (m : ℕ) → Contains (members words) m → m < n
   none-behind le m h =

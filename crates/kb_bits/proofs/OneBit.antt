@@ -6,7 +6,7 @@ use Rattle.std.proofs.lemmas.Nat.{or_lt, and_le_l}
 use Rattle.std.proofs.lemmas.Nat.Bits.{bit_at-zero, bit_at_set_same, bit_at_set_other, bit_at_clear_same, bit_at_clear_other}
 use Rattle.std.proofs.lemmas.Bool.{cases_lt, cases_eq}
 use Rattle.kb_bits.specs.declared.bit_board.TheConstants.{BOUND}
-use Rattle.kb_bits.specs.Words.{bit_of, members, AreWords}
+use Rattle.kb_bits.specs.Words.{bit_of, members, AreWordsOf}
 use Rattle.kb_bits.specs.WordLaws.{member_from_bit, bit_from_member}
 
 -- a word with a set bit isn't 0
@@ -52,7 +52,7 @@ with_bit word n = bit_or word (1 * 2 ^ (n % 64) % 2 ^ 64)
 abbrev pub without_bit : ℕ → ℕ → ℕ
 without_bit word n = bit_and word (2 ^ 64 - 1 - 1 * 2 ^ (n % 64) % 2 ^ 64)
 
-module _ (words : List ℕ) (used n k : ℕ) (held : AreWords words used) (lt : n < BOUND) (at : k ≡ n / 64) where
+module _ (words : List ℕ) (used n k : ℕ) (held : AreWordsOf words used) (lt : n < BOUND) (at : k ≡ n / 64) where
   inside : k < length words
   inside = omega (arith, held.count)
 
@@ -85,7 +85,7 @@ module _ (words : List ℕ) (used n k : ℕ) (held : AreWords words used) (lt : 
   with_behind : (now : ℕ) → now ≡ max used (k + 1) → (j : ℕ) → now ≤ j → slice_index (set words k (with_bit (slice_index words k) n)) j ≡ 0
   with_behind now most j le = word-other words k (with_bit (slice_index words k) n) inside j (λ e. omega arith) ∙ held.behind j (omega arith)
 
-  pub AreWords-with : (now : ℕ) → now ≡ max used (k + 1) → AreWords (set words k (with_bit (slice_index words k) n)) now
+  pub AreWords-with : (now : ℕ) → now ≡ max used (k + 1) → AreWordsOf (set words k (with_bit (slice_index words k) n)) now
   AreWords-with now most = record {
     count = length-set words k (with_bit (slice_index words k) n) ∙ held.count;
     fits = with_fits;
@@ -137,7 +137,7 @@ module _ (words : List ℕ) (used n k : ℕ) (held : AreWords words used) (lt : 
       ]
 
   -- as many words are in use as before, where the word isn't the last of them
-  pub AreWords-without_same : k + 1 ≢ used → AreWords (set words k (without_bit (slice_index words k) n)) used
+  pub AreWords-without_same : k + 1 ≢ used → AreWordsOf (set words k (without_bit (slice_index words k) n)) used
   AreWords-without_same apart = record {
     count = length-set words k (without_bit (slice_index words k) n) ∙ held.count;
     fits = without_fits;
@@ -148,7 +148,7 @@ module _ (words : List ℕ) (used n k : ℕ) (held : AreWords words used) (lt : 
   }
 
   -- fewer are in use, where those behind are 0
-  pub AreWords-without_last : k + 1 ≡ used → (now : ℕ) → now ≤ k + 1 → ((j : ℕ) → now ≤ j → j < k + 1 → slice_index (set words k (without_bit (slice_index words k) n)) j ≡ 0) → ((j : ℕ) → j + 1 ≡ now → 0 < slice_index (set words k (without_bit (slice_index words k) n)) j) → AreWords (set words k (without_bit (slice_index words k) n)) now
+  pub AreWords-without_last : k + 1 ≡ used → (now : ℕ) → now ≤ k + 1 → ((j : ℕ) → now ≤ j → j < k + 1 → slice_index (set words k (without_bit (slice_index words k) n)) j ≡ 0) → ((j : ℕ) → j + 1 ≡ now → 0 < slice_index (set words k (without_bit (slice_index words k) n)) j) → AreWordsOf (set words k (without_bit (slice_index words k) n)) now
   AreWords-without_last same now fewer zeros last = record {
     count = length-set words k (without_bit (slice_index words k) n) ∙ held.count;
     fits = without_fits;

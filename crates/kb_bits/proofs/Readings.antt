@@ -5,7 +5,7 @@ use Rattle.std.proofs.lemmas.List.{get_or-replicate, get_or_past, length-replica
 use Rattle.std.proofs.lemmas.Nat.Bits.{bit_at-zero, shr_and_one}
 use Rattle.std.proofs.lemmas.Bool.{cases_lt, ltb-true, eqb-true, eq-eqb}
 use Rattle.kb_bits.specs.declared.bit_board.TheConstants.{WORDS}
-use Rattle.kb_bits.specs.Words.{bit_of, members, AreWords}
+use Rattle.kb_bits.specs.Words.{bit_of, members, AreWordsOf}
 use Rattle.kb_bits.specs.MemberLaws.{Contains-head}
 use Rattle.kb_bits.specs.WordLaws.{member_from_bit, bit_from_member}
 
@@ -29,7 +29,7 @@ pub members-none : (words : List ℕ) → ((k : ℕ) → slice_index words k ≡
 members-none words none = nil_from_no_member (members words) (λ m h. no_member words m (none (m / 64)) h)
 
 -- words that are 0 are those of the empty set
-pub AreWords-zero : (words : List ℕ) → length words ≡ WORDS → ((k : ℕ) → slice_index words k ≡ 0) → AreWords words 0
+pub AreWords-zero : (words : List ℕ) → length words ≡ WORDS → ((k : ℕ) → slice_index words k ≡ 0) → AreWordsOf words 0
 AreWords-zero words count zero = record {
   count = count;
   fits = λ k. rw (zero k) (omega arith);
@@ -39,10 +39,10 @@ AreWords-zero words count zero = record {
   bounded = λ n le. ap (λ (w : ℕ). bit_at w (n % 64)) (zero (n / 64)) ∙ bit_at-zero (n % 64);
 }
 
-pub AreWords-none : AreWords (replicate WORDS 0) 0
+pub AreWords-none : AreWordsOf (replicate WORDS 0) 0
 AreWords-none = AreWords-zero (replicate WORDS 0) (length-replicate {A = ℕ} WORDS 0) (zero_words WORDS)
 
-module _ (words : List ℕ) (used n k : ℕ) (held : AreWords words used) (at : k ≡ n / 64) where
+module _ (words : List ℕ) (used n k : ℕ) (held : AreWordsOf words used) (at : k ≡ n / 64) where
   -- the bit that the code reads
   read : bit_and (slice_index words k / 2 ^ (n % 64)) 1 ≡ bit_of words n
   read = shr_and_one (slice_index words k) (n % 64) ∙ ap (λ (j : ℕ). bit_at (slice_index words j) (n % 64)) at

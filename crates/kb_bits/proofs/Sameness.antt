@@ -5,7 +5,7 @@ use Rattle.std.proofs.lemmas.Nat.Bits.{bit_at-lt, same_from_bits_below}
 use Rattle.std.proofs.lemmas.Slice.Eq.{bytes_eq-Decides}
 use Rattle.std.proofs.lemmas.Bool.{false≢true, cases_lt}
 use Rattle.std.proofs.lemmas.Bool.Decides.{same_from_decides}
-use Rattle.kb_bits.specs.Words.{bit_of, members, AreWords}
+use Rattle.kb_bits.specs.Words.{bit_of, members, AreWordsOf}
 use Rattle.kb_bits.specs.WordLaws.{bit_of-place, member_from_bit, bit_from_member}
 
 -- two bits are the same where the one is set just where the other is
@@ -14,7 +14,7 @@ same_bits zero zero _ _ _ _ = refl
 same_bits zero (suc b) _ lt _ back = let h = back (omega arith) in omega arith
 same_bits (suc a) b lt _ forth _ = let h = forth (omega arith) in omega arith
 
-module _ (xs ys : List ℕ) (m n : ℕ) (first : AreWords xs m) (second : AreWords ys n) where
+module _ (xs ys : List ℕ) (m n : ℕ) (first : AreWordsOf xs m) (second : AreWordsOf ys n) where
   bit_same : members xs ≡ members ys → (k : ℕ) → bit_of xs k ≡ bit_of ys k
   bit_same e k =
       same_bits (bit_of xs k) (bit_of ys k) (bit_at-lt _ _) (bit_at-lt _ _)
@@ -41,7 +41,7 @@ module _ (xs ys : List ℕ) (m n : ℕ) (first : AreWords xs m) (second : AreWor
   same_members e same = ap members (ext_get_or 0 xs ys (omega (arith, first.count, second.count)) (λ j lt. word_same e same j))
 
 -- no more words are in use than of a set with the same words
-counts_le : (xs ys : List ℕ) (m n : ℕ) → AreWords xs m → AreWords ys n
+counts_le : (xs ys : List ℕ) (m n : ℕ) → AreWordsOf xs m → AreWordsOf ys n
     → ((k : ℕ) → slice_index xs k ≡ slice_index ys k) → m ≤ n
 counts_le xs ys zero n first second same = omega arith
 counts_le xs ys (suc k) n first second same =
@@ -50,7 +50,7 @@ counts_le xs ys (suc k) n first second same =
       | inr le ↦ absurd (omega (arith, first.last k (omega arith), second.behind k le, same k))
     ]
 
-pub same_counts : (xs ys : List ℕ) (m n : ℕ) → AreWords xs m → AreWords ys n
+pub same_counts : (xs ys : List ℕ) (m n : ℕ) → AreWordsOf xs m → AreWordsOf ys n
     → members xs ≡ members ys → m ≡ n
 same_counts xs ys m n first second e =
     let same = word_with_bits xs ys m n first second e in

@@ -6,7 +6,7 @@ use Rattle.std.proofs.lemmas.Nat.{and_le_l}
 use Rattle.std.proofs.lemmas.Nat.Bits.{bit_at-zero, bit_at-lt, bit_at_and, bit_at_ones, bit_at_ones_above}
 use Rattle.std.proofs.lemmas.Bool.{cases_lt, cases_eq}
 use Rattle.kb_bits.specs.declared.bit_board.TheConstants.{BOUND, WORDS, LAST_WORD}
-use Rattle.kb_bits.specs.Words.{bit_of, members, AreWords, IsJoined}
+use Rattle.kb_bits.specs.Words.{bit_of, members, AreWordsOf, IsJoined}
 use Rattle.kb_bits.specs.WordLaws.{bit_of-place, member_from_bit, bit_from_member}
 use Rattle.kb_bits.proofs.OneBit.{word-same, word-other}
 use Rattle.kb_bits.proofs.Readings.{zero_words}
@@ -32,12 +32,12 @@ AreMoved-start xs skip bits = record {
   before_is = refl;
 }
 
-module _ (xs words : List ℕ) (skip bits k before : ℕ) (so_far : AreMoved xs words skip bits k before) (word next : ℕ) (is : word ≡ slice_index xs k) (joined : IsJoined word before bits next) (fits : next < 2 ^ 64) (room : skip + k < WORDS) where
+module _ (xs words : List ℕ) (skip bits k before : ℕ) (so_far : AreMoved xs words skip bits k before) (word next : ℕ) (is : word ≡ slice_index xs k) (joined_word : IsJoined word before bits next) (fits : next < 2 ^ 64) (room : skip + k < WORDS) where
   within : skip + k < length words
   within = omega (arith, so_far.count)
 
   moved_here : IsJoined (slice_index xs k) (slice_index (0 ∷ xs) k) bits (slice_index (set words (skip + k) next) (skip + k))
-  moved_here = rw (word-same words (skip + k) next within (skip + k) refl, ← is, ← so_far.before_is) joined
+  moved_here = rw (word-same words (skip + k) next within (skip + k) refl, ← is, ← so_far.before_is) joined_word
 
   pub AreMoved-more : AreMoved xs (set words (skip + k) next) skip bits (k + 1) word
   AreMoved-more = record {
@@ -71,7 +71,7 @@ IsJoined-zero bits = record {
   low = λ i j lt e. bit_at-zero i ∙ sym (bit_at-zero j);
 }
 
-module _ (xs : List ℕ) (used : ℕ) (held : AreWords xs used) (words : List ℕ) (skip bits k before : ℕ) (so_far : AreMoved xs words skip bits k before) where
+module _ (xs : List ℕ) (used : ℕ) (held : AreWordsOf xs used) (words : List ℕ) (skip bits k before : ℕ) (so_far : AreMoved xs words skip bits k before) where
   -- behind the words in use
   moved_behind : (j : ℕ) → used < j → k ≤ j → IsJoined (slice_index xs j) (slice_index (0 ∷ xs) j) bits (slice_index words (skip + j))
   moved_behind zero lt le = absurd (omega arith)
@@ -181,8 +181,8 @@ module _ (words : List ℕ) (count : length words ≡ WORDS) where
 
 -- ---- the shifted set
 
-module _ (xs : List ℕ) (used : ℕ) (held : AreWords xs used) (words : List ℕ) (skip bits end by now : ℕ) (narrow : bits < 64) (at : skip * 64 + bits ≡ by) (whole : IsMoved xs words skip bits end) (room : end ≤ WORDS) where
-  pub AreWords-cut : now ≤ end → ((j : ℕ) → now ≤ j → j < end → slice_index (cut words) j ≡ 0) → ((j : ℕ) → j + 1 ≡ now → 0 < slice_index (cut words) j) → AreWords (cut words) now
+module _ (xs : List ℕ) (used : ℕ) (held : AreWordsOf xs used) (words : List ℕ) (skip bits end by now : ℕ) (narrow : bits < 64) (at : skip * 64 + bits ≡ by) (whole : IsMoved xs words skip bits end) (room : end ≤ WORDS) where
+  pub AreWords-cut : now ≤ end → ((j : ℕ) → now ≤ j → j < end → slice_index (cut words) j ≡ 0) → ((j : ℕ) → j + 1 ≡ now → 0 < slice_index (cut words) j) → AreWordsOf (cut words) now
   AreWords-cut fewer zeros last = record {
     count = length-set words (WORDS - 1) (bit_and (slice_index words (WORDS - 1)) LAST_WORD) ∙ whole.count;
     fits = λ j. omega (arith, cut-le words whole.count j, whole.fits j);
@@ -222,8 +222,8 @@ module _ (xs : List ℕ) (used : ℕ) (held : AreWords xs used) (words : List �
 -- ---- the code's last steps
 
 -- whether one word more is joined behind the loop
-pub IsMoved-more : (xs : List ℕ) (used : ℕ) (held : AreWords xs used) (words : List ℕ) (skip bits k before next : ℕ) → AreMoved xs words skip bits k before → k ≡ min used (WORDS - skip) → IsJoined 0 before bits next → next < 2 ^ 64 → skip + k < WORDS → IsMoved xs (set words (skip + k) next) skip bits (skip + k + 1)
-IsMoved-more xs used held words skip bits k before next so_far kept joined fits room =
-    let more = AreMoved-more xs words skip bits k before so_far 0 next (sym (held.behind k (omega arith))) joined fits room in
+pub IsMoved-more : (xs : List ℕ) (used : ℕ) (held : AreWordsOf xs used) (words : List ℕ) (skip bits k before next : ℕ) → AreMoved xs words skip bits k before → k ≡ min used (WORDS - skip) → IsJoined 0 before bits next → next < 2 ^ 64 → skip + k < WORDS → IsMoved xs (set words (skip + k) next) skip bits (skip + k + 1)
+IsMoved-more xs used held words skip bits k before next so_far kept joined_word fits room =
+    let more = AreMoved-more xs words skip bits k before so_far 0 next (sym (held.behind k (omega arith))) joined_word fits room in
     let e : skip + (k + 1) ≡ skip + k + 1 = omega arith in
     rw e at (IsMoved-in_use xs used held (set words (skip + k) next) skip bits (k + 1) 0 more (omega arith))

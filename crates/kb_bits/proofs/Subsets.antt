@@ -4,7 +4,7 @@ use Rattle.std.specs.Int.{bit_at, w64, bit_not}
 use Rattle.std.proofs.lemmas.Nat.{and_le_l, le_or_l, le_or_r}
 use Rattle.std.proofs.lemmas.Nat.Bits.{bit_at-zero, bit_at-lt, bit_at_and, bit_at_not}
 use Rattle.std.proofs.lemmas.Bool.{cases_lt, cases_eq, eqb-true, eq-eqb}
-use Rattle.kb_bits.specs.Words.{bit_of, members, AreWords}
+use Rattle.kb_bits.specs.Words.{bit_of, members, AreWordsOf}
 use Rattle.kb_bits.specs.WordLaws.{bit_of-place, member_from_bit, bit_from_member, word_has_bit}
 use Rattle.kb_bits.proofs.Readings.{no_member}
 
@@ -35,7 +35,7 @@ TellsLacking-more xs ys k missing h = record {
       rw (before, here) refl;
 }
 
-module _ (xs ys : List ℕ) (m n : ℕ) (first : AreWords xs m) (second : AreWords ys n) where
+module _ (xs ys : List ℕ) (m n : ℕ) (first : AreWordsOf xs m) (second : AreWordsOf ys n) where
   -- the word lacks no bit that is set
   has_same_bit : (i : ℕ) → lacking (slice_index ys (i / 64)) (slice_index xs (i / 64)) ≡ 0 → bit_of ys i ≡ 1 → bit_of xs i ≡ 1
   has_same_bit i none one =

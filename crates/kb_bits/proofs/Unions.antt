@@ -6,7 +6,7 @@ use Rattle.std.proofs.lemmas.Nat.{or_lt, le_or_l, le_or_r}
 use Rattle.std.proofs.lemmas.Nat.Bits.{bit_at-lt, bit_at_or}
 use Rattle.std.proofs.lemmas.Bool.{cases_lt, cases_eq}
 use Rattle.kb_bits.specs.declared.bit_board.TheConstants.{WORDS}
-use Rattle.kb_bits.specs.Words.{bit_of, members, AreWords}
+use Rattle.kb_bits.specs.Words.{bit_of, members, AreWordsOf}
 use Rattle.kb_bits.specs.WordLaws.{member_from_bit, bit_from_member}
 use Rattle.kb_bits.proofs.OneBit.{word-same, word-other}
 use Rattle.kb_bits.proofs.Readings.{zero_words}
@@ -43,7 +43,7 @@ module _ (xs ys words : List ℕ) (k : ℕ) (so_far : AreUnited xs ys words k) (
 one_of_two : (x y : ℕ) → x < 2 → y < 2 → max x y ≡ 1 → (x ≡ 1) ⊎ (y ≡ 1)
 one_of_two x y p q e = elim (cases_eq x 1) [ inl one ↦ inl one | inr other ↦ inr (omega arith) ]
 
-module _ (xs ys : List ℕ) (m n : ℕ) (first : AreWords xs m) (second : AreWords ys n) (words : List ℕ) (used : ℕ) (most : used ≡ max m n) (all : AreUnited xs ys words used) where
+module _ (xs ys : List ℕ) (m n : ℕ) (first : AreWordsOf xs m) (second : AreWordsOf ys n) (words : List ℕ) (used : ℕ) (most : used ≡ max m n) (all : AreUnited xs ys words used) where
   word-united : (j : ℕ) → slice_index words j ≡ bit_or (slice_index xs j) (slice_index ys j)
   word-united j =
       elim (cases_lt j used) [
@@ -62,7 +62,7 @@ module _ (xs ys : List ℕ) (m n : ℕ) (first : AreWords xs m) (second : AreWor
         | inr other ↦ omega (arith, second.last j (omega arith), le_or_r (slice_index xs j) (slice_index ys j))
       ]
 
-  pub AreWords-united : AreWords words used
+  pub AreWords-united : AreWordsOf words used
   AreWords-united = record {
     count = all.count;
     fits = λ j. rw (word-united j) (or_lt 64 (slice_index xs j) (slice_index ys j) (first.fits j) (second.fits j));

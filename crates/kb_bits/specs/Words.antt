@@ -19,7 +19,7 @@ members words = numbers_below BOUND (has_bit words)
 
 -- The words of a set, of which the first used are in use: the last of these has a member, and those
 -- behind have none. No bit stands from the bound on.
-pub record AreWords (words : List ℕ) (used : ℕ) : Type 0 where
+pub record AreWordsOf (words : List ℕ) (used : ℕ) : Type 0 where
   pub count : length words ≡ WORDS
   pub fits : (k : ℕ) → slice_index words k < 2 ^ 64
   pub room : used ≤ WORDS
@@ -28,6 +28,6 @@ pub record AreWords (words : List ℕ) (used : ℕ) : Type 0 where
   pub bounded : (n : ℕ) → BOUND ≤ n → bit_of words n ≡ 0
 
 -- a word moved up by some bits, with the highest bits of the word before it below
-pub record IsJoined (word before bits joined : ℕ) : Type 0 where
-  pub high : (i : ℕ) → i + bits < 64 → bit_at joined (i + bits) ≡ bit_at word i
-  pub low : (i j : ℕ) → i < bits → j + bits ≡ i + 64 → bit_at joined i ≡ bit_at before j
+pub record IsJoined (word before bits joined_word : ℕ) : Type 0 where
+  pub high : (i : ℕ) → i + bits < 64 → bit_at joined_word (i + bits) ≡ bit_at word i
+  pub low : (i j : ℕ) → i < bits → j + bits ≡ i + 64 → bit_at joined_word i ≡ bit_at before j

@@ -35,11 +35,11 @@ impl Model for BitBoard {
 
     ghost Value = { List ℕ };
 
-    ghost use Rattle.kb_bits.specs.Words.{members, AreWords};
+    ghost use Rattle.kb_bits.specs.Words.{members, AreWordsOf};
 
     ghost view = { λ a. members a.words };
 
-    ghost invariant = { λ a. AreWords a.words a.used };
+    ghost invariant = { λ a. AreWordsOf a.words a.used };
 }
 
 impl BitBoard {
@@ -152,12 +152,12 @@ impl BitBoard {
         let mut before = 0;
         for k in 0..kept {
             let word = self.words[k];
-            words[skip + k] = joined(word, before, bits);
+            words[skip + k] = joined_word(word, before, bits);
             before = word;
         }
         let mut end = skip + kept;
         if end < WORDS {
-            words[end] = joined(0, before, bits);
+            words[end] = joined_word(0, before, bits);
             end += 1;
         }
         words[WORDS - 1] &= LAST_WORD;
@@ -197,7 +197,7 @@ impl BitBoard {
         if bits == 0 {
             return low;
         }
-        joined(word_at(&self.words, first + 1), low, 64 - bits)
+        joined_word(word_at(&self.words, first + 1), low, 64 - bits)
     }
 
     /// How many numbers the set has.
@@ -260,7 +260,7 @@ pub fn same_members_are_equal(one: &BitBoard, other: &BitBoard)
 }
 
 /// A word moved up by some bits, filled from the word before it.
-fn joined(word: u64, before: u64, bits: u16) -> u64
+fn joined_word(word: u64, before: u64, bits: u16) -> u64
     requires { bits < 64 }
     ensures { IsJoined word before bits result }
 {

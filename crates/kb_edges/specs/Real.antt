@@ -13,11 +13,11 @@ abbrev pub writer_of : {W : Type 0} → RealSink W → W
 writer_of sink = sink.writer
 
 -- how many calls have failed
-abbrev pub source_faults : {R : Type 0} → RealSource R → ℕ
-source_faults source = source.faults
+abbrev pub real_source_faults : {R : Type 0} → RealSource R → ℕ
+real_source_faults source = source.faults
 
-abbrev pub sink_faults : {W : Type 0} → RealSink W → ℕ
-sink_faults sink = sink.faults
+abbrev pub real_sink_faults : {W : Type 0} → RealSink W → ℕ
+real_sink_faults sink = sink.faults
 
-abbrev pub folder_faults : {R File Dir : Type 0} → RealFolder R File Dir → ℕ
-folder_faults folder = folder.faults
+abbrev pub real_folder_faults : {R File Dir : Type 0} → RealFolder R File Dir → ℕ
+real_folder_faults folder = folder.faults

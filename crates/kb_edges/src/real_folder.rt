@@ -19,11 +19,11 @@ pub struct RealFolder<R: Files + AllocGlobal + Clone + Drop> {
 }
 
 impl<R: Files + AllocGlobal + Clone + Drop> RealFolder<R> {
-    ghost use Rattle.kb_edges.specs.Real.{folder_faults};
+    ghost use Rattle.kb_edges.specs.Real.{real_folder_faults};
 
     /// The files of this runtime, with no fault so far.
     pub fn new(rt: R) -> RealFolder<R>
-        ensures { folder_faults result ≡ 0 }
+        ensures { real_folder_faults result ≡ 0 }
     {
         RealFolder { rt, faults: 0 }
     }
@@ -31,11 +31,11 @@ impl<R: Files + AllocGlobal + Clone + Drop> RealFolder<R> {
     // The answer to an error, which is counted unless it is want of memory.
     fn refusal(&mut self, error: io::Error) -> FolderError
         ensures answer { (result ≡ FolderError.NoMemory) ⊎ (result ≡ FolderError.Failed) }
-        ensures later { folder_faults self.old ≤ folder_faults self.new }
+        ensures later { real_folder_faults self.old ≤ real_folder_faults self.new }
         ensures faults { result ≡ FolderError.NoMemory →
-            folder_faults self.new ≡ folder_faults self.old }
+            real_folder_faults self.new ≡ real_folder_faults self.old }
         ensures faults_rise { result ≡ FolderError.Failed →
-            folder_faults self.new ≡ next_count (folder_faults self.old) }
+            real_folder_faults self.new ≡ next_count (real_folder_faults self.old) }
     {
         if error.kind() == ErrorKind::OutOfMemory {
             return FolderError::NoMemory;
@@ -87,22 +87,22 @@ fn read_file<R: Files>(
 }
 
 impl<R: Files + AllocGlobal + Clone + Drop> Folder for RealFolder<R> {
-    ghost use Rattle.kb_edges.specs.Real.{folder_faults};
+    ghost use Rattle.kb_edges.specs.Real.{real_folder_faults};
 
     ghost files = { λ _. None };
 
-    ghost faults = { folder_faults };
+    ghost faults = { real_folder_faults };
 
     fn list(&mut self, alloc: Global, path: &str) -> Result<Vec<String>, FolderError>
         ensures sgf { IfOk result (λ names. All IsSgfName (map string_bytes names.items)) }
         ensures distinct { IfOk result (λ names.
             AllPairs (λ x y. x ≢ y) (map string_bytes names.items)) }
         ensures never_missing { result ≢ Err FolderError.Missing }
-        ensures later { folder_faults self.old ≤ folder_faults self.new }
+        ensures later { real_folder_faults self.old ≤ real_folder_faults self.new }
         ensures faults { result ≢ Err FolderError.Failed →
-            folder_faults self.new ≡ folder_faults self.old }
+            real_folder_faults self.new ≡ real_folder_faults self.old }
         ensures faults_rise { IsErrOf result FolderError.Failed →
-            folder_faults self.new ≡ next_count (folder_faults self.old) }
+            real_folder_faults self.new ≡ next_count (real_folder_faults self.old) }
     {
         match names_in(&self.rt, alloc, path) {
             Ok(names) => Ok(names),
@@ -120,11 +120,11 @@ impl<R: Files + AllocGlobal + Clone + Drop> Folder for RealFolder<R> {
         requires { limit ≤ MAX_LIMIT }
         ensures bound { IfOk result (λ bytes. vec_len bytes ≤ limit + 1) }
         ensures never_missing { result ≢ Err FolderError.Missing }
-        ensures later { folder_faults self.old ≤ folder_faults self.new }
+        ensures later { real_folder_faults self.old ≤ real_folder_faults self.new }
         ensures faults { result ≢ Err FolderError.Failed →
-            folder_faults self.new ≡ folder_faults self.old }
+            real_folder_faults self.new ≡ real_folder_faults self.old }
         ensures faults_rise { IsErrOf result FolderError.Failed →
-            folder_faults self.new ≡ next_count (folder_faults self.old) }
+            real_folder_faults self.new ≡ next_count (real_folder_faults self.old) }
     {
         match read_file(&self.rt, alloc, path, name, limit) {
             Ok(bytes) => Ok(bytes),

@@ -17,12 +17,12 @@ pub struct RealSink<W: Write> {
 }
 
 impl<W: Write> RealSink<W> {
-    ghost use Rattle.kb_edges.specs.Real.{writer_of, sink_faults};
+    ghost use Rattle.kb_edges.specs.Real.{writer_of, real_sink_faults};
 
     /// A sink over this writer, with no fault so far.
     pub fn new(writer: W) -> RealSink<W>
         ensures writer { writer_of result ≡ writer }
-        ensures faults { sink_faults result ≡ 0 }
+        ensures faults { real_sink_faults result ≡ 0 }
     {
         RealSink { writer, faults: 0 }
     }
@@ -45,11 +45,11 @@ fn write_through<W: Write>(writer: &mut W, bytes: &[u8]) -> io::Result<usize>
 }
 
 impl<W: Write> Sink for RealSink<W> {
-    ghost use Rattle.kb_edges.specs.Real.{writer_of, sink_faults};
+    ghost use Rattle.kb_edges.specs.Real.{writer_of, real_sink_faults};
 
     ghost written = { λ _. None };
 
-    ghost faults = { sink_faults };
+    ghost faults = { real_sink_faults };
 
     /// Passes one write on. After an error the writer has no more than a front of the piece.
     fn write(&mut self, bytes: &[u8]) -> Result<usize, SinkError>
@@ -61,10 +61,10 @@ impl<W: Write> Sink for RealSink<W> {
         ensures once { AppendsAFront (W.contents (writer_of self.old))
             (W.contents (writer_of self.new)) bytes.now }
         ensures failed { OnErr result (IsErrOf result SinkError.Failed) }
-        ensures later { sink_faults self.old ≤ sink_faults self.new }
-        ensures faults { OnOk result (sink_faults self.new ≡ sink_faults self.old) }
-        ensures faults_rise { OnErr result (sink_faults self.new
-            ≡ next_count (sink_faults self.old)) }
+        ensures later { real_sink_faults self.old ≤ real_sink_faults self.new }
+        ensures faults { OnOk result (real_sink_faults self.new ≡ real_sink_faults self.old) }
+        ensures faults_rise { OnErr result (real_sink_faults self.new
+            ≡ next_count (real_sink_faults self.old)) }
     {
         match write_through(&mut self.writer, bytes) {
             Ok(count) => Ok(count),

@@ -15,32 +15,32 @@ pub struct RealSource<R: Read> {
 }
 
 impl<R: Read> RealSource<R> {
-    ghost use Rattle.kb_edges.specs.Real.{reader_of, source_faults};
+    ghost use Rattle.kb_edges.specs.Real.{reader_of, real_source_faults};
 
     /// A source over this reader, with no fault so far.
     pub fn new(reader: R) -> RealSource<R>
         ensures reader { reader_of result ≡ reader }
-        ensures faults { source_faults result ≡ 0 }
+        ensures faults { real_source_faults result ≡ 0 }
     {
         RealSource { reader, faults: 0 }
     }
 }
 
 impl<R: Read> Source for RealSource<R> {
-    ghost use Rattle.kb_edges.specs.Real.{reader_of, source_faults};
+    ghost use Rattle.kb_edges.specs.Real.{reader_of, real_source_faults};
 
     ghost left = { λ _. None };
 
-    ghost faults = { source_faults };
+    ghost faults = { real_source_faults };
 
     /// Passes one read on.
     fn read(&mut self, into: &mut [u8]) -> Result<usize, ReadFailed>
         ensures bound { ReadsAtMost result into.new }
         ensures bytes { ReadConsumes (R.remaining (reader_of self.old)) (R.remaining (reader_of self.new)) result into.new }
-        ensures later { source_faults self.old ≤ source_faults self.new }
-        ensures faults { OnOk result (source_faults self.new ≡ source_faults self.old) }
-        ensures faults_rise { OnErr result (source_faults self.new
-            ≡ next_count (source_faults self.old)) }
+        ensures later { real_source_faults self.old ≤ real_source_faults self.new }
+        ensures faults { OnOk result (real_source_faults self.new ≡ real_source_faults self.old) }
+        ensures faults_rise { OnErr result (real_source_faults self.new
+            ≡ next_count (real_source_faults self.old)) }
     {
         match self.reader.read(into) {
             Ok(count) => Ok(count),

@@ -9,7 +9,7 @@ use Rattle.kb_geometry.specs.declared.stone.Change.{Change}
 use Rattle.kb_geometry.specs.declared.stone.Cell.{Cell}
 use Rattle.kb_geometry.specs.declared.stone.Cell.TheVariants as cell
 use Rattle.kb_geometry.specs.Board.{IsInside, IsOnBoard, number_of}
-use Rattle.line_matcher.specs.Areas.{HoldsChanges, IsWithPoint}
+use Rattle.line_matcher.specs.Areas.{HoldsChanges, IsWidenedBy}
 use Rattle.line_matcher.specs.Concerned.{ArePointsWith, Concerns, IsWithChange}
 
 -- the change with this number, or one of point 0
@@ -66,7 +66,7 @@ ConcernsBelow-all s changes n points count have p =
 
 module _ (shape : Shape) (changes : List Change) where
   -- one point more
-  pub HoldsBelow-more : (n : ℕ) (r s : Rect) (q : Point) → HoldsBelow shape changes n r → IsWithPoint r q s → ((p : Point) → IsOnBoard shape p → number_of shape p ≡ (change_at changes n).point → p ≡ q) →
+  pub HoldsBelow-more : (n : ℕ) (r s : Rect) (q : Point) → HoldsBelow shape changes n r → IsWidenedBy r q s → ((p : Point) → IsOnBoard shape p → number_of shape p ≡ (change_at changes n).point → p ≡ q) →
       HoldsBelow shape changes (n + 1) s
   HoldsBelow-more n r s q have grown only k lt p on_board number =
       elim (cases_eq k n) [

@@ -7,7 +7,7 @@ use Rattle.std.proofs.lemmas.List.FromFn.{map-range_with_len_more}
 use Rattle.std.proofs.lemmas.List.Elements.{filter-append, filter_agree}
 use Rattle.pattern_images.specs.ImageList.{placement_at}
 use Rattle.pattern_images.specs.Placements.{Placement}
-use Rattle.line_matcher.specs.Begins.{IsAdded, occurrences_below}
+use Rattle.line_matcher.specs.Begins.{AreOccurrencesAdded, occurrences_below}
 use Rattle.line_matcher.specs.declared.occurrence.Occurrence.{Occurrence}
 
 -- ---- numbers up to a bound that pass a test
@@ -52,18 +52,18 @@ module _ (placements : List Placement) (test : Placement → Bool) (node : ℕ) 
 
 -- ---- what was found
 module _ (placements : List Placement) (test : Placement → Bool) (node : ℕ) where
-  pub IsAdded-skip : (from to : ℕ) (found : List Occurrence) → from ≤ to → ((i : ℕ) → from ≤ i → i < to → test (placement_at placements i) ≡ false) → IsAdded placements test node from to found found
+  pub IsAdded-skip : (from to : ℕ) (found : List Occurrence) → from ≤ to → ((i : ℕ) → from ≤ i → i < to → test (placement_at placements i) ≡ false) → AreOccurrencesAdded placements test node from to found found
   IsAdded-skip from to found le none = record {
     grown = λ before is. is ∙ ap (λ (os : List Occurrence). before ++ os) (sym (occurrences_below-skip placements test node from to le none));
   }
 
-  pub IsAdded-same : (from to : ℕ) (found : List Occurrence) → from ≡ to → IsAdded placements test node from to found found
+  pub IsAdded-same : (from to : ℕ) (found : List Occurrence) → from ≡ to → AreOccurrencesAdded placements test node from to found found
   IsAdded-same from to found e = IsAdded-skip from to found (omega arith) (λ i low high. absurd (omega arith))
 
-  pub IsAdded-trans : {from mid to : ℕ} {old between new : List Occurrence} → IsAdded placements test node from mid old between → IsAdded placements test node mid to between new → IsAdded placements test node from to old new
+  pub IsAdded-trans : {from mid to : ℕ} {old between new : List Occurrence} → AreOccurrencesAdded placements test node from mid old between → AreOccurrencesAdded placements test node mid to between new → AreOccurrencesAdded placements test node from to old new
   IsAdded-trans one two = record { grown = λ before is. two.grown before (one.grown before is) }
 
-  pub IsAdded-push : (i : ℕ) (old new : List Occurrence) → test (placement_at placements i) ≡ true → new ≡ old ++ record { node = node; placement = i } ∷ [] → IsAdded placements test node i (i + 1) old new
+  pub IsAdded-push : (i : ℕ) (old new : List Occurrence) → test (placement_at placements i) ≡ true → new ≡ old ++ record { node = node; placement = i } ∷ [] → AreOccurrencesAdded placements test node i (i + 1) old new
   IsAdded-push i old new t pushed = record {
     grown = λ before is.
         let o : Occurrence = record { node = node; placement = i } in
@@ -74,7 +74,7 @@ module _ (placements : List Placement) (test : Placement → Bool) (node : ℕ) 
         ∙ ap (λ (ps : List Occurrence). before ++ ps) (sym (occurrences_below-push placements test node i t));
   }
 
-  pub IsAdded-pass : (i : ℕ) (found : List Occurrence) → test (placement_at placements i) ≡ false → IsAdded placements test node i (i + 1) found found
+  pub IsAdded-pass : (i : ℕ) (found : List Occurrence) → test (placement_at placements i) ≡ false → AreOccurrencesAdded placements test node i (i + 1) found found
   IsAdded-pass i found f = record {
     grown = λ before is. is ∙ ap (λ (os : List Occurrence). before ++ os) (sym (occurrences_below-pass placements test node i f));
   }

@@ -29,7 +29,7 @@ use Rattle.pattern_images.specs.Placements.{Placement}
 use Rattle.line_matcher.specs.declared.changed.Concerned.{Concerned}
 use Rattle.line_matcher.specs.declared.matcher.Size.{Size}
 use Rattle.line_matcher.specs.Areas.{HoldsChanges, IsReach}
-use Rattle.line_matcher.specs.Begins.{IsAdded, holds_anew, occurrences_below, touches}
+use Rattle.line_matcher.specs.Begins.{AreOccurrencesAdded, holds_anew, occurrences_below, touches}
 use Rattle.line_matcher.specs.Concerned.{AreConcerned, ArePointsWith}
 use Rattle.line_matcher.specs.Masks.{asks, asks_black, asks_white}
 use Rattle.line_matcher.specs.Matchers.{AreMost}
@@ -214,7 +214,7 @@ module _ (deltas : Deltas) (placement : Placement) (n : ℕ) where
 
 -- what was found by a test that tells what begins at a node
 pub IsFoundIn-added : (deltas : Deltas) (placements : List Placement) (node : ℕ) (test : Placement → Bool) (old new : List Occurrence) → ((placement : Placement) → test placement ≡ begins_at deltas placement node) →
-    IsAdded placements test node 0 (length placements) old new → IsFoundIn deltas placements node old new
+    AreOccurrencesAdded placements test node 0 (length placements) old new → IsFoundIn deltas placements node old new
 IsFoundIn-added deltas placements node test old new agree added =
     let e : occurrences_below placements test node (length placements) ≡ occurrences_at deltas placements node =
     occurrences_below-agree placements test (λ p. begins_at deltas p node) node (length placements) (λ i. agree (placement_at placements i)) in

@@ -12,7 +12,7 @@ use Rattle.line_matcher.specs.declared.mask.RowMask.{RowMask}
 use Rattle.line_matcher.specs.declared.grid_rows.RowRange.{RowRange}
 use Rattle.line_matcher.specs.Masks.{AreRowsOf, HasBit, IsRowTo, IsRowWord, IsWithCell, asks_black, asks_white, is_black, is_white, no_mask}
 use Rattle.line_matcher.specs.GridRows.{AreGridRows, HaveRowsOf}
-use Rattle.line_matcher.specs.StoredRows.{rows_in, IsWithin}
+use Rattle.line_matcher.specs.StoredRows.{rows_in, IsRangeOf}
 
 -- ---- one row
 
@@ -75,7 +75,7 @@ HaveRowsTo-end grid before dy after have e = record {
 -- ---- the rows of all rectangles
 
 -- more rows behind the list change no range
-rows_in-kept : (rows more : List RowMask) (range : RowRange) → IsWithin rows range → rows_in rows range ≡ rows_in (rows ++ more) range
+rows_in-kept : (rows more : List RowMask) (range : RowRange) → IsRangeOf rows range → rows_in rows range ≡ rows_in (rows ++ more) range
 rows_in-kept rows more range within =
     let start : range.start ≤ length rows = omega (arith, within.ordered, within.ends) in
     let count : range.end - range.start ≤ length (drop range.start rows) = omega (arith, length-drop range.start rows, within.ends) in
@@ -89,20 +89,20 @@ rows_in-last rows more range from to =
 -- the first so many rectangles
 pub record HaveGridsTo (grids : List Grid) (n : ℕ) (ranges : List RowRange) (rows : List RowMask) : Type 0 where
   pub count : length ranges ≡ n
-  pub within : All (IsWithin rows) ranges
+  pub within : All (IsRangeOf rows) ranges
   pub each : (k : ℕ) (d : RowRange) → k < n → AreRowsOf (grid_at grids k) (rows_in rows (get_or ranges k d))
 
 pub HaveGridsTo-start : (grids : List Grid) → HaveGridsTo grids 0 [] []
-HaveGridsTo-start grids = record { count = refl; within = All-nil (IsWithin []); each = λ k d lt. absurd (omega arith) }
+HaveGridsTo-start grids = record { count = refl; within = All-nil (IsRangeOf []); each = λ k d lt. absurd (omega arith) }
 
 pub HaveGridsTo-more : (grids : List Grid) (n : ℕ) (ranges later : List RowRange) (rows now : List RowMask) (range : RowRange) → HaveGridsTo grids n ranges rows → HaveRowsOf (grid_at grids n) rows now →
     range.start ≡ length rows → range.end ≡ length now → later ≡ ranges ++ range ∷ [] → HaveGridsTo grids (n + 1) later now
 HaveGridsTo-more grids n ranges later rows now range have added from to pushed =
     let longer : length now ≡ length rows + length added.rows = ap length added.added ∙ length-append rows added.rows in
-    let kept : All (IsWithin now) ranges = All-weaker (IsWithin rows) (IsWithin now) (λ r w. record { ordered = w.ordered; ends = omega (arith, w.ends) }) ranges have.within in
+    let kept : All (IsRangeOf now) ranges = All-weaker (IsRangeOf rows) (IsRangeOf now) (λ r w. record { ordered = w.ordered; ends = omega (arith, w.ends) }) ranges have.within in
     record {
       count = ap length pushed ∙ length_push ranges range ∙ ap (λ (i : ℕ). i + 1) have.count;
-      within = subst (All (IsWithin now)) (sym pushed) (All-push (IsWithin now) ranges range kept (record { ordered = omega arith; ends = omega arith }));
+      within = subst (All (IsRangeOf now)) (sym pushed) (All-push (IsRangeOf now) ranges range kept (record { ordered = omega arith; ends = omega arith }));
       each = λ k d lt. subst (λ (rs : List RowRange). AreRowsOf (grid_at grids k) (rows_in now (get_or rs k d))) (sym pushed) (elim (cases_lt k n) [
         | inl below ↦
             let same : get_or (ranges ++ range ∷ []) k d ≡ get_or ranges k d = get_or_append_left ranges (range ∷ []) d k (omega (arith, have.count)) in

@@ -12,7 +12,7 @@ HoldsChanges shape changes r =
     All (λ (c : Change). (p : Point) → IsOnBoard shape p → number_of shape p ≡ c.point → IsInside r p) changes
 
 -- the rectangle after holds that before and the point, and reaches no further
-pub record IsWithPoint (before : Rect) (p : Point) (after : Rect) : Type 0 where
+pub record IsWidenedBy (before : Rect) (p : Point) (after : Rect) : Type 0 where
   pub kept : (q : Point) → IsInside before q → IsInside after q
   pub point : IsInside after p
   pub columns : (n : ℕ) → before.x1 < n → p.x < n → after.x1 < n

@@ -57,7 +57,7 @@ occurrences_below placements test node k =
 
 -- What was found grows by the occurrences at a node among the placements from one number up to
 -- another.
-pub record IsAdded (placements : List Placement) (test : Placement → Bool) (node from to : ℕ)
+pub record AreOccurrencesAdded (placements : List Placement) (test : Placement → Bool) (node from to : ℕ)
     (old new : List Occurrence) : Type 0 where
   pub grown : (before : List Occurrence) →
       old ≡ before ++ occurrences_below placements test node from →

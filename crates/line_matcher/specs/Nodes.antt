@@ -8,14 +8,14 @@ use Rattle.pattern_images.specs.ImageList.{ImageList}
 use Rattle.pattern_images.specs.Placements.{Placement}
 use Rattle.line_matcher.specs.declared.changed.Concerned.{Concerned}
 use Rattle.line_matcher.specs.Concerned.{AreConcerned}
-use Rattle.line_matcher.specs.Begins.{IsAdded, holds_anew}
+use Rattle.line_matcher.specs.Begins.{AreOccurrencesAdded, holds_anew}
 use Rattle.line_matcher.specs.declared.occurrence.Occurrence.{Occurrence}
 use Rattle.line_matcher.specs.Occurrences.{occurrences_at}
 
 -- What was found grows by all that holds in the position.
 abbrev pub IsFoundAtRoot : ImageList → Position → ℕ → List Occurrence → List Occurrence → Type 0
 IsFoundAtRoot images position node old new =
-    IsAdded images.placements (holds_anew images.shape position None) node
+    AreOccurrencesAdded images.placements (holds_anew images.shape position None) node
     0 (length images.placements) old new
 
 -- What was found grows by what holds in the position and is touched by the changes.
@@ -23,7 +23,7 @@ pub record IsFoundByChanges (images : ImageList) (position : Position) (changes 
     (old new : List Occurrence) : Type 0 where
   pub points : Concerned
   pub are_points : AreConcerned changes points
-  pub added : IsAdded images.placements (holds_anew images.shape position (Some points)) node 0
+  pub added : AreOccurrencesAdded images.placements (holds_anew images.shape position (Some points)) node 0
       (length images.placements) old new
 
 -- What was found grows by the occurrences at a node.

@@ -8,6 +8,6 @@ abbrev pub rows_in : List RowMask → RowRange → List RowMask
 rows_in rows range = slice_range rows range.start range.end
 
 -- the range lies within the list of rows
-pub record IsWithin (rows : List RowMask) (range : RowRange) : Type 0 where
+pub record IsRangeOf (rows : List RowMask) (range : RowRange) : Type 0 where
   pub ordered : range.start ≤ range.end
   pub ends : range.end ≤ length rows

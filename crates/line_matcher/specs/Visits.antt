@@ -6,13 +6,13 @@ use Rattle.kb_geometry.specs.Symmetry.{point_of}
 use Rattle.pattern_images.specs.ImageList.{ImageList, placement_at}
 use Rattle.line_matcher.specs.declared.occurrence.Occurrence.{Occurrence}
 use Rattle.line_matcher.specs.declared.visit.Visit.{Visit}
-use Rattle.line_matcher.specs.Begins.{IsAdded, holds_anew, seen}
+use Rattle.line_matcher.specs.Begins.{AreOccurrencesAdded, holds_anew, seen}
 
 -- What was found grows by what begins to hold at a node, among the placements from one number up to
 -- another.
 abbrev pub IsFoundAt : ImageList → Visit → ℕ → ℕ → List Occurrence → List Occurrence → Type 0
 IsFoundAt images visit from to old new =
-    IsAdded images.placements (holds_anew images.shape visit.walker.now.position (seen visit.changed))
+    AreOccurrencesAdded images.placements (holds_anew images.shape visit.walker.now.position (seen visit.changed))
     visit.node from to old new
 
 -- What begins to hold at the node has its upper left point in the rectangle.

@@ -5,7 +5,7 @@ ghost use Rattle.kb_geometry.specs.declared.shape.Point.{Point};
 ghost use Rattle.kb_geometry.specs.declared.stone.Change.{Change};
 ghost use Rattle.kb_geometry.specs.Board.{IsInside, IsOnBoard, IsRectOnBoard, cols_of};
 ghost use Rattle.kb_geometry.specs.Board.{number_of, point_count, rows_of};
-ghost use Rattle.line_matcher.specs.Areas.{HoldsChanges, IsWithPoint, IsReach};
+ghost use Rattle.line_matcher.specs.Areas.{HoldsChanges, IsWidenedBy, IsReach};
 ghost use Rattle.line_matcher.specs.Concerned.{AreConcerned, Concerns, IsWithChange, no_points};
 
 use kb_bits::BitBoard;
@@ -103,7 +103,7 @@ pub(crate) fn bounds(shape: Shape, changes: &[Change]) -> Option<Rect>
 
 // The least rectangle that holds another one and a point.
 fn with_point(rect: Rect, p: Point) -> Rect
-    ensures { IsWithPoint rect p result }
+    ensures { IsWidenedBy rect p result }
 {
     Rect {
         x0: rect.x0.min(p.x),

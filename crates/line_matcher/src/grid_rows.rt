@@ -32,11 +32,11 @@ impl Model for GridRows {
 
     ghost Value = { List (List RowMask) };
 
-    ghost use Rattle.line_matcher.specs.StoredRows.{rows_in, IsWithin};
+    ghost use Rattle.line_matcher.specs.StoredRows.{rows_in, IsRangeOf};
 
     ghost view = { λ g. map (rows_in g.rows.items) g.ranges.items };
 
-    ghost invariant = { λ g. All (IsWithin g.rows.items) g.ranges.items };
+    ghost invariant = { λ g. All (IsRangeOf g.rows.items) g.ranges.items };
 }
 
 impl GridRows {

@@ -5,8 +5,8 @@ use Rattle.pattern_images.specs.declared.cell.PatternCell.{PatternCell}
 use Rattle.pattern_images.specs.declared.cell.PatternCell.TheVariants as cell
 use Rattle.pattern_images.specs.Grid.{Grid}
 use Rattle.pattern_syntax.specs.Text.{slash, cell_byte, SpellsPattern}
-use Rattle.pattern_syntax.specs.Faults.{HasFault, IsFirstFault}
-use Rattle.pattern_syntax.specs.Faults.HasFault.{unknown_byte}
+use Rattle.pattern_syntax.specs.Faults.{HasPatternFault, IsFirstPatternFault}
+use Rattle.pattern_syntax.specs.Faults.HasPatternFault.{unknown_byte}
 use Rattle.pattern_syntax.specs.Reading.{HasRows}
 use Rattle.pattern_syntax.proofs.Bytes.{cell_or_none}
 use Rattle.pattern_syntax.proofs.Rows.{EndsRow}
@@ -16,7 +16,7 @@ use Rattle.pattern_syntax.proofs.Spelled.{spelled-faultless}
 
 -- At an end of the row that is begun, the row is as it should be, or there is a fault.
 pub row_or_fault : (text : List ℕ) (k rows cols width : ℕ) (cells : List PatternCell) → HasRows text k rows cols width cells → EndsRow text k →
-    ((0 < width) × HasRows text k rows width width cells) ⊎ HasFault text k
+    ((0 < width) × HasRows text k rows width width cells) ⊎ HasPatternFault text k
 row_or_fault text k rows cols width cells h ends = elim (cases_eq width 0) [
   | inl none ↦ inr (fault-empty text k rows cols width cells h ends none)
   | inr some ↦ elim (cases_eq rows 0) [
@@ -54,14 +54,14 @@ all_rows-spell text rows width cells h some =
 
 -- what is found of a text
 abbrev pub SpellsOrFails : List ℕ → Type 0
-SpellsOrFails text = ((grid : Grid) × SpellsPattern text grid) ⊎ ((k : ℕ) × IsFirstFault text k × (k < 52 * 53))
+SpellsOrFails text = ((grid : Grid) × SpellsPattern text grid) ⊎ ((k : ℕ) × IsFirstPatternFault text k × (k < 52 * 53))
 
 -- the bytes before this one have no fault
 abbrev pub IsFaultlessTo : List ℕ → ℕ → Type 0
-IsFaultlessTo text k = (j : ℕ) → j < k → ¬ HasFault text j
+IsFaultlessTo text k = (j : ℕ) → j < k → ¬ HasPatternFault text j
 
-pub faultless-more : (text : List ℕ) (k : ℕ) → IsFaultlessTo text k → ¬ HasFault text k → IsFaultlessTo text (k + 1)
-faultless-more text k before here j lt = elim (cases_eq j k) [ inl e ↦ subst (λ n. ¬ HasFault text n) (sym e) here | inr other ↦ before j (omega arith) ]
+pub faultless-more : (text : List ℕ) (k : ℕ) → IsFaultlessTo text k → ¬ HasPatternFault text k → IsFaultlessTo text (k + 1)
+faultless-more text k before here j lt = elim (cases_eq j k) [ inl e ↦ subst (λ n. ¬ HasPatternFault text n) (sym e) here | inr other ↦ before j (omega arith) ]
 
 spells_or_fails_from : (n : ℕ) (text : List ℕ) (k rows cols width : ℕ) (cells : List PatternCell) → k + n ≡ length text →
     HasRows text k rows cols width cells → IsFaultlessTo text k → SpellsOrFails text
@@ -73,7 +73,7 @@ spells_or_fails_from zero text k rows cols width cells all h before =
     ]
 spells_or_fails_from (suc n) text k rows cols width cells all h before =
     let lt : k < length text = omega arith in
-    let fails : HasFault text k → SpellsOrFails text = λ fault. inr (k, record { here = fault; none_before = before }, near text k rows cols width cells h) in
+    let fails : HasPatternFault text k → SpellsOrFails text = λ fault. inr (k, record { here = fault; none_before = before }, near text k rows cols width cells h) in
     elim (cases_eq (get_or text k 0) slash) [
       | inl is ↦ elim (row_or_fault text k rows cols width cells h (inr (lt, is))) [
         | inr fault ↦ fails fault
@@ -101,17 +101,17 @@ spells_or_fails text = spells_or_fails_from (length text) text 0 0 0 0 [] (omega
 
 -- ---- laws
 
-pub first_fault-one : (text : List ℕ) (j k : ℕ) → IsFirstFault text j → IsFirstFault text k → j ≡ k
+pub first_fault-one : (text : List ℕ) (j k : ℕ) → IsFirstPatternFault text j → IsFirstPatternFault text k → j ≡ k
 first_fault-one text j k one other = elim (cases_lt j k) [
   | inl lt ↦ absurd (other.none_before j lt one.here)
   | inr ge ↦ elim (cases_lt k j) [ inl lt ↦ absurd (one.none_before k lt other.here) | inr le ↦ omega arith ]
 ]
 
-pub first_fault-near : (text : List ℕ) (k : ℕ) → IsFirstFault text k → k < 52 * 53
+pub first_fault-near : (text : List ℕ) (k : ℕ) → IsFirstPatternFault text k → k < 52 * 53
 first_fault-near text k first = elim (spells_or_fails text) [
   | inl spelled ↦ absurd (spelled-faultless text spelled.0 spelled.1 k first.here)
   | inr found ↦ subst (λ n. n < 52 * 53) (first_fault-one text found.0 k found.1 first) found.2
 ]
 
-pub faultless-spells : (text : List ℕ) → ((k : ℕ) → ¬ HasFault text k) → (grid : Grid) × SpellsPattern text grid
+pub faultless-spells : (text : List ℕ) → ((k : ℕ) → ¬ HasPatternFault text k) → (grid : Grid) × SpellsPattern text grid
 faultless-spells text none = elim (spells_or_fails text) [ inl spelled ↦ spelled | inr found ↦ absurd (none found.0 found.1.here) ]

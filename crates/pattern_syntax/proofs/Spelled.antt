@@ -10,8 +10,8 @@ use Rattle.pattern_images.specs.declared.cell.PatternCell.{PatternCell}
 use Rattle.pattern_images.specs.declared.cell.PatternCell.TheVariants as cell
 use Rattle.pattern_images.specs.Grid.{Grid, cell_in}
 use Rattle.pattern_syntax.specs.Text.{slash, cell_byte, SpellsPattern}
-use Rattle.pattern_syntax.specs.Faults.{HasFault, slashes_before}
-use Rattle.pattern_syntax.specs.Faults.HasFault.{unknown_byte, empty_row, uneven_row, long_row, many_rows}
+use Rattle.pattern_syntax.specs.Faults.{HasPatternFault, slashes_before}
+use Rattle.pattern_syntax.specs.Faults.HasPatternFault.{unknown_byte, empty_row, uneven_row, long_row, many_rows}
 use Rattle.pattern_syntax.specs.Reading.{HasRows}
 use Rattle.pattern_syntax.proofs.Bytes.{cell_byte-ne-slash, same_cell}
 use Rattle.pattern_syntax.proofs.Rows.{EndsRow, ends-within}
@@ -82,7 +82,7 @@ spells-one text a b one two =
 -- ---- no fault
 
 -- a fault stands in the text or at its end
-pub fault-within : (text : List ℕ) (k : ℕ) → HasFault text k → k ≤ length text
+pub fault-within : (text : List ℕ) (k : ℕ) → HasPatternFault text k → k ≤ length text
 fault-within text k (unknown_byte below unknown) = omega arith
 fault-within text k (empty_row row) = ends-within text k row.ends
 fault-within text k (uneven_row first from one row other) = ends-within text k row.ends
@@ -135,7 +135,7 @@ module _ (text : List ℕ) (grid : Grid) (spells : SpellsPattern text grid) wher
   }
 
   -- no fault stands in a row or at its end
-  faultless_at : (y x k : ℕ) → y < grid.rows → x ≤ grid.cols → y * (grid.cols + 1) + x ≡ k → ¬ HasFault text k
+  faultless_at : (y x k : ℕ) → y < grid.rows → x ≤ grid.cols → y * (grid.cols + 1) + x ≡ k → ¬ HasPatternFault text k
   faultless_at y x k row column at =
       let cells : List PatternCell = take (y * grid.cols + x) grid.cells in
       let read : HasRows text k y grid.cols x cells = subst (λ n. HasRows text n y grid.cols x cells) at (rows_to y x row column) in
@@ -158,7 +158,7 @@ module _ (text : List ℕ) (grid : Grid) (spells : SpellsPattern text grid) wher
             (λ there. omega (arith, spells.rows, not_last (length text) grid.cols grid.rows y k is_laid_out.size there.0 row place))
       ]
 
-  pub spelled-faultless : (k : ℕ) → ¬ HasFault text k
+  pub spelled-faultless : (k : ℕ) → ¬ HasPatternFault text k
   spelled-faultless k fault =
       let place = offset-place grid.cols grid.rows k (omega (arith, is_laid_out.size, fault-within text k fault)) in
       faultless_at place.0 place.1 k place.2 place.3 place.4 fault

@@ -8,8 +8,8 @@ use Rattle.std.proofs.lemmas.List.Sums.{count_by_more_yes, count_by_more_no}
 use Rattle.pattern_images.specs.declared.cell.PatternCell.{PatternCell}
 use Rattle.pattern_images.specs.declared.cell.PatternCell.TheVariants as cell
 use Rattle.pattern_syntax.specs.Text.{slash, cell_byte}
-use Rattle.pattern_syntax.specs.Faults.{HasSlash, IsRow, HasFault}
-use Rattle.pattern_syntax.specs.Faults.HasFault.{unknown_byte, empty_row, uneven_row, long_row, many_rows}
+use Rattle.pattern_syntax.specs.Faults.{HasSlash, IsRow, HasPatternFault}
+use Rattle.pattern_syntax.specs.Faults.HasPatternFault.{unknown_byte, empty_row, uneven_row, long_row, many_rows}
 use Rattle.pattern_syntax.specs.Reading.{HasRows}
 use Rattle.pattern_syntax.proofs.Bytes.{cell_byte-ne-slash}
 use Rattle.pattern_syntax.proofs.Rows.{EndsRow, no_slash, ends-last, same_row, row_end, begun-row, row_from, first_closed}
@@ -18,19 +18,19 @@ use Rattle.pattern_syntax.proofs.Rows.{EndsRow, no_slash, ends-last, same_row, r
 
 module _ (text : List ℕ) (k rows cols width : ℕ) (cells : List PatternCell) (h : HasRows text k rows cols width cells) where
   -- the row that is begun ends empty
-  pub fault-empty : EndsRow text k → width ≡ 0 → HasFault text k
+  pub fault-empty : EndsRow text k → width ≡ 0 → HasPatternFault text k
   fault-empty ends none =
       let row : IsRow text (rows * (cols + 1)) k = begun-row text k rows cols width cells h k (omega arith) (λ j le lt. absurd (omega arith)) ends in
       empty_row (subst (λ from. IsRow text from k) (omega (arith, h.place)) row)
 
   -- it ends with another length than the closed ones
-  pub fault-uneven : EndsRow text k → 0 < rows → cols ≢ width → HasFault text k
+  pub fault-uneven : EndsRow text k → 0 < rows → cols ≢ width → HasPatternFault text k
   fault-uneven ends some other =
       let row : IsRow text (rows * (cols + 1)) k = begun-row text k rows cols width cells h k (omega arith) (λ j le lt. absurd (omega arith)) ends in
       uneven_row cols (rows * (cols + 1)) (first_closed text k rows cols width cells h some) row (λ e. other (omega (arith, h.place)))
 
   -- it has one more byte than it may have
-  pub fault-long : ¬ EndsRow text k → width ≡ 52 → HasFault text k
+  pub fault-long : ¬ EndsRow text k → width ≡ 52 → HasPatternFault text k
   fault-long goes_on full =
       let end = row_end (length text - k) text k (omega (arith, h.within)) in
       let row : IsRow text (rows * (cols + 1)) end.0 = begun-row text k rows cols width cells h end.0 end.1 end.2 end.3 in
@@ -38,12 +38,12 @@ module _ (text : List ℕ) (k rows cols width : ℕ) (cells : List PatternCell) 
       long_row (rows * (cols + 1)) end.0 row (omega (arith, h.place)) behind
 
   -- there may be no row behind the `/`
-  pub fault-many : HasSlash text k → rows + 1 ≡ 52 → HasFault text k
+  pub fault-many : HasSlash text k → rows + 1 ≡ 52 → HasPatternFault text k
   fault-many there last = many_rows there (omega (arith, h.slashes))
 
   -- ---- bytes without a fault
 
-  pub clean-cell : (c : PatternCell) → k < length text → get_or text k 0 ≡ cell_byte c → width < 52 → ¬ HasFault text k
+  pub clean-cell : (c : PatternCell) → k < length text → get_or text k 0 ≡ cell_byte c → width < 52 → ¬ HasPatternFault text k
   clean-cell c lt is room (unknown_byte below unknown) = unknown (inr (c, sym is))
   clean-cell c lt is room (empty_row row) = elim row.ends [ inl e ↦ omega arith | inr there ↦ no_slash text k c is there ]
   clean-cell c lt is room (uneven_row first from one row other) = elim row.ends [ inl e ↦ omega arith | inr there ↦ no_slash text k c is there ]
@@ -64,7 +64,7 @@ module _ (text : List ℕ) (k rows width : ℕ) (cells : List PatternCell) (h : 
     | inr some ↦ first_closed text k rows width width cells h (omega arith)
   ]
 
-  pub clean-end : EndsRow text k → 0 < width → (HasSlash text k → rows + 1 < 52) → ¬ HasFault text k
+  pub clean-end : EndsRow text k → 0 < width → (HasSlash text k → rows + 1 < 52) → ¬ HasPatternFault text k
   clean-end ends some few (unknown_byte below unknown) = elim ends [ inl e ↦ omega arith | inr there ↦ unknown (inl there.1) ]
   clean-end ends some few (empty_row row) =
       let same : k ≡ rows * (width + 1) = row_from text k rows width width cells h k k row (omega arith) (omega arith) in

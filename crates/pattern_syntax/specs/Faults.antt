@@ -26,19 +26,19 @@ abbrev pub slashes_before : List ℕ → ℕ → ℕ
 slashes_before text k = count_by (λ byte. byte == slash) (take k text)
 
 -- The text has a fault at this offset.
-pub data HasFault (text : List ℕ) (k : ℕ) : Type 0 where
+pub data HasPatternFault (text : List ℕ) (k : ℕ) : Type 0 where
   -- a byte that may not stand in a text
-  unknown_byte : k < length text → ¬ IsPatternByte (slice_index text k) → HasFault text k
+  unknown_byte : k < length text → ¬ IsPatternByte (slice_index text k) → HasPatternFault text k
   -- the `/` or the end behind an empty row
-  empty_row : IsRow text k k → HasFault text k
+  empty_row : IsRow text k k → HasPatternFault text k
   -- the `/` or the end behind a row of another length than the first
-  uneven_row : (first from : ℕ) → IsRow text 0 first → IsRow text from k → from + first ≢ k → HasFault text k
+  uneven_row : (first from : ℕ) → IsRow text 0 first → IsRow text from k → from + first ≢ k → HasPatternFault text k
   -- the 53rd byte of a row
-  long_row : (from to : ℕ) → IsRow text from to → from + 52 ≡ k → k < to → HasFault text k
+  long_row : (from to : ℕ) → IsRow text from to → from + 52 ≡ k → k < to → HasPatternFault text k
   -- the `/` before a 53rd row
-  many_rows : HasSlash text k → slashes_before text k + 1 ≡ 52 → HasFault text k
+  many_rows : HasSlash text k → slashes_before text k + 1 ≡ 52 → HasPatternFault text k
 
 -- The text has a fault at this offset, and none before it.
-pub record IsFirstFault (text : List ℕ) (k : ℕ) : Type 0 where
-  pub here : HasFault text k
-  pub none_before : (j : ℕ) → j < k → ¬ HasFault text j
+pub record IsFirstPatternFault (text : List ℕ) (k : ℕ) : Type 0 where
+  pub here : HasPatternFault text k
+  pub none_before : (j : ℕ) → j < k → ¬ HasPatternFault text j

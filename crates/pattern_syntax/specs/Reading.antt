@@ -6,7 +6,7 @@ use Rattle.pattern_images.specs.declared.cell.PatternCell.{PatternCell}
 use Rattle.pattern_images.specs.declared.cell.PatternCell.TheVariants as cell
 use Rattle.pattern_syntax.specs.declared.progress.Progress.{Progress}
 use Rattle.pattern_syntax.specs.Text.{slash, cell_byte}
-use Rattle.pattern_syntax.specs.Faults.{HasFault, slashes_before}
+use Rattle.pattern_syntax.specs.Faults.{HasPatternFault, slashes_before}
 
 -- The first k bytes of a text are `rows` rows of `cols` cells each, each with its `/`, and then a row that has `width` cells
 -- so far. The cells stand row by row.
@@ -32,6 +32,6 @@ closed_cols None = 0
 closed_cols (Some size) = cols_of size
 
 -- the first k bytes of the text were read, they have no fault, and these are their cells
-pub record IsReadTo (text : List ℕ) (k : ℕ) (progress : Progress) (cells : List PatternCell) : Type 0 where
+pub record IsPatternReadTo (text : List ℕ) (k : ℕ) (progress : Progress) (cells : List PatternCell) : Type 0 where
   pub rows : HasRows text k (closed_rows progress.closed) (closed_cols progress.closed) progress.width cells
-  pub faultless : (j : ℕ) → j < k → ¬ HasFault text j
+  pub faultless : (j : ℕ) → j < k → ¬ HasPatternFault text j

@@ -3,8 +3,8 @@ ghost use Rattle.std.specs.Prelude.{◌≡◌, ◌≢◌, ◌+◌, ◌++◌, ◌
 ghost use Rattle.kb_geometry.specs.Board.{cols_of, rows_of};
 ghost use Rattle.pattern_images.specs.declared.cell.PatternCell.{PatternCell};
 ghost use Rattle.pattern_syntax.specs.Text.{slash, cell_byte};
-ghost use Rattle.pattern_syntax.specs.Faults.{HasFault};
-ghost use Rattle.pattern_syntax.specs.Reading.{IsReadTo, closed_rows, closed_cols};
+ghost use Rattle.pattern_syntax.specs.Faults.{HasPatternFault};
+ghost use Rattle.pattern_syntax.specs.Reading.{IsPatternReadTo, closed_rows, closed_cols};
 
 use crate::cell_bytes::{SLASH, cell_of};
 use kb_geometry::{MAX_SIDE, Shape};
@@ -31,7 +31,7 @@ pub(crate) struct Step {
 impl Progress {
     // Nothing was read.
     pub(crate) fn start() -> Self
-        ensures { (text : List ℕ) → IsReadTo text 0 result [] }
+        ensures { (text : List ℕ) → IsPatternReadTo text 0 result [] }
     {
         Progress {
             closed: None,
@@ -64,8 +64,8 @@ impl Progress {
     // What the next byte of the text does. `None` where it is a fault.
     pub(crate) fn after(self, byte: u8) -> Option<Step>
         requires { closed_rows self.closed < 52 }
-        ensures { (text : List ℕ) (k : ℕ) (cells : List PatternCell) → IsReadTo text k self cells → k < length text → slice_index text k ≡ byte →
-            MatchOption result (HasFault text k) (λ step. IsReadTo text (k + 1) step.next (cells ++ option_to_list step.cell)) }
+        ensures { (text : List ℕ) (k : ℕ) (cells : List PatternCell) → IsPatternReadTo text k self cells → k < length text → slice_index text k ≡ byte →
+            MatchOption result (HasPatternFault text k) (λ step. IsPatternReadTo text (k + 1) step.next (cells ++ option_to_list step.cell)) }
     {
         if byte == SLASH {
             self.after_slash()
@@ -77,8 +77,8 @@ impl Progress {
     // What a `/` does.
     fn after_slash(self) -> Option<Step>
         requires { closed_rows self.closed < 52 }
-        ensures { (text : List ℕ) (k : ℕ) (cells : List PatternCell) → IsReadTo text k self cells → k < length text → slice_index text k ≡ slash →
-            MatchOption result (HasFault text k) (λ step. IsReadTo text (k + 1) step.next (cells ++ option_to_list step.cell)) }
+        ensures { (text : List ℕ) (k : ℕ) (cells : List PatternCell) → IsPatternReadTo text k self cells → k < length text → slice_index text k ≡ slash →
+            MatchOption result (HasPatternFault text k) (λ step. IsPatternReadTo text (k + 1) step.next (cells ++ option_to_list step.cell)) }
     {
         let closed = self.size()?;
         if closed.rows() == MAX_SIDE {
@@ -95,8 +95,8 @@ impl Progress {
 
     // What the byte of a cell does.
     fn after_cell(self, cell: PatternCell) -> Option<Step>
-        ensures { (text : List ℕ) (k : ℕ) (cells : List PatternCell) → IsReadTo text k self cells → k < length text → slice_index text k ≡ cell_byte cell →
-            MatchOption result (HasFault text k) (λ step. IsReadTo text (k + 1) step.next (cells ++ option_to_list step.cell)) }
+        ensures { (text : List ℕ) (k : ℕ) (cells : List PatternCell) → IsPatternReadTo text k self cells → k < length text → slice_index text k ≡ cell_byte cell →
+            MatchOption result (HasPatternFault text k) (λ step. IsPatternReadTo text (k + 1) step.next (cells ++ option_to_list step.cell)) }
     {
         let width = one_wider(self.width)?;
         Some(Step {

@@ -4,7 +4,7 @@ ghost use Rattle.pattern_images.specs.Pattern.{grid_of};
 ghost use Rattle.pattern_syntax.specs.declared.fault.PatternFault.{PatternFault};
 ghost use Rattle.pattern_syntax.specs.declared.fault.PatternError.TheVariants.{Fault};
 ghost use Rattle.pattern_syntax.specs.Text.{SpellsPattern};
-ghost use Rattle.pattern_syntax.specs.Faults.{IsFirstFault};
+ghost use Rattle.pattern_syntax.specs.Faults.{IsFirstPatternFault};
 
 use crate::progress::Progress;
 use crate::{PatternError, PatternFault};
@@ -20,7 +20,7 @@ use std::alloc::Global;
 /// only other error is `NoMemory`.
 pub fn read_pattern(alloc: Global, text: &str) -> Result<Pattern, PatternError>
     ensures ok { IfOk result (λ pattern. SpellsPattern text.now (grid_of pattern)) }
-    ensures fault { (f : PatternFault) → result ≡ Err (Fault f) → IsFirstFault text.now f.column }
+    ensures fault { (f : PatternFault) → result ≡ Err (Fault f) → IsFirstPatternFault text.now f.column }
 {
     let mut cells = Vec::new(alloc);
     let mut progress = Progress::start();

@@ -6,7 +6,7 @@ use Rattle.std.proofs.lemmas.List.{get_or_past}
 use Rattle.std.proofs.lemmas.List.Elements.{All-nil}
 use Rattle.query_script.specs.Lines.{IsLine}
 use Rattle.query_script.specs.Progress.{IsBlockBegun}
-use Rattle.query_script.specs.Script.{IsBadLine, IsFaultyLine, IsLeastBadLine, IsWithin, block_inside_block, ends_empty_block, ends_no_block, line_at, never_ended, one_search_too_many, spells_nothing, statement_inside_block}
+use Rattle.query_script.specs.Script.{IsBadLine, IsFaultyLine, IsLeastBadLine, IsInBlock, block_inside_block, ends_empty_block, ends_no_block, line_at, never_ended, one_search_too_many, spells_nothing, statement_inside_block}
 use Rattle.query_script.specs.Statements.{SpellsEnd, SpellsTogether}
 use Rattle.query_script.specs.Words as words
 use Rattle.query_script.specs.Words.{AreWords, IsBlank}
@@ -36,13 +36,13 @@ module _ (lines : List (List ℕ)) where
       no_word (rw none at ends)
 
   -- no line stands before the first one, so none begins a block there
-  pub no_block_before_first : (j : ℕ) → ¬ IsWithin lines j 1
+  pub no_block_before_first : (j : ℕ) → ¬ IsInBlock lines j 1
   no_block_before_first j within =
       let zeroth : j ≡ 0 = omega (arith, within.before) in
       no_word (rw zeroth at within.begins)
 
   -- outside blocks, a line that begins none leaves none open
-  pub outside_after : (k : ℕ) → ((j : ℕ) → ¬ IsWithin lines j k) → ¬ SpellsTogether (line_at lines k) → (j : ℕ) → ¬ IsWithin lines j (k + 1)
+  pub outside_after : (k : ℕ) → ((j : ℕ) → ¬ IsInBlock lines j k) → ¬ SpellsTogether (line_at lines k) → (j : ℕ) → ¬ IsInBlock lines j (k + 1)
   outside_after k outside none j within =
       ⊎_elim (λ below. outside j (record { before = below; begins = within.begins; goes_on = λ m after before. within.goes_on m after (omega arith) }))
       (λ same. none (rw same at within.begins))
@@ -68,7 +68,7 @@ module _ (lines : List (List ℕ)) where
   skipped_fine k is (never_ended begins _) = is.1 begins
 
   -- a statement outside blocks is not bad
-  pub alone_fine : (k : ℕ) (s : Statement) → ((j : ℕ) → ¬ IsWithin lines j k) → IsLine (line_at lines k) (line.Statement s) → ¬ IsFaultyLine lines k
+  pub alone_fine : (k : ℕ) (s : Statement) → ((j : ℕ) → ¬ IsInBlock lines j k) → IsLine (line_at lines k) (line.Statement s) → ¬ IsFaultyLine lines k
   alone_fine k s outside is (spells_nothing _ _ _ nothing) = nothing s is.0
   alone_fine k s outside is (ends_no_block ends _) = is.3 ends
   alone_fine k s outside is (ends_empty_block j ends _ _) = is.3 ends
@@ -78,7 +78,7 @@ module _ (lines : List (List ℕ)) where
   alone_fine k s outside is (never_ended begins _) = is.2 begins
 
   -- the first line of a block that has an end is not bad
-  pub ended_fine : (j e : ℕ) → ((i : ℕ) → ¬ IsWithin lines i j) → IsLine (line_at lines j) line.Together → j < e → SpellsEnd (line_at lines e) → ¬ IsFaultyLine lines j
+  pub ended_fine : (j e : ℕ) → ((i : ℕ) → ¬ IsInBlock lines i j) → IsLine (line_at lines j) line.Together → j < e → SpellsEnd (line_at lines e) → ¬ IsFaultyLine lines j
   ended_fine j e outside is behind end (spells_nothing _ other _ _) = other is.0
   ended_fine j e outside is behind end (ends_no_block ends _) = is.2 ends
   ended_fine j e outside is behind end (ends_empty_block i ends _ _) = is.2 ends
@@ -89,7 +89,7 @@ module _ (lines : List (List ℕ)) where
 
   module _ (j k : ℕ) (placed : List Placed) (begun : IsBlockBegun lines j k placed) where
     -- each line of the block stands in it, and line k, too
-    pub within_begun : (m : ℕ) → j < m → m ≤ k → IsWithin lines j m
+    pub within_begun : (m : ℕ) → j < m → m ≤ k → IsInBlock lines j m
     within_begun m after to = record { before = after; begins = begun.begins.0; goes_on = λ n behind below. begun.goes_on n behind (omega arith) }
 
     -- the block goes on behind a line that doesn't end it
@@ -118,7 +118,7 @@ module _ (lines : List (List ℕ)) where
         (never_ended begun.begins.0 (λ m after. ⊎_elim (λ before. begun.goes_on m after before) (λ past. none m past) (cases_lt m k)))
 
     -- line k stands in no other block, if no line of this one is bad
-    pub one_block : ((m : ℕ) → j < m → m < k → ¬ IsFaultyLine lines m) → (i : ℕ) → IsWithin lines i k → i ≡ j
+    pub one_block : ((m : ℕ) → j < m → m < k → ¬ IsFaultyLine lines m) → (i : ℕ) → IsInBlock lines i k → i ≡ j
     one_block good i within =
         elim (cases_order i j) [
           | inr (inl before) ↦ absurd (begun.read.outside i (record { before = before; begins = within.begins; goes_on = λ m after below. within.goes_on m after (omega (arith, begun.before)) }))

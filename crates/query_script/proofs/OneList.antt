@@ -10,7 +10,7 @@ use Rattle.query_script.specs.declared.statement.Placed.{Placed}
 use Rattle.query_script.specs.declared.statement.PlacedSearch.{PlacedSearch}
 use Rattle.query_script.specs.declared.statement.Statement.{Statement}
 use Rattle.query_script.specs.declared.statement.Statement.TheVariants as statement
-use Rattle.query_script.specs.Script.{AreSearchesOf, AreStatements, IsLeastBadLine, IsPlacedAt, IsSearchOf, StandsAlone, StandsAt, line_at}
+use Rattle.query_script.specs.Script.{AreSearchesOf, AreStatements, IsLeastBadLine, IsPlacedAt, IsSearchOf, StandsAlone, IsStatementAt, line_at}
 use Rattle.query_script.specs.Statements.{IsStatement, SpellsStatement, SpellsSearch, SpellsTogether}
 use Rattle.query_script.specs.Words.{bare}
 use Rattle.query_script.proofs.LineStatements.{not_together, one_word}
@@ -86,7 +86,7 @@ module _ (lines : List (List ℕ)) (first : ℕ) where
 
 module _ (lines : List (List ℕ)) where
   -- what stands alone at a line is its statement, and no block
-  alone_once : (k : ℕ) (s t : Statement) → StandsAlone lines k s → StandsAt lines k t → s ≡ t
+  alone_once : (k : ℕ) (s t : Statement) → StandsAlone lines k s → IsStatementAt lines k t → s ≡ t
   alone_once k s (statement.Import path) one other = spells_once (line_at lines k) s (statement.Import path) one.spelled other.spelled
   alone_once k s statement.Wait one other = spells_once (line_at lines k) s statement.Wait one.spelled other.spelled
   alone_once k s (statement.Until number) one other = spells_once (line_at lines k) s (statement.Until number) one.spelled other.spelled
@@ -94,7 +94,7 @@ module _ (lines : List (List ℕ)) where
   alone_once k s (statement.Together searches) one other = absurd (not_both (line_at lines k) s other.0 one.spelled)
   alone_once k s (statement.Game number) one other = spells_once (line_at lines k) s (statement.Game number) one.spelled other.spelled
 
-  block_once : (k : ℕ) (searches : List PlacedSearch) (t : Statement) → StandsAt lines k (statement.Together searches) → StandsAt lines k t →
+  block_once : (k : ℕ) (searches : List PlacedSearch) (t : Statement) → IsStatementAt lines k (statement.Together searches) → IsStatementAt lines k t →
       statement.Together searches ≡ t
   block_once k searches (statement.Import path) one other = absurd (not_both (line_at lines k) (statement.Import path) one.0 other.spelled)
   block_once k searches statement.Wait one other = absurd (not_both (line_at lines k) statement.Wait one.0 other.spelled)
@@ -103,7 +103,7 @@ module _ (lines : List (List ℕ)) where
   block_once k searches (statement.Together others) one other = ap (λ l. statement.Together l) (one_block_list lines k searches others one.1 other.1)
   block_once k searches (statement.Game number) one other = absurd (not_both (line_at lines k) (statement.Game number) one.0 other.spelled)
 
-  stands_once : (k : ℕ) (s t : Statement) → StandsAt lines k s → StandsAt lines k t → s ≡ t
+  stands_once : (k : ℕ) (s t : Statement) → IsStatementAt lines k s → IsStatementAt lines k t → s ≡ t
   stands_once k (statement.Import path) t one other = alone_once k (statement.Import path) t one other
   stands_once k statement.Wait t one other = alone_once k statement.Wait t one other
   stands_once k (statement.Until number) t one other = alone_once k (statement.Until number) t one other
@@ -118,7 +118,7 @@ module _ (lines : List (List ℕ)) where
   placed_same : (p q : Placed) → IsPlacedAt lines p → IsPlacedAt lines q → q.line ≡ p.line → q ≡ p
   placed_same p q one other same =
       same_placed q p same
-      (stands_once p.line q.statement p.statement (subst (λ n. StandsAt lines n q.statement) same other.stands) one.stands)
+      (stands_once p.line q.statement p.statement (subst (λ n. IsStatementAt lines n q.statement) same other.stands) one.stands)
 
   placed_there : (a b : List Placed) → AreStatements lines a → AreStatements lines b →
       (k : ℕ) (d : Placed) → k < length a → Any (λ (q : Placed). q ≡ get_or a k d) b

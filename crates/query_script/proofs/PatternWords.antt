@@ -8,8 +8,8 @@ use Rattle.pattern_images.specs.declared.cell.PatternCell.{PatternCell}
 use Rattle.pattern_images.specs.declared.pattern.Pattern.{Pattern}
 use Rattle.pattern_images.specs.Grid.{Grid}
 use Rattle.pattern_images.specs.Pattern.{grid_of}
-use Rattle.pattern_syntax.specs.Faults.{IsFirstFault}
-use Rattle.pattern_syntax.specs.Faults.HasFault.{unknown_byte}
+use Rattle.pattern_syntax.specs.Faults.{IsFirstPatternFault}
+use Rattle.pattern_syntax.specs.Faults.HasPatternFault.{unknown_byte}
 use Rattle.pattern_syntax.specs.Text.{SpellsPattern, cell_byte, slash, small_o, small_x}
 use Rattle.pattern_syntax.proofs.Bytes.{cell_or_none, each_cell}
 use Rattle.pattern_syntax.proofs.Spelled.{spelled-faultless}
@@ -89,7 +89,7 @@ not_utf8 words bytes is other pattern (text, only, spells) =
     other (subst IsUtf8 same (IsUtf8-from_ascii text (λ k. (spelled-plain text (grid_of pattern) spells k).ascii)))
 
 -- a word with a fault is no pattern
-pub has_fault : (words : List Word) (bytes text : List ℕ) (k : ℕ) → words ≡ bare bytes ∷ [] → text ≡ bytes → IsFirstFault text k → (pattern : Pattern) → ¬ IsPattern pattern words
+pub has_fault : (words : List Word) (bytes text : List ℕ) (k : ℕ) → words ≡ bare bytes ∷ [] → text ≡ bytes → IsFirstPatternFault text k → (pattern : Pattern) → ¬ IsPattern pattern words
 has_fault words bytes read k is read_is fault pattern (text, only, spells) =
     let both : bare bytes ∷ [] ≡ bare text ∷ [] = sym is ∙ only in
     let same : text ≡ read = cc in

@@ -7,8 +7,8 @@ use Rattle.std.proofs.lemmas.List.Quantifiers.{Any-push}
 use Rattle.std.specs.List.{Any}
 use Rattle.pattern_images.specs.declared.query.Query.{Query}
 use Rattle.query_script.specs.Lines.{IsLine}
-use Rattle.query_script.specs.Progress.{AreReadBefore, IsBlockBegun, IsBroken, IsInside, IsLineAt, IsPlacedBefore, IsSearchBefore}
-use Rattle.query_script.specs.Script.{AreSearchesBetween, AreSearchesOf, IsFaultyLine, IsLeastBadLine, IsSearch, IsSearchBetween, IsSearchOf, IsWithin, StandsAt, block_inside_block, ends_empty_block, ends_no_block, line_at, most_searches, never_ended, one_search_too_many, spells_nothing, statement_inside_block}
+use Rattle.query_script.specs.Progress.{AreReadBefore, IsBlockBegun, IsBroken, IsReadInside, IsLineAt, IsPlacedBefore, IsSearchBefore}
+use Rattle.query_script.specs.Script.{AreSearchesBetween, AreSearchesOf, IsFaultyLine, IsLeastBadLine, IsSearch, IsSearchBetween, IsSearchOf, IsInBlock, IsStatementAt, block_inside_block, ends_empty_block, ends_no_block, line_at, most_searches, never_ended, one_search_too_many, spells_nothing, statement_inside_block}
 use Rattle.query_script.specs.Statements.{SpellsEnd}
 use Rattle.query_script.specs.declared.line.Line.{Line}
 use Rattle.query_script.specs.declared.line.Line.TheVariants as line
@@ -24,7 +24,7 @@ use Rattle.query_script.proofs.ReadOutside.{stands_cases}
 module _ (lines : List (List ℕ)) where
   -- the next line begins a block
   pub begin_block : (first : ℕ) (placed : List Placed) → AreReadBefore lines first placed →
-      IsLineAt lines first line.Together → IsInside lines (first + 1) placed first []
+      IsLineAt lines first line.Together → IsReadInside lines (first + 1) placed first []
   begin_block first placed h at = record {
     begun = record { read = h; to_last = at.to_last; begins = at.line; before = omega arith; goes_on = λ m after below. absurd (omega arith) };
     good = λ m after below. absurd (omega arith);
@@ -39,11 +39,11 @@ module _ (lines : List (List ℕ)) where
   placed_block first searches = record { line = first; statement = statement.Together searches }
 
   module _ (k : ℕ) (placed : List Placed) (first : ℕ) (searches : List PlacedSearch)
-      (h : IsInside lines k placed first searches) where
-    within : IsWithin lines first k
+      (h : IsReadInside lines k placed first searches) where
+    within : IsInBlock lines first k
     within = within_begun lines first k placed h.begun k h.begun.before (omega arith)
 
-    one : (i : ℕ) → IsWithin lines i k → i ≡ first
+    one : (i : ℕ) → IsInBlock lines i k → i ≡ first
     one = one_block lines first k placed h.begun h.good
 
     -- a search between the first line of the block and line k is one of those so far
@@ -55,7 +55,7 @@ module _ (lines : List (List ℕ)) where
     good_next fine m after below = ⊎_elim (λ before. h.good m after before) (λ same. rw same fine) (lt_or_same m k below)
 
     -- the next line is skipped
-    pub skip_inside : IsLineAt lines k line.Skipped → IsInside lines (k + 1) placed first searches
+    pub skip_inside : IsLineAt lines k line.Skipped → IsReadInside lines (k + 1) placed first searches
     skip_inside at = record {
       begun = begun_after lines first k placed h.begun at.line.2;
       good = good_next (skipped_fine lines k at.line);
@@ -89,7 +89,7 @@ module _ (lines : List (List ℕ)) where
     -- the next line is a search
     pub search_inside : (query : Query) → length searches < most_searches →
         IsLineAt lines k (line.Statement (statement.Search query)) →
-        IsInside lines (k + 1) placed first (searches ++ record { line = k; query = query } ∷ [])
+        IsReadInside lines (k + 1) placed first (searches ++ record { line = k; query = query } ∷ [])
     search_inside query room at =
         let s : PlacedSearch = record { line = k; query = query } in
         record {
@@ -138,7 +138,7 @@ module _ (lines : List (List ℕ)) where
     }
 
     -- nothing else stands in the block
-    nothing_else : IsLine (line_at lines k) line.End → (m : ℕ) (s : Statement) → first < m → m < k + 1 → ¬ StandsAt lines m s
+    nothing_else : IsLine (line_at lines k) line.End → (m : ℕ) (s : Statement) → first < m → m < k + 1 → ¬ IsStatementAt lines m s
     nothing_else is m s after below stands = ⊎_elim
         (λ alone. alone.outside first (within_begun lines first k placed h.begun m after (omega arith)))
         (λ begins. ⊎_elim (λ before. h.good m after before (block_inside_block first begins (within_begun lines first k placed h.begun m after (omega arith))))

@@ -3,7 +3,7 @@ use Rattle.std.proofs.Common.{◌≡◌, ◌⊎◌, ⊎_elim, inl, inr, ℕ, ◌
 use Rattle.std.proofs.lemmas.List.Elements.{All-nil, All-push, All-weaker}
 use Rattle.std.proofs.lemmas.List.Quantifiers.{Any-push}
 use Rattle.query_script.specs.Progress.{AreReadBefore, IsLineAt, IsPlacedBefore}
-use Rattle.query_script.specs.Script.{AreStatements, IsLeastBadLine, IsPlacedAt, IsWithin, StandsAlone, StandsAt, ends_no_block, line_at, spells_nothing}
+use Rattle.query_script.specs.Script.{AreStatements, IsLeastBadLine, IsPlacedAt, IsInBlock, StandsAlone, IsStatementAt, ends_no_block, line_at, spells_nothing}
 use Rattle.query_script.specs.Statements.{SpellsStatement, SpellsTogether}
 use Rattle.query_script.specs.declared.line.Line.TheVariants as line
 use Rattle.query_script.specs.declared.statement.Placed.{Placed}
@@ -13,7 +13,7 @@ use Rattle.query_script.proofs.Faults.{alone_fine, good_after, least_bad, lt_or_
 use Rattle.query_script.proofs.PlacedLists.{Any-kept, placed_before, placed_in_order}
 
 -- what stands at a line stands there alone or is a block that begins there
-pub stands_cases : {lines : List (List ℕ)} {k : ℕ} (s : Statement) → StandsAt lines k s → StandsAlone lines k s ⊎ SpellsTogether (line_at lines k)
+pub stands_cases : {lines : List (List ℕ)} {k : ℕ} (s : Statement) → IsStatementAt lines k s → StandsAlone lines k s ⊎ SpellsTogether (line_at lines k)
 stands_cases (statement.Import path) h = inl h
 stands_cases statement.Wait h = inl h
 stands_cases (statement.Until number) h = inl h
@@ -22,7 +22,7 @@ stands_cases (statement.Together searches) h = inr h.0
 stands_cases (statement.Game number) h = inl h
 
 -- what a line outside blocks spells stands there alone
-stands_there : {lines : List (List ℕ)} {k : ℕ} (s : Statement) → SpellsStatement (line_at lines k) s → ((j : ℕ) → ¬ IsWithin lines j k) → StandsAt lines k s
+stands_there : {lines : List (List ℕ)} {k : ℕ} (s : Statement) → SpellsStatement (line_at lines k) s → ((j : ℕ) → ¬ IsInBlock lines j k) → IsStatementAt lines k s
 stands_there (statement.Import path) h outside = record { spelled = h; outside = outside }
 stands_there statement.Wait h outside = record { spelled = h; outside = outside }
 stands_there (statement.Until number) h outside = record { spelled = h; outside = outside }

@@ -6,7 +6,7 @@ use Rattle.pattern_images.specs.declared.query.Query.{Query}
 use Rattle.query_script.specs.declared.search_words.Moves.{Moves}
 use Rattle.query_script.specs.declared.word.Word.{Word}
 use Rattle.query_script.specs.Reading.{AreFromAt, AreFromBoard, AreFromFixed, AreFromMain, AreFromMoves, AreFromSame, AreMovesOf, AreParted, BeginsFrom, BeginsOtherwise, place_of_option}
-use Rattle.query_script.specs.Search.{AreMoves, IsAt, IsBoard, IsBody, IsFlag, IsPattern}
+use Rattle.query_script.specs.Search.{AreMoves, IsAt, IsBoardOption, IsBody, IsFlag, IsPattern}
 use Rattle.query_script.specs.Search.AreMoves.{given, not_given as no_moves}
 use Rattle.query_script.specs.Search.IsAt.{not_given as no_place, one_point, rectangle}
 use Rattle.query_script.specs.Words.{bare}
@@ -31,7 +31,7 @@ flag-begins : (name : List ℕ) (value : Bool) (own : List Word) → IsFlag name
 flag-begins name true own says = subst (BeginsFrom (place_of_option name)) (sym says) (omega arith)
 flag-begins name false own says = subst (BeginsFrom (place_of_option name)) (sym says) tt
 
-board-begins : (board : Option Shape) (own : List Word) → IsBoard board own → BeginsFrom 3 own
+board-begins : (board : Option Shape) (own : List Word) → IsBoardOption board own → BeginsFrom 3 own
 board-begins None own says = subst (BeginsFrom 3) (sym says) tt
 board-begins (Some shape) own (c, r, is, cols, rows) = subst (BeginsFrom 3) (sym is) (omega arith)
 
@@ -55,7 +55,7 @@ pub from_moves-begins : (words : List Word) (query : Query) → AreFromMoves wor
 from_moves-begins words query (rest, parted, at) = parted-begins AreMovesOf 4 words (record { from = query.from_move; to = query.to_move }) rest (moves-begins query.from_move query.to_move) parted (from_at-begins rest query at)
 
 pub from_board-begins : (words : List Word) (query : Query) → AreFromBoard words query → BeginsFrom 3 words
-from_board-begins words query (rest, parted, moves) = parted-begins IsBoard 3 words query.board rest (board-begins query.board) parted (from_moves-begins rest query moves)
+from_board-begins words query (rest, parted, moves) = parted-begins IsBoardOption 3 words query.board rest (board-begins query.board) parted (from_moves-begins rest query moves)
 
 pub from_main-begins : (words : List Word) (query : Query) → AreFromMain words query → BeginsFrom 2 words
 from_main-begins words query (rest, parted, board) = parted-begins (IsFlag (codes "main")) 2 words query.main rest (flag-begins (codes "main") query.main) parted (from_board-begins rest query board)
@@ -96,7 +96,7 @@ from_board words rest value query only (others, parted, board) =
     let found = only query.main others parted (begins-otherwise 3 (codes "main") others (from_board-begins others query board) (omega arith)) in
     subst (λ l. AreFromBoard l query) found.1 board
 
-pub from_moves : (words rest : List Word) (value : Option Shape) (query : Query) → IsOnly IsBoard (codes "board") words value rest → AreFromBoard words query → AreFromMoves rest query
+pub from_moves : (words rest : List Word) (value : Option Shape) (query : Query) → IsOnly IsBoardOption (codes "board") words value rest → AreFromBoard words query → AreFromMoves rest query
 from_moves words rest value query only (others, parted, moves) =
     let found = only query.board others parted (begins-otherwise 4 (codes "board") others (from_moves-begins others query moves) (omega arith)) in
     subst (λ l. AreFromMoves l query) found.1 moves
@@ -115,7 +115,7 @@ from_pattern words rest value query only (others, parted, pattern) =
 
 -- ---- words that are no option where one is needed
 
-pub no_board : (words : List Word) (query : Query) → ((board : Option Shape) (others : List Word) → AreParted IsBoard words board others → ¬ BeginsOtherwise (codes "board") others) → ¬ AreFromBoard words query
+pub no_board : (words : List Word) (query : Query) → ((board : Option Shape) (others : List Word) → AreParted IsBoardOption words board others → ¬ BeginsOtherwise (codes "board") others) → ¬ AreFromBoard words query
 no_board words query without (others, parted, moves) =
     without query.board others parted (begins-otherwise 4 (codes "board") others (from_moves-begins others query moves) (omega arith))
 

@@ -7,7 +7,7 @@ use Rattle.kb_geometry.proofs.Shapes.{shape_same}
 use Rattle.query_script.specs.declared.search_words.Moves.{Moves}
 use Rattle.query_script.specs.declared.word.Word.{Word}
 use Rattle.query_script.specs.Reading.{AreMovesOf, AreParted, BeginsOtherwise, IsPointAt}
-use Rattle.query_script.specs.Search.{IsAt, IsBoard, most_moves, rect}
+use Rattle.query_script.specs.Search.{IsAt, IsBoardOption, most_moves, rect}
 use Rattle.query_script.specs.Search.IsAt.{not_given as no_place, one_point, rectangle}
 use Rattle.query_script.specs.Search.AreMoves.{given, not_given as no_moves}
 use Rattle.query_script.specs.Words.{IsNumber, bare}
@@ -19,7 +19,7 @@ use Rattle.query_script.proofs.Numbers.{IsNumber-once}
 pub board-present : (words behind rest : List Word) (c r : Word) (shape : Shape) →
     words ≡ bare (codes "board") ∷ behind → behind ≡ c ∷ r ∷ rest →
     IsNumber c (cols_of shape) → IsNumber r (rows_of shape) →
-    AreParted IsBoard words (Some shape) rest
+    AreParted IsBoardOption words (Some shape) rest
 board-present words behind rest c r shape name is cols rows = record {
   own = bare (codes "board") ∷ c ∷ r ∷ [];
   split = name ∙ ap (λ l. bare (codes "board") ∷ l) is;
@@ -33,7 +33,7 @@ board-present words behind rest c r shape name is cols rows = record {
 }
 
 -- what a board is where the words begin with its name
-pub board_there : (words behind : List Word) (board : Option Shape) (rest : List Word) → words ≡ bare (codes "board") ∷ behind → AreParted IsBoard words board rest → BeginsOtherwise (codes "board") rest →
+pub board_there : (words behind : List Word) (board : Option Shape) (rest : List Word) → words ≡ bare (codes "board") ∷ behind → AreParted IsBoardOption words board rest → BeginsOtherwise (codes "board") rest →
     (shape : Shape) × (c r : Word) × (board ≡ Some shape) × (behind ≡ c ∷ r ∷ rest) × IsNumber c (cols_of shape) × IsNumber r (rows_of shape)
 board_there words behind None rest name parted otherwise =
     absurd (otherwise behind (sym (parted.split ∙ ap (λ l. l ++ rest) parted.says) ∙ name))
@@ -44,7 +44,7 @@ board_there words behind (Some shape) rest name parted otherwise =
     (shape, c, r, refl, behind_is, cols.0, rows.0)
 
 pub board-only : (words behind rest : List Word) (c r : Word) (shape : Shape) → words ≡ bare (codes "board") ∷ behind → behind ≡ c ∷ r ∷ rest → IsNumber c (cols_of shape) → IsNumber r (rows_of shape) →
-    (board : Option Shape) (others : List Word) → AreParted IsBoard words board others → BeginsOtherwise (codes "board") others → (board ≡ Some shape) × (others ≡ rest)
+    (board : Option Shape) (others : List Word) → AreParted IsBoardOption words board others → BeginsOtherwise (codes "board") others → (board ≡ Some shape) × (others ≡ rest)
 board-only words behind rest c r shape name is cols rows board others parted otherwise =
     let (found, a, b, some, behind_is, cols', rows') = board_there words behind board others name parted otherwise in
     let both : c ∷ r ∷ rest ≡ a ∷ b ∷ others = sym is ∙ behind_is in
@@ -55,7 +55,7 @@ board-only words behind rest c r shape name is cols rows board others parted oth
     (some ∙ ap Some same, rests)
 
 pub board-no_shape : (words behind rest : List Word) (c r : Word) → words ≡ bare (codes "board") ∷ behind → behind ≡ c ∷ r ∷ rest → ((shape : Shape) → IsNumber c (cols_of shape) → ¬ IsNumber r (rows_of shape)) →
-    (board : Option Shape) (others : List Word) → AreParted IsBoard words board others → ¬ BeginsOtherwise (codes "board") others
+    (board : Option Shape) (others : List Word) → AreParted IsBoardOption words board others → ¬ BeginsOtherwise (codes "board") others
 board-no_shape words behind rest c r name is without board others parted otherwise =
     let (found, a, b, some, behind_is, cols, rows) = board_there words behind board others name parted otherwise in
     let both : c ∷ r ∷ rest ≡ a ∷ b ∷ others = sym is ∙ behind_is in

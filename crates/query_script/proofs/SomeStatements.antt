@@ -11,7 +11,7 @@ use Rattle.query_script.specs.declared.statement.Statement.{Statement}
 use Rattle.query_script.specs.declared.statement.Statement.TheVariants as statement
 use Rattle.query_script.specs.declared.word.Word.{Word}
 use Rattle.query_script.specs.Lines.{IsLine}
-use Rattle.query_script.specs.Progress.{AreReadBefore, IsBroken, IsInside, IsLineAt}
+use Rattle.query_script.specs.Progress.{AreReadBefore, IsBroken, IsReadInside, IsLineAt}
 use Rattle.query_script.specs.Script.{AreStatements, IsLeastBadLine, line_at, most_searches}
 use Rattle.query_script.specs.Statements.{IsRemark, IsSkipped}
 use Rattle.query_script.specs.Words.{bare}
@@ -77,7 +77,7 @@ module _ (lines : List (List ℕ)) where
   -- Where reading stands: outside blocks, in a block without a bad line so far, or in one with a bad line.
   data Stand (k : ℕ) : Type 0 where
     outside : (placed : List Placed) → AreReadBefore lines k placed → Stand k
-    inside : (placed : List Placed) (first : ℕ) (searches : List PlacedSearch) → IsInside lines k placed first searches → Stand k
+    inside : (placed : List Placed) (first : ℕ) (searches : List PlacedSearch) → IsReadInside lines k placed first searches → Stand k
     broken : (placed : List Placed) (first bad : ℕ) → IsBroken lines k placed first bad → Stand k
 
   abbrev Step : ℕ → Type 0
@@ -92,7 +92,7 @@ module _ (lines : List (List ℕ)) where
       inl (outside (placed ++ p ∷ []) (read-statement lines p placed read at))
   step_outside k placed read line.Bad at = inr (k, bad_outside lines k placed read at)
 
-  step_statement : (k : ℕ) (placed : List Placed) (first : ℕ) (searches : List PlacedSearch) → IsInside lines k placed first searches →
+  step_statement : (k : ℕ) (placed : List Placed) (first : ℕ) (searches : List PlacedSearch) → IsReadInside lines k placed first searches →
       (s : Statement) → IsLineAt lines k (line.Statement s) → Step k
   step_statement k placed first searches h (statement.Search query) at = elim (cases_lt (length searches) most_searches) [
     | inl room ↦ inl (inside placed first (searches ++ record { line = k; query = query } ∷ []) (search_inside lines k placed first searches h query room at))
@@ -109,13 +109,13 @@ module _ (lines : List (List ℕ)) where
   step_statement k placed first searches h (statement.Game number) at =
       inl (broken placed first k (other_statement lines k placed first searches h (statement.Game number) (λ is. absurd (cc is.1)) at))
 
-  step_end : (k : ℕ) (placed : List Placed) (first : ℕ) (searches : List PlacedSearch) → IsInside lines k placed first searches →
+  step_end : (k : ℕ) (placed : List Placed) (first : ℕ) (searches : List PlacedSearch) → IsReadInside lines k placed first searches →
       IsLineAt lines k line.End → Step k
   step_end k placed first [] h at = inr (k, end_too_early lines k placed first [] h refl at)
   step_end k placed first (s ∷ searches) h at =
       inl (outside (placed ++ placed_block lines first (s ∷ searches) ∷ []) (end_inside lines k placed first (s ∷ searches) h (omega arith) at))
 
-  step_inside : (k : ℕ) (placed : List Placed) (first : ℕ) (searches : List PlacedSearch) → IsInside lines k placed first searches →
+  step_inside : (k : ℕ) (placed : List Placed) (first : ℕ) (searches : List PlacedSearch) → IsReadInside lines k placed first searches →
       (is : Line) → IsLineAt lines k is → Step k
   step_inside k placed first searches h line.Skipped at = inl (inside placed first searches (skip_inside lines k placed first searches h at))
   step_inside k placed first searches h line.Together at = inl (broken placed first k (block_again lines k placed first searches h at))

@@ -18,7 +18,7 @@ use Rattle.query_script.specs.declared.search_words.Moves.{Moves}
 use Rattle.query_script.specs.declared.word.Word.{Word}
 use Rattle.query_script.specs.declared.word.Word.TheVariants as word
 use Rattle.query_script.specs.Reading.{AreFromAt, AreFromBoard, AreFromFixed, AreFromMain, AreFromMoves, AreMovesOf, AreParted, BeginsOtherwise, IsPointAt}
-use Rattle.query_script.specs.Search.{AreMoves, IsAt, IsBoard, IsBody, IsCoordinate, IsFlag, IsPattern, most_moves, rect}
+use Rattle.query_script.specs.Search.{AreMoves, IsAt, IsBoardOption, IsBody, IsCoordinateWord, IsFlag, IsPattern, most_moves, rect}
 use Rattle.query_script.specs.Search.AreMoves.{given, not_given as no_moves}
 use Rattle.query_script.specs.Search.IsAt.{not_given as no_place, one_point, rectangle}
 use Rattle.query_script.specs.Words.{IsNumber, bare}
@@ -156,16 +156,16 @@ flag_in name words = elim (told_name name words) [
 -- ---- the board
 
 abbrev NoBoard : List Word → Type 0
-NoBoard words = (board : Option Shape) (others : List Word) → AreParted IsBoard words board others → BeginsOtherwise (codes "board") others → ⊥
+NoBoard words = (board : Option Shape) (others : List Word) → AreParted IsBoardOption words board others → BeginsOtherwise (codes "board") others → ⊥
 
-board_only-absent : (words : List Word) → BeginsOtherwise (codes "board") words → IsOnly IsBoard (codes "board") words None words
+board_only-absent : (words : List Word) → BeginsOtherwise (codes "board") words → IsOnly IsBoardOption (codes "board") words None words
 board_only-absent words absent None others parted otherwise =
     (refl, sym (parted.split ∙ ap (λ l. l ++ others) parted.says))
 board_only-absent words absent (Some shape) others parted otherwise =
     let (c, r, is, cols, rows) = parted.says in
     absurd (absent (c ∷ r ∷ others) (parted.split ∙ ap (λ l. l ++ others) is))
 
-board_behind : (words behind : List Word) → words ≡ bare (codes "board") ∷ behind → HasOption IsBoard (codes "board") words ⊎ NoBoard words
+board_behind : (words behind : List Word) → words ≡ bare (codes "board") ∷ behind → HasOption IsBoardOption (codes "board") words ⊎ NoBoard words
 board_behind words behind name = elim (told_two behind) [
   | inr fewer ↦ inr (fewer_none fewer)
   | inl (c, r, rest, is) ↦ elim (told_side c) [
@@ -191,7 +191,7 @@ board_behind words behind name = elim (told_two behind) [
         let (c, r, is, cols, rows) = parted.says in
         fewer c r others (behind_name (codes "board") words behind (c ∷ r ∷ others) name (parted.split ∙ ap (λ l. l ++ others) is))
 
-told_board_words : (words : List Word) → HasOption IsBoard (codes "board") words ⊎ NoBoard words
+told_board_words : (words : List Word) → HasOption IsBoardOption (codes "board") words ⊎ NoBoard words
 told_board_words words = elim (told_name (codes "board") words) [
   | inl (behind, name) ↦ board_behind words behind name
   | inr absent ↦ inl (record {
@@ -275,7 +275,7 @@ told_moves_words words = elim (told_name (codes "moves") words) [
 
 -- ---- the place
 
-told_coordinate : (w : Word) → ((n : ℕ) × IsCoordinate w n) ⊎ ((n : ℕ) → IsCoordinate w n → ⊥)
+told_coordinate : (w : Word) → ((n : ℕ) × IsCoordinateWord w n) ⊎ ((n : ℕ) → IsCoordinateWord w n → ⊥)
 told_coordinate w = elim (told_up_to w 51) [
   | inl (n, is, le) ↦ inl (n, (is, le))
   | inr never ↦ inr (λ n is. never n is.0 is.1)
@@ -297,12 +297,12 @@ told_point_at words = elim (told_two words) [
   | inl (a, b, rest, is) ↦ elim (told_coordinate a) [
     | inr never ↦ inr (λ x y others point.
         let first : point.column ≡ a = same_first point.column a (point.row ∷ others) (b ∷ rest) (sym point.split ∙ is) in
-        never x (subst (λ w. IsCoordinate w x) first point.column_is))
+        never x (subst (λ w. IsCoordinateWord w x) first point.column_is))
     | inl (x, x_is) ↦ elim (told_coordinate b) [
       | inr never ↦ inr (λ x' y others point.
           let second : point.row ≡ b = same_first point.row b others rest
           (same_rest point.column a (point.row ∷ others) (b ∷ rest) (sym point.split ∙ is)) in
-          never y (subst (λ w. IsCoordinate w y) second point.row_is))
+          never y (subst (λ w. IsCoordinateWord w y) second point.row_is))
       | inl (y, y_is) ↦ inl (record {
         x = x;
         y = y;
@@ -461,7 +461,7 @@ abbrev MainOption : List Word → Type 0
 MainOption words = HasOption (IsFlag (codes "main")) (codes "main") words
 
 abbrev BoardOption : List Word → Type 0
-BoardOption words = HasOption IsBoard (codes "board") words
+BoardOption words = HasOption IsBoardOption (codes "board") words
 
 abbrev MovesOption : List Word → Type 0
 MovesOption words = HasOption AreMovesOf (codes "moves") words

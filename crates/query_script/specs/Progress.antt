@@ -8,7 +8,7 @@ use Rattle.query_script.specs.declared.statement.Placed.{Placed}
 use Rattle.query_script.specs.declared.statement.PlacedSearch.{PlacedSearch}
 use Rattle.query_script.specs.declared.statement.Statement.{Statement}
 use Rattle.query_script.specs.Lines.{IsLine}
-use Rattle.query_script.specs.Script.{IsBadLine, IsFaultyLine, IsPlacedAt, IsSearchOf, IsWithin, StandsAt, line_at, most_searches}
+use Rattle.query_script.specs.Script.{IsBadLine, IsFaultyLine, IsPlacedAt, IsSearchOf, IsInBlock, IsStatementAt, line_at, most_searches}
 use Rattle.query_script.specs.Statements.{SpellsEnd, SpellsSearch}
 
 -- a statement stands at a line before line k
@@ -19,11 +19,11 @@ pub record IsPlacedBefore (lines : List (List ℕ)) (k : ℕ) (p : Placed) : Typ
 -- The lines before line k are read: none of them is bad, they leave no block open, and these are their statements.
 pub record AreReadBefore (lines : List (List ℕ)) (k : ℕ) (placed : List Placed) : Type 0 where
   pub from_one : 1 ≤ k
-  pub outside : (j : ℕ) → ¬ IsWithin lines j k
+  pub outside : (j : ℕ) → ¬ IsInBlock lines j k
   pub good : (m : ℕ) → m < k → ¬ IsBadLine lines m
   pub ordered : AllPairs (λ (a : Placed) (b : Placed). a.line < b.line) placed
   pub sound : All (IsPlacedBefore lines k) placed
-  pub complete : (m : ℕ) (s : Statement) → 1 ≤ m → m < k → StandsAt lines m s → Any (λ (p : Placed). p.line ≡ m) placed
+  pub complete : (m : ℕ) (s : Statement) → 1 ≤ m → m < k → IsStatementAt lines m s → Any (λ (p : Placed). p.line ≡ m) placed
 
 -- Line j begins a block that goes on before line k, and the lines before it are read.
 pub record IsBlockBegun (lines : List (List ℕ)) (j k : ℕ) (placed : List Placed) : Type 0 where
@@ -40,7 +40,7 @@ pub record IsSearchBefore (lines : List (List ℕ)) (j k : ℕ) (s : PlacedSearc
 
 -- The block that a first line begins goes on before line k, no line behind the first one is bad so far, and these are its
 -- searches.
-pub record IsInside (lines : List (List ℕ)) (k : ℕ) (placed : List Placed)
+pub record IsReadInside (lines : List (List ℕ)) (k : ℕ) (placed : List Placed)
     (first : ℕ) (searches : List PlacedSearch) : Type 0 where
   pub begun : IsBlockBegun lines first k placed
   pub good : (m : ℕ) → first < m → m < k → ¬ IsFaultyLine lines m
@@ -62,7 +62,7 @@ pub record IsBroken (lines : List (List ℕ)) (k : ℕ) (placed : List Placed) (
 abbrev pub IsReadBefore : List (List ℕ) → ℕ → List Placed → Progress → Type 0
 IsReadBefore lines k placed progress.Outside = AreReadBefore lines k placed
 IsReadBefore lines k placed (progress.Inside block) =
-    IsInside lines k placed block.line block.searches.items
+    IsReadInside lines k placed block.line block.searches.items
 IsReadBefore lines k placed (progress.Broken begun bad) = IsBroken lines k placed begun bad
 
 -- line k of the script is this

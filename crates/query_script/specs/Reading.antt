@@ -5,7 +5,7 @@ use Rattle.query_script.specs.declared.search_words.Moves.{Moves}
 use Rattle.query_script.specs.declared.word.Word.{Word}
 use Rattle.query_script.specs.declared.word.Word.TheVariants as word
 use Rattle.query_script.specs.Bytes.{letter_a, letter_b, letter_f, letter_m, letter_s, letter_t}
-use Rattle.query_script.specs.Search.{AreMoves, IsAt, IsBoard, IsCoordinate, IsFlag, IsPattern}
+use Rattle.query_script.specs.Search.{AreMoves, IsAt, IsBoardOption, IsCoordinateWord, IsFlag, IsPattern}
 use Rattle.query_script.specs.Words.{AreWords, IsBareByte, IsBlank, bare}
 
 -- the text begins with no space and no tab, or it is empty
@@ -45,8 +45,8 @@ pub record IsPointAt (words : List Word) (x y : ℕ) (rest : List Word) : Type 0
   pub column : Word
   pub row : Word
   pub split : words ≡ column ∷ row ∷ rest
-  pub column_is : IsCoordinate column x
-  pub row_is : IsCoordinate row y
+  pub column_is : IsCoordinateWord column x
+  pub row_is : IsCoordinateWord row y
 
 -- ---- the words of a search from one of its options on
 
@@ -57,7 +57,7 @@ abbrev pub AreFromMoves : List Word → Query → Type 0
 AreFromMoves words query = (rest : List Word) × AreParted AreMovesOf words (record { from = query.from_move; to = query.to_move }) rest × AreFromAt rest query
 
 abbrev pub AreFromBoard : List Word → Query → Type 0
-AreFromBoard words query = (rest : List Word) × AreParted IsBoard words query.board rest × AreFromMoves rest query
+AreFromBoard words query = (rest : List Word) × AreParted IsBoardOption words query.board rest × AreFromMoves rest query
 
 abbrev pub AreFromMain : List Word → Query → Type 0
 AreFromMain words query = (rest : List Word) × AreParted (IsFlag (codes "main")) words query.main rest × AreFromBoard rest query

@@ -18,8 +18,8 @@ abbrev pub without_end : List ℕ → List ℕ
 without_end line = without_last carriage_return (without_last line_feed line)
 
 -- the most bytes of a script
-abbrev pub most_bytes : ℕ
-most_bytes = 1048576
+abbrev pub most_script_bytes : ℕ
+most_script_bytes = 1048576
 
 -- the lines of a script: each ends with a line feed, the last one perhaps with the text
 abbrev pub script_lines : List ℕ → List (List ℕ)
@@ -30,7 +30,7 @@ abbrev pub line_at : List (List ℕ) → ℕ → List ℕ
 line_at lines k = slice_index_or ([] ∷ lines) k []
 
 -- Line k stands in the block that line j begins: no line between them ends it.
-pub record IsWithin (lines : List (List ℕ)) (j k : ℕ) : Type 0 where
+pub record IsInBlock (lines : List (List ℕ)) (j k : ℕ) : Type 0 where
   pub before : j < k
   pub begins : SpellsTogether (line_at lines j)
   pub goes_on : (m : ℕ) → j < m → m < k → ¬ SpellsEnd (line_at lines m)
@@ -68,26 +68,26 @@ pub data IsFaultyLine (lines : List (List ℕ)) (k : ℕ) : Type 0 where
       IsFaultyLine lines k
   ends_no_block :
       SpellsEnd (line_at lines k) →
-      ((j : ℕ) → ¬ IsWithin lines j k) →
+      ((j : ℕ) → ¬ IsInBlock lines j k) →
       IsFaultyLine lines k
   ends_empty_block : (j : ℕ) →
       SpellsEnd (line_at lines k) →
-      IsWithin lines j k →
+      IsInBlock lines j k →
       ((m : ℕ) → ¬ IsSearchBetween lines j k m) →
       IsFaultyLine lines k
   one_search_too_many : (j : ℕ) (query : Query) →
       SpellsSearch (line_at lines k) query →
-      IsWithin lines j k →
+      IsInBlock lines j k →
       AreSearchesBetween lines j k most_searches →
       IsFaultyLine lines k
   block_inside_block : (j : ℕ) →
       SpellsTogether (line_at lines k) →
-      IsWithin lines j k →
+      IsInBlock lines j k →
       IsFaultyLine lines k
   statement_inside_block : (j : ℕ) (s : Statement) →
       SpellsStatement (line_at lines k) s →
       ¬ IsSearch s →
-      IsWithin lines j k →
+      IsInBlock lines j k →
       IsFaultyLine lines k
   never_ended :
       SpellsTogether (line_at lines k) →
@@ -112,38 +112,38 @@ AreGood lines = (k : ℕ) → ¬ IsBadLine lines k
 -- the search is that of its line, inside the block that line j begins
 pub record IsSearchOf (lines : List (List ℕ)) (j : ℕ) (s : PlacedSearch) : Type 0 where
   pub there : s.line ≤ length lines
-  pub within : IsWithin lines j s.line
+  pub within : IsInBlock lines j s.line
   pub spelled : SpellsSearch (line_at lines s.line) s.query
 
 -- These are the searches of the block that line j begins, in order of their lines.
 pub record AreSearchesOf (lines : List (List ℕ)) (j : ℕ) (searches : List PlacedSearch) : Type 0 where
   pub ordered : AllPairs (λ (a : PlacedSearch) (b : PlacedSearch). a.line < b.line) searches
   pub sound : All (IsSearchOf lines j) searches
-  pub complete : (m : ℕ) (query : Query) → m ≤ length lines → IsWithin lines j m → SpellsSearch (line_at lines m) query → Any (λ (s : PlacedSearch). s.line ≡ m) searches
+  pub complete : (m : ℕ) (query : Query) → m ≤ length lines → IsInBlock lines j m → SpellsSearch (line_at lines m) query → Any (λ (s : PlacedSearch). s.line ≡ m) searches
 
 -- the line spells the statement by itself, outside blocks
 pub record StandsAlone (lines : List (List ℕ)) (k : ℕ) (s : Statement) : Type 0 where
   pub spelled : SpellsStatement (line_at lines k) s
-  pub outside : (j : ℕ) → ¬ IsWithin lines j k
+  pub outside : (j : ℕ) → ¬ IsInBlock lines j k
 
 -- The statement is that of line k: it stands there alone, or it is the block that begins there.
-abbrev pub StandsAt : List (List ℕ) → ℕ → Statement → Type 0
-StandsAt lines k (statement.Import path) = StandsAlone lines k (statement.Import path)
-StandsAt lines k statement.Wait = StandsAlone lines k statement.Wait
-StandsAt lines k (statement.Until number) = StandsAlone lines k (statement.Until number)
-StandsAt lines k (statement.Search query) = StandsAlone lines k (statement.Search query)
-StandsAt lines k (statement.Together searches) = SpellsTogether (line_at lines k) × AreSearchesOf lines k searches
-StandsAt lines k (statement.Game number) = StandsAlone lines k (statement.Game number)
+abbrev pub IsStatementAt : List (List ℕ) → ℕ → Statement → Type 0
+IsStatementAt lines k (statement.Import path) = StandsAlone lines k (statement.Import path)
+IsStatementAt lines k statement.Wait = StandsAlone lines k statement.Wait
+IsStatementAt lines k (statement.Until number) = StandsAlone lines k (statement.Until number)
+IsStatementAt lines k (statement.Search query) = StandsAlone lines k (statement.Search query)
+IsStatementAt lines k (statement.Together searches) = SpellsTogether (line_at lines k) × AreSearchesOf lines k searches
+IsStatementAt lines k (statement.Game number) = StandsAlone lines k (statement.Game number)
 
 -- a statement stands at this line
 pub record IsPlacedAt (lines : List (List ℕ)) (p : Placed) : Type 0 where
   pub from_one : 1 ≤ p.line
   pub to_last : p.line ≤ length lines
-  pub stands : StandsAt lines p.line p.statement
+  pub stands : IsStatementAt lines p.line p.statement
 
 -- The lines are in the grammar, and these are their statements, in order of their lines.
 pub record AreStatements (lines : List (List ℕ)) (placed : List Placed) : Type 0 where
   pub good : AreGood lines
   pub ordered : AllPairs (λ (a : Placed) (b : Placed). a.line < b.line) placed
   pub sound : All (IsPlacedAt lines) placed
-  pub complete : (k : ℕ) (s : Statement) → 1 ≤ k → k ≤ length lines → StandsAt lines k s → Any (λ (p : Placed). p.line ≡ k) placed
+  pub complete : (k : ℕ) (s : Statement) → 1 ≤ k → k ≤ length lines → IsStatementAt lines k s → Any (λ (p : Placed). p.line ≡ k) placed

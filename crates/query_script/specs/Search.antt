@@ -20,9 +20,9 @@ abbrev pub IsSideNumber : Word → ℕ → Type 0
 IsSideNumber w n = IsNumber w n × (1 ≤ n) × (n ≤ 52)
 
 -- `board C R`, or nothing
-abbrev pub IsBoard : Option Shape → List Word → Type 0
-IsBoard None words = words ≡ []
-IsBoard (Some shape) words =
+abbrev pub IsBoardOption : Option Shape → List Word → Type 0
+IsBoardOption None words = words ≡ []
+IsBoardOption (Some shape) words =
     (c : Word) × (r : Word) × (words ≡ bare (codes "board") ∷ c ∷ r ∷ []) ×
     IsSideNumber c (cols_of shape) × IsSideNumber r (rows_of shape)
 
@@ -37,8 +37,8 @@ pub data AreMoves (from to : ℕ) : List Word → Type 0 where
       AreMoves from to (bare (codes "moves") ∷ a ∷ b ∷ [])
 
 -- a column or row of a board: 0 to 51
-abbrev pub IsCoordinate : Word → ℕ → Type 0
-IsCoordinate w n = IsNumber w n × (n ≤ 51)
+abbrev pub IsCoordinateWord : Word → ℕ → Type 0
+IsCoordinateWord w n = IsNumber w n × (n ≤ 51)
 
 -- the rectangle of these corners
 abbrev pub rect : ℕ → ℕ → ℕ → ℕ → Rect
@@ -47,10 +47,10 @@ rect x0 y0 x1 y1 = record { x0 = x0; y0 = y0; x1 = x1; y1 = y1 }
 -- `at X Y`, which is the rectangle of that one point, `at X Y to X1 Y1`, or nothing
 pub data IsAt : Option Rect → List Word → Type 0 where
   not_given : IsAt None []
-  one_point : {x y : ℕ} (a b : Word) → IsCoordinate a x → IsCoordinate b y →
+  one_point : {x y : ℕ} (a b : Word) → IsCoordinateWord a x → IsCoordinateWord b y →
       IsAt (Some (rect x y x y)) (bare (codes "at") ∷ a ∷ b ∷ [])
-  rectangle : {x0 y0 x1 y1 : ℕ} (a b c d : Word) → IsCoordinate a x0 → IsCoordinate b y0 → IsCoordinate c x1 →
-      IsCoordinate d y1 → x0 ≤ x1 → y0 ≤ y1 →
+  rectangle : {x0 y0 x1 y1 : ℕ} (a b c d : Word) → IsCoordinateWord a x0 → IsCoordinateWord b y0 → IsCoordinateWord c x1 →
+      IsCoordinateWord d y1 → x0 ≤ x1 → y0 ≤ y1 →
       IsAt (Some (rect x0 y0 x1 y1)) (bare (codes "at") ∷ a ∷ b ∷ bare (codes "to") ∷ c ∷ d ∷ [])
 
 -- the word spells the pattern
@@ -71,7 +71,7 @@ pub record IsBody (words : List Word) (query : Query) : Type 0 where
   pub same_is : IsFlag (codes "same") query.same same
   pub fixed_is : IsFlag (codes "fixed") query.fixed fixed
   pub main_is : IsFlag (codes "main") query.main main
-  pub board_is : IsBoard query.board board
+  pub board_is : IsBoardOption query.board board
   pub moves_are : AreMoves query.from_move query.to_move moves
   pub at_is : IsAt query.at at
   pub pattern_is : IsPattern query.pattern pattern

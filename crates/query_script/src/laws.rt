@@ -2,12 +2,12 @@
 ghost use Rattle.std.specs.Prelude.{◌≡◌, ◌⊎◌, ℕ, List};
 ghost use Rattle.query_script.specs.declared.statement.Placed.{Placed};
 ghost use Rattle.query_script.specs.declared.statement.TheConstants.{MAX_SCRIPT};
-ghost use Rattle.query_script.specs.Script.{AreStatements, IsLeastBadLine, most_bytes, script_lines};
+ghost use Rattle.query_script.specs.Script.{AreStatements, IsLeastBadLine, most_script_bytes, script_lines};
 
 /// The longest script that [`read_script`](crate::read_script) reads has 1,048,576 bytes.
 pub fn the_longest_script_has_1048576_bytes()
     ensures number { MAX_SCRIPT ≡ 1048576 }
-    ensures limit { MAX_SCRIPT ≡ most_bytes }
+    ensures limit { MAX_SCRIPT ≡ most_script_bytes }
 {}
 
 /// A script has its statements or a least bad line, which is what [`read_script`](crate::read_script) answers. It has one

@@ -1,6 +1,6 @@
 // Reads a script.
 ghost use Rattle.std.specs.Prelude.{◌≡◌, ◌≤◌, ℕ, length, IfOk, IsErrOf};
-ghost use Rattle.query_script.specs.Script.{AreStatements, IsLeastBadLine, most_bytes, script_lines};
+ghost use Rattle.query_script.specs.Script.{AreStatements, IsLeastBadLine, most_script_bytes, script_lines};
 
 use crate::line::read_line;
 use crate::progress::Progress;
@@ -16,7 +16,7 @@ use std::alloc::Global;
 /// statement or another block inside a block, or the beginning of a block that has no end. The only other error is
 /// `NoMemory`.
 pub fn read_script(alloc: Global, text: &[u8]) -> Result<Vec<Placed>, ScriptError>
-    requires { length text.now ≤ most_bytes }
+    requires { length text.now ≤ most_script_bytes }
     ensures statements { IfOk result (λ placed. AreStatements (script_lines text.now) placed.items) }
     ensures bad_line { (k : ℕ) → IsErrOf result (ScriptError.BadLine k) → IsLeastBadLine (script_lines text.now) k }
 {

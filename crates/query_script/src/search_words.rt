@@ -8,7 +8,7 @@ ghost use Rattle.pattern_images.specs.declared.pattern.Pattern.{Pattern};
 ghost use Rattle.pattern_images.specs.declared.query.Query.{Query};
 ghost use Rattle.query_script.specs.declared.search_words.Moves.{Moves};
 ghost use Rattle.query_script.specs.declared.word.Word.{Word};
-ghost use Rattle.query_script.specs.Search.{IsAt, IsBoard, IsBody, IsCoordinate, IsFlag, IsPattern, most_moves, rect};
+ghost use Rattle.query_script.specs.Search.{IsAt, IsBoardOption, IsBody, IsCoordinateWord, IsFlag, IsPattern, most_moves, rect};
 ghost use Rattle.query_script.specs.Words.{IsNumber, bare};
 ghost use Rattle.query_script.specs.Reading.{AreMovesOf, AreParted, BeginsOtherwise, IsPointAt};
 
@@ -97,10 +97,10 @@ fn two_words(words: &[Word]) -> Option<(&Word, &Word, &[Word])>
 
 // The board of `board C R` at the beginning of the words, or no board, and the words behind that.
 fn board_of(words: &[Word]) -> Option<(Option<Shape>, &[Word])>
-    ensures parted { IfSome result (λ r. AreParted IsBoard words.now r.0 r.1.now) }
-    ensures only { IfSome result (λ r. (board : Option Shape) (rest : List Word) → AreParted IsBoard words.now board rest →
+    ensures parted { IfSome result (λ r. AreParted IsBoardOption words.now r.0 r.1.now) }
+    ensures only { IfSome result (λ r. (board : Option Shape) (rest : List Word) → AreParted IsBoardOption words.now board rest →
         BeginsOtherwise (codes "board") rest → (board ≡ r.0) × (rest ≡ r.1.now)) }
-    ensures none { result ≡ None → (board : Option Shape) (rest : List Word) → AreParted IsBoard words.now board rest →
+    ensures none { result ≡ None → (board : Option Shape) (rest : List Word) → AreParted IsBoardOption words.now board rest →
         ¬ BeginsOtherwise (codes "board") rest }
 {
     let Some(behind) = behind_name(words, b"board") else {
@@ -198,8 +198,8 @@ fn point_at(words: &[Word]) -> Option<(Point, &[Word])>
 
 // The column or row that a word names.
 fn coordinate_of(word: &Word) -> Option<u8>
-    ensures some { IfSome result (λ n. IsCoordinate word.now n) }
-    ensures none { result ≡ None → (n : ℕ) → ¬ IsCoordinate word.now n }
+    ensures some { IfSome result (λ n. IsCoordinateWord word.now n) }
+    ensures none { result ≡ None → (n : ℕ) → ¬ IsCoordinateWord word.now n }
 {
     let number = number_up_to(word, u64::from(MAX_SIDE - 1))?;
     Some(number as u8)

@@ -14,7 +14,7 @@ use Rattle.pattern_images.specs.declared.query.Query.{Query}
 use Rattle.session_core.specs.Answers.{IsAnswer, IsSearchText}
 use Rattle.node_position.specs.Games.{Game}
 use Rattle.search_run.specs.Course.{Finding, ImportCourse, IsImported, losses_of, trees_in}
-use Rattle.search_run.specs.Lawful.{AreSearchTexts, IsNamed, IsTextOf, State, after_import, joined, last_of, view_at, waiting_text, with_floor}
+use Rattle.search_run.specs.Lawful.{AreSearchTexts, IsNamed, IsStatementText, State, after_import, report_printed, last_of, view_at, waiting_text, with_floor}
 use Rattle.search_run.specs.Log.{games_in, segments_of}
 use Rattle.search_run.specs.Outcome.{counts_of}
 use Rattle.search_run.specs.Run.{serial_rules}
@@ -67,27 +67,27 @@ floor-joined (Some report) floor last le = omega arith
 module _ (files : List File) (s : State) (kept : Kept) (is : IsKept s kept) (line : ℕ) (text : List ℕ) where
   -- ---- the text of a statement
 
-  pub text-import : (path : List ℕ) → text ≡ kept_report kept ++ import_text line path → IsTextOf files serial_rules s line (statement.Import path) text
+  pub text-import : (path : List ℕ) → text ≡ kept_report kept ++ import_text line path → IsStatementText files serial_rules s line (statement.Import path) text
   text-import path of = of ∙ ap (λ t. t ++ import_text line path) (waiting_is s kept is)
 
-  pub text-wait : text ≡ kept_report kept ++ wait_text line kept.version → IsTextOf files serial_rules s line statement.Wait text
+  pub text-wait : text ≡ kept_report kept ++ wait_text line kept.version → IsStatementText files serial_rules s line statement.Wait text
   text-wait of =
-      ([], with_floor (joined s) (last_of s), (refl, of ∙ ap (λ t. t ++ wait_text line kept.version) (waiting_is s kept is) ∙ ap (λ n. waiting_text s ++ wait_text line n) is.version, refl))
+      ([], with_floor (report_printed s) (last_of s), (refl, of ∙ ap (λ t. t ++ wait_text line kept.version) (waiting_is s kept is) ∙ ap (λ n. waiting_text s ++ wait_text line n) is.version, refl))
 
-  pub text-until : (number : ℕ) → text ≡ until_text line number kept.version → IsTextOf files serial_rules s line (statement.Until number) text
+  pub text-until : (number : ℕ) → text ≡ until_text line number kept.version → IsStatementText files serial_rules s line (statement.Until number) text
   text-until number of =
       ([], with_floor s (last_of s), (last_of s, record { named = last_named s kept is; reached = inr refl }, refl, of ∙ ap (λ n. until_text line number n) is.version, refl))
 
-  pub text-together : (searches : List PlacedSearch) → BlockTexts kept searches text → IsTextOf files serial_rules s line (statement.Together searches) text
+  pub text-together : (searches : List PlacedSearch) → BlockTexts kept searches text → IsStatementText files serial_rules s line (statement.Together searches) text
   text-together searches block =
       let are = BlockTexts-are s kept is searches text block in
       ([], with_floor s are.0, (are.0, are.2, refl, refl))
 
-  pub text-search : (query : Query) → IsSearchText line (view_of kept) query text → IsTextOf files serial_rules s line (statement.Search query) text
+  pub text-search : (query : Query) → IsSearchText line (view_of kept) query text → IsStatementText files serial_rules s line (statement.Search query) text
   text-search query of =
       ([], with_floor s (last_of s), (last_of s, last_named s kept is, rw (view_kept s kept is) of, refl, refl))
 
-  pub text-game : (number : ℕ) → IsAnswer line (view_of kept) (statement.Game number) text → IsTextOf files serial_rules s line (statement.Game number) text
+  pub text-game : (number : ℕ) → IsAnswer line (view_of kept) (statement.Game number) text → IsStatementText files serial_rules s line (statement.Game number) text
   text-game number of =
       ([], with_floor s (last_of s), (last_of s, last_named s kept is, rw (view_kept s kept is) of, refl, refl))
 
@@ -101,7 +101,7 @@ module _ (files : List File) (kept : Kept) (line : ℕ) (text : List ℕ) (befor
   pub leads-wait : LeadsOn files serial_rules kept line statement.Wait text (record { version = kept.version; games = kept.games; waiting = None }) before now
   leads-wait = λ s is of. (
     [],
-    with_floor (joined s) (last_of s),
+    with_floor (report_printed s) (last_of s),
     record { version = is.version; games = is.games; waiting = refl; floor = max-le (floor-joined s.waiting s.floor (last_of s) is.floor) (omega arith) },
     (refl, of.2.1, refl),
     rose_by_none before now later,

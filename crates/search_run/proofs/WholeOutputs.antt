@@ -16,7 +16,7 @@ use Rattle.query_script.specs.Texts.{import_text, until_text, wait_text}
 use Rattle.session_core.specs.Answers.{IsAnswer, IsAnswered}
 use Rattle.session_core.proofs.OneAnswer.{answer-found, search-text}
 use Rattle.search_run.specs.Course.{Finding, ImportCourse, IsImported, losses_of, nothing_lost, trees_in}
-use Rattle.search_run.specs.Lawful.{AreSearchTexts, HasPrinted, IsBegun, IsLawful, IsNamed, IsNextPrefix, IsPassed, IsTextOf, Rules, State, after_import, at_start, joined, last_of, view_at, waiting_text, with_floor}
+use Rattle.search_run.specs.Lawful.{AreSearchTexts, HasPrinted, IsBegun, IsLawful, IsNamed, IsNextPrefix, IsPassed, IsStatementText, Rules, State, after_import, at_start, report_printed, last_of, view_at, waiting_text, with_floor}
 use Rattle.search_run.specs.Log.{Segment, games_at, games_in, segments_of}
 use Rattle.search_run.specs.Outcome.{counts_of}
 use Rattle.search_run.proofs.ImportLemmas.{losses_of-append}
@@ -60,7 +60,7 @@ module _ (files : List File) (rules : Rules) where
   greatest-named s [] greatest text h = rw h.0 (omega arith)
   greatest-named s (p ∷ ps) greatest text h = rw h.7 (max-le h.4.to (greatest-named s ps h.2 h.3 h.6))
 
-  waited : (s : State) → IsReached s → IsReached (with_floor (joined s) (last_of s))
+  waited : (s : State) → IsReached s → IsReached (with_floor (report_printed s) (last_of s))
   waited s h = record { floor = max-le (floor-joined s.waiting s.floor (last_of s) h.floor) (omega arith); trees = h.trees }
 
   imported : (s : State) (line : ℕ) (path : List ℕ) (entry : ImportCourse) (finding : Finding) → IsReached s → IsImported files path (counts_of (trees_in (games_in s.log))) entry finding → IsReached (after_import rules s line finding)
@@ -109,7 +109,7 @@ module _ (files : List File) (rules : Rules) where
   statement-passes s line (statement.Import path) h =
       (waiting_text s ++ import_text line path, import-passes s line path (waiting_text s ++ import_text line path) refl)
   statement-passes s line statement.Wait h =
-      (waiting_text s ++ wait_text line (last_of s), ([], with_floor (joined s) (last_of s), (refl, refl, refl), refl))
+      (waiting_text s ++ wait_text line (last_of s), ([], with_floor (report_printed s) (last_of s), (refl, refl, refl), refl))
   statement-passes s line (statement.Until number) h =
       (until_text line number (last_of s), ([], with_floor s (last_of s), (last_of s, record { named = last_named s h; reached = inr refl }, refl, refl, refl), refl))
   statement-passes s line (statement.Together searches) h =
@@ -122,7 +122,7 @@ module _ (files : List File) (rules : Rules) where
       (found.0, ([], with_floor s (last_of s), (last_of s, last_named s h, found.1, refl, refl), refl))
 
   -- a statement whose text is begun passes with that text
-  text-passes : (s : State) (line : ℕ) (own : Statement) (text : List ℕ) → IsTextOf files rules s line own text → Passes s line own text
+  text-passes : (s : State) (line : ℕ) (own : Statement) (text : List ℕ) → IsStatementText files rules s line own text → Passes s line own text
   text-passes s line (statement.Import path) text of = import-passes s line path text of
   text-passes s line statement.Wait text (used, next, is) = (used, next, is, rw is.0 refl)
   text-passes s line (statement.Until number) text (used, next, is) = (used, next, is, rw is.2 refl)

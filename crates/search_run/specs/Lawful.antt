@@ -44,8 +44,8 @@ abbrev pub waiting_text : State → List ℕ
 waiting_text s = option_map_or (λ report. report) s.waiting []
 
 -- a report that waits is printed: all that the last version has was seen
-abbrev pub joined : State → State
-joined s = record {
+abbrev pub report_printed : State → State
+report_printed s = record {
   log = s.log;
   floor = option_map_or (λ report. last_of s) s.waiting s.floor;
   waiting = None;
@@ -61,7 +61,7 @@ abbrev pub after_import : Rules → State → ℕ → Finding → State
 after_import rules s line finding =
     let log = s.log ++ segments_of rules.batch finding in record {
       log = log;
-      floor = (joined s).floor;
+      floor = (report_printed s).floor;
       waiting = Some (report_text line finding (length log));
     }
 
@@ -96,7 +96,7 @@ IsPassed files rules s line (statement.Import path) used text next =
     × (text ≡ waiting_text s ++ import_text line path) × (next ≡ after_import rules s line finding)
 IsPassed files rules s line statement.Wait used text next =
     (used ≡ []) × (text ≡ waiting_text s ++ wait_text line (last_of s))
-    × (next ≡ with_floor (joined s) (last_of s))
+    × (next ≡ with_floor (report_printed s) (last_of s))
 IsPassed files rules s line (statement.Until number) used text next =
     (n : ℕ) × IsAwaited rules s number n
     × (used ≡ []) × (text ≡ until_text line number n) × (next ≡ with_floor s n)
@@ -124,10 +124,10 @@ IsLawful files rules course placed out =
     × (out ≡ text ++ waiting_text s)
 
 -- the text of a statement; that of an import is known before the folder is asked
-abbrev pub IsTextOf : List File → Rules → State → ℕ → Statement → List ℕ → Type 0
-IsTextOf files rules s line (statement.Import path) text =
+abbrev pub IsStatementText : List File → Rules → State → ℕ → Statement → List ℕ → Type 0
+IsStatementText files rules s line (statement.Import path) text =
     text ≡ waiting_text s ++ import_text line path
-IsTextOf files rules s line other text =
+IsStatementText files rules s line other text =
     (used : List ImportCourse) × (next : State) × IsPassed files rules s line other used text next
 
 -- the text is a prefix of what is printed next: of the next statement's text, or of the closing
@@ -136,7 +136,7 @@ abbrev pub IsNextPrefix : List File → Rules → State → List Placed → List
 IsNextPrefix files rules s [] more = IsPrefix more (waiting_text s)
 IsNextPrefix files rules s (p ∷ ps) more =
     (more ≡ [])
-    ⊎ ((text : List ℕ) × IsTextOf files rules s p.line p.statement text × IsPrefix more text)
+    ⊎ ((text : List ℕ) × IsStatementText files rules s p.line p.statement text × IsPrefix more text)
 
 -- The text is begun: the texts of the first of these statements, by this course, and a prefix of
 -- what comes next.

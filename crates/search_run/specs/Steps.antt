@@ -10,7 +10,7 @@ use Rattle.query_script.specs.declared.statement.Statement.{Statement}
 use Rattle.session_core.specs.Answers.{IsSearchText, View}
 use Rattle.node_position.specs.Games.{Game}
 use Rattle.search_run.specs.Course.{ImportCourse, losses_of}
-use Rattle.search_run.specs.Lawful.{IsPassed, IsTextOf, Rules, State, last_of}
+use Rattle.search_run.specs.Lawful.{IsPassed, IsStatementText, Rules, State, last_of}
 use Rattle.search_run.specs.Log.{games_in}
 
 -- what the code keeps of a state: the number and the games of the last version, and the report that
@@ -49,13 +49,13 @@ kept_report kept = option_map_or (λ report. report) kept.waiting []
 -- the text is that of the statement in each state of which this is kept
 abbrev pub IsTextByKept : Rules → Kept → ℕ → Statement → List ℕ → Type 0
 IsTextByKept rules kept line own text =
-    (files : List File) (s : State) → IsKept s kept → IsTextOf files rules s line own text
+    (files : List File) (s : State) → IsKept s kept → IsStatementText files rules s line own text
 
 -- The statement was passed with this text: from each state of which one was kept it leads to one of
 -- which the other is, by a course whose losses are at most the rise of the folder's count.
 abbrev pub LeadsOn : List File → Rules → Kept → ℕ → Statement → List ℕ → Kept → ℕ → ℕ → Type 0
 LeadsOn files rules kept line own text after faults_before faults_now =
-    (s : State) → IsKept s kept → IsTextOf files rules s line own text →
+    (s : State) → IsKept s kept → IsStatementText files rules s line own text →
     (used : List ImportCourse) × (next : State) × IsKept next after
     × IsPassed files rules s line own used text next
     × RoseBy (losses_of used) faults_before faults_now

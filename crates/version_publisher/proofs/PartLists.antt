@@ -2,7 +2,7 @@
 use Rattle.std.proofs.Common.{get_or, ◌≡◌, ◌||◌, Bool, true, false, ℕ, zero, suc, List, [], ◌∷◌, ◌++◌, map, set, take, length, length-append, ◌+◌, ◌-◌, ◌<◌, ◌≤◌, ap, refl, sym, ◌∙◌, arith, append_assoc}
 use Rattle.std.specs.List.{AllZip, AppendsClones}
 use Rattle.std.proofs.lemmas.List.{map-append}
-use Rattle.version_publisher.specs.Contents.{joined, merged_last, last_two_joined, is_nonempty}
+use Rattle.version_publisher.specs.Contents.{items_in, merged_last, last_two_joined, is_nonempty}
 
 pub map_clones : {X B C : Type 0} (v : X → B) (f : B → C) (xs ys : List X) → AllZip (λ x y. v y ≡ v x) xs ys → map (λ a. f (v a)) ys ≡ map (λ a. f (v a)) xs
 map_clones v f [] [] z = refl
@@ -43,7 +43,7 @@ map_map v f (x ∷ xs) = ap (λ zs. f (v x) ∷ zs) (map_map v f xs)
 pub map_merged_last : {X Y B : Type 0} (v : X → Y) (f : Y → B) (xs ys : List X) (y : Y) → map v ys ≡ merged_last (map v xs) y → map (λ a. f (v a)) ys ≡ merged_last (map (λ a. f (v a)) xs) (f y)
 map_merged_last v f xs ys y e = map_map v f ys ∙ (ap (map f) e ∙ (map-merged_last f (map v xs) y ∙ ap (λ zs. merged_last zs (f y)) (sym (map_map v f xs))))
 
-pub joined-merged_last : {A : Type 0} (xs : List (List A)) (x : List A) → x ≡ last_two_joined xs → joined (merged_last xs x) ≡ joined xs
+pub joined-merged_last : {A : Type 0} (xs : List (List A)) (x : List A) → x ≡ last_two_joined xs → items_in (merged_last xs x) ≡ items_in xs
 joined-merged_last [] x e = refl
 joined-merged_last (a ∷ []) x e = refl
 joined-merged_last (a ∷ b ∷ []) x e = ap (λ z. z ++ []) e ∙ append_assoc a b []
@@ -98,11 +98,11 @@ last_two_there f xs a b (suc (suc k)) e h p q =
     let j : suc (suc k) - 1 ≡ suc k = omega arith in last_two_at f xs a b k e (p ∙ ap (λ n. get_or xs n a) i) (q ∙ ap (λ n. get_or xs n b) j)
 
 -- the last two parts have no more items than all of them
-pub last_two_joined-length : {A : Type 0} (xs : List (List A)) → length (last_two_joined xs) ≤ length (joined xs)
+pub last_two_joined-length : {A : Type 0} (xs : List (List A)) → length (last_two_joined xs) ≤ length (items_in xs)
 last_two_joined-length [] = omega arith
 last_two_joined-length (a ∷ []) = omega (arith, length-append a [])
 last_two_joined-length (a ∷ b ∷ []) = omega (arith, length-append a b, length-append a (b ++ []), length-append b [])
-last_two_joined-length (a ∷ b ∷ c ∷ xs) = omega (arith, last_two_joined-length (b ∷ c ∷ xs), length-append a (joined (b ∷ c ∷ xs)))
+last_two_joined-length (a ∷ b ∷ c ∷ xs) = omega (arith, last_two_joined-length (b ∷ c ∷ xs), length-append a (items_in (b ∷ c ∷ xs)))
 
-pub last_two_fit : {A : Type 0} (xs : List (List A)) (a b : List A) (most : ℕ) → last_two_joined xs ≡ a ++ b → length (joined xs) ≤ most → length a + length b ≤ most
+pub last_two_fit : {A : Type 0} (xs : List (List A)) (a b : List A) (most : ℕ) → last_two_joined xs ≡ a ++ b → length (items_in xs) ≤ most → length a + length b ≤ most
 last_two_fit xs a b most e h = omega (arith, last_two_joined-length xs, ap length e, length-append a b, h)

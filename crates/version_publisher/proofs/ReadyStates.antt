@@ -3,23 +3,23 @@ use Rattle.std.proofs.Common.{◌≡◌, ℕ, ◌+◌, ◌≤◌, List, [], ◌�
 use Rattle.std.proofs.lemmas.List.{append-nil}
 use Rattle.logbook.specs.Pages.{Book}
 use Rattle.version_publisher.specs.declared.state.Content.{Content}
-use Rattle.version_publisher.specs.Contents.{joined, content, extended, merged_content, last_two_joined, IsReady}
+use Rattle.version_publisher.specs.Contents.{items_in, content, extended, merged_content, last_two_joined, IsReady}
 use Rattle.version_publisher.proofs.PartLists.{joined-merged_last}
 use Rattle.version_publisher.proofs.Prefixes.{prefix_trans, prefix_rest, prefix_same}
 
 module _ {A : Type 0} where
-  pub joined-append : (xs ys : List (List A)) → joined (xs ++ ys) ≡ joined xs ++ joined ys
+  pub joined-append : (xs ys : List (List A)) → items_in (xs ++ ys) ≡ items_in xs ++ items_in ys
   joined-append [] ys = refl
-  joined-append (x ∷ xs) ys = ap (λ z. x ++ z) (joined-append xs ys) ∙ sym (append_assoc x (joined xs) (joined ys))
+  joined-append (x ∷ xs) ys = ap (λ z. x ++ z) (joined-append xs ys) ∙ sym (append_assoc x (items_in xs) (items_in ys))
 
   -- with one more list there are as many items more as it has
-  pub joined_append_fits : (most : ℕ) (xs : List (List A)) (x : List A) → length (joined xs) + length x ≤ most → length (joined (xs ++ x ∷ [])) ≤ most
+  pub joined_append_fits : (most : ℕ) (xs : List (List A)) (x : List A) → length (items_in xs) + length x ≤ most → length (items_in (xs ++ x ∷ [])) ≤ most
   joined_append_fits most xs x h =
-      let e : joined (xs ++ x ∷ []) ≡ joined xs ++ x = joined-append xs (x ∷ []) ∙ ap (λ z. joined xs ++ z) (append-nil x) in
-      let l : length (joined (xs ++ x ∷ [])) ≡ length (joined xs) + length x = ap length e ∙ length-append (joined xs) x in subst (λ n. n ≤ most) (sym l) h
+      let e : items_in (xs ++ x ∷ []) ≡ items_in xs ++ x = joined-append xs (x ∷ []) ∙ ap (λ z. items_in xs ++ z) (append-nil x) in
+      let l : length (items_in (xs ++ x ∷ [])) ≡ length (items_in xs) + length x = ap length e ∙ length-append (items_in xs) x in subst (λ n. n ≤ most) (sym l) h
 
   -- one more part waits
-  pub ready_longer : (most : ℕ) (published next : Content A) (waiting whole : List (List A)) (b : Book) (x : List A) → length (joined whole) + length x ≤ most → IsReady most published next waiting whole b
+  pub ready_longer : (most : ℕ) (published next : Content A) (waiting whole : List (List A)) (b : Book) (x : List A) → length (items_in whole) + length x ≤ most → IsReady most published next waiting whole b
       → IsReady most published next (waiting ++ x ∷ []) (whole ++ x ∷ []) b
   ready_longer most published next waiting whole b x h r = record {
     published_consistent = r.published_consistent;
@@ -35,7 +35,7 @@ module _ {A : Type 0} where
   pub ready_queued : (most : ℕ) (published next : Content A) (waiting whole : List (List A)) (b : Book) → IsReady most published next waiting whole b → IsReady most published (extended next (length whole) waiting whole b) [] whole b
   ready_queued most published next waiting whole b r = record {
     published_consistent = r.published_consistent;
-    next_consistent = (refl, joined-append next.parts waiting ∙ (ap (λ z. z ++ joined waiting) r.next_consistent.1 ∙ (sym (joined-append next.log waiting) ∙ ap joined r.is_whole)), r.fits);
+    next_consistent = (refl, joined-append next.parts waiting ∙ (ap (λ z. z ++ items_in waiting) r.next_consistent.1 ∙ (sym (joined-append next.log waiting) ∙ ap items_in r.is_whole)), r.fits);
     published_opening = r.published_opening;
     next_opening = refl;
     grows = prefix_trans published.log next.log whole r.grows (waiting, r.is_whole);
@@ -44,7 +44,7 @@ module _ {A : Type 0} where
   }
 
   -- the same along equations
-  pub ready_appended : (most : ℕ) (published next : Content A) (waiting waiting' whole whole' : List (List A)) (b b' : Book) (x : List A) → length (joined whole) + length x ≤ most → IsReady most published next waiting whole b
+  pub ready_appended : (most : ℕ) (published next : Content A) (waiting waiting' whole whole' : List (List A)) (b b' : Book) (x : List A) → length (items_in whole) + length x ≤ most → IsReady most published next waiting whole b
       → waiting' ≡ waiting ++ x ∷ [] → whole' ≡ whole ++ x ∷ [] → b' ≡ b → IsReady most published next waiting' whole' b'
   ready_appended most published next waiting waiting' whole whole' b b' x h r p q e =
       subst (λ (t : List (List A) × (List (List A) × Book)). IsReady most published next t.0 t.1.0 t.1.1) (λ i. (sym p i, (sym q i, sym e i))) (ready_longer most published next waiting whole b x h r)

@@ -11,7 +11,7 @@ use Rattle.atomic_table.proofs.Lists.{at_set}
 use Rattle.logbook.specs.Pages.{Book}
 use Rattle.version_publisher.specs.declared.state.Content.{Content}
 use Rattle.version_publisher.specs.declared.state.Knowledge.{Knowledge}
-use Rattle.version_publisher.specs.Contents.{Opening, opening_of, content, KnowsOnly, KnowsOne, IsLawful, IsLawfulSeat, IsEmptyOrAmong, AreEmpty, ArePrefixes, LookTells, PublishTells, ReadsArePublished, MayFollow, nothing_known, after_look, after_publish}
+use Rattle.version_publisher.specs.Contents.{Opening, opening_of, content, KnowsOnly, KnowsOne, IsLawfulContent, IsLawfulSeat, IsEmptyOrAmong, AreEmpty, ArePrefixes, LookTells, PublishTells, ReadsArePublished, MayFollow, nothing_known, after_look, after_publish}
 use Rattle.version_publisher.proofs.Prefixes.{prefix_trans, prefix_same, prefix_of_empty}
 
 pub both_know : (b : Opening) (v w : List Opening) → KnowsOnly b v → KnowsOnly b w → KnowsOnly b (v ++ w)
@@ -84,9 +84,9 @@ module _ {V : Type 0} where
       ⊎_elim (λ (s : get_elem? views j ≡ some u). each j u s) (λ (t : (j ≡ length views) × (w ≡ u)). subst (λ (s : ℕ × V). P s.0 s.1) (λ i. (sym t.0 i, t.1 i)) here) (at_end views w u j e)
 
 -- nothing is published yet, and the one seat knows nothing
-pub lawful_first : {A : Type 0} (most : ℕ) (c : Content A) (log : List (List A)) (b : Book) → c ≡ content 0 [] log b → log ≡ [] → IsLawful most c (nothing_known ∷ [])
+pub lawful_first : {A : Type 0} (most : ℕ) (c : Content A) (log : List (List A)) (b : Book) → c ≡ content 0 [] log b → log ≡ [] → IsLawfulContent most c (nothing_known ∷ [])
 lawful_first most c log b e none =
-    let first : IsLawful most (content 0 [] [] b) (nothing_known ∷ []) = record {
+    let first : IsLawfulContent most (content 0 [] [] b) (nothing_known ∷ []) = record {
       publisher = 0;
       history = [];
       consistent = (refl, refl, zero-le);
@@ -94,11 +94,11 @@ lawful_first most c log b e none =
       is_published = refl;
       rises = tt;
       each_seat = each_end (IsLawfulSeat 0 [] (opening_of b)) [] nothing_known (λ seat v at. absurd (some-ne-none v (sym at))) (tt, refl, (λ is. refl), (λ isnt. tt));
-    } in subst (λ z. IsLawful most z (nothing_known ∷ [])) (sym (e ∙ ap (λ l. content 0 [] l b) none)) first
+    } in subst (λ z. IsLawfulContent most z (nothing_known ∷ [])) (sym (e ∙ ap (λ l. content 0 [] l b) none)) first
 
 module _ {T A : Type 0} (c : T → Content A) (most : ℕ) where
   abbrev pub Holds : T → List (Knowledge A) → Type 0
-  Holds x views = IsLawful most (c x) views
+  Holds x views = IsLawfulContent most (c x) views
 
   -- a new reader knows nothing
   pub admits : Admits Holds nothing_known
@@ -194,7 +194,7 @@ reads_are_published A most c views h seat v at known other u there =
 
 -- the one that published what is published goes on to content that may follow
 pub publishes : {T A : Type 0} (c : T → Content A) (most : ℕ) (seat : ℕ) (v : Knowledge A) (x y : T) → MayFollow most (c x) (c y) → IsEmptyOrAmong (c x).log v.published
-    → TurnsAt (λ x views. IsLawful most (c x) views) seat v x y (λ v x y w. PublishTells v (c y) w)
+    → TurnsAt (λ x views. IsLawfulContent most (c x) views) seat v x y (λ v x y w. PublishTells v (c y) w)
 publishes c most seat v x y follows known views h at =
     let mine = h.each_seat seat v at in
     let own = all_its_own h.publisher h.history (c x).opening (c x).log seat v h.rises mine known in

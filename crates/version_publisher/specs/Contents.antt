@@ -9,9 +9,9 @@ use Rattle.version_publisher.specs.declared.state.Knowledge.{Knowledge}
 use Rattle.version_publisher.specs.declared.state.SearcherState.{SearcherState}
 
 -- the lists, one after another
-abbrev pub joined : {A : Type 0} → List (List A) → List A
-joined [] = []
-joined (x ∷ xs) = x ++ joined xs
+abbrev pub items_in : {A : Type 0} → List (List A) → List A
+items_in [] = []
+items_in (x ∷ xs) = x ++ items_in xs
 
 -- Names one opening: the three numbers of its log's book
 abbrev pub Opening : Type 0
@@ -47,7 +47,7 @@ merged_content c part = record c { parts = merged_last c.parts part }
 
 -- the number is the length of the log, and the parts hold the log's items, of which there are not too many
 abbrev pub IsConsistent : {A : Type 0} → ℕ → Content A → Type 0
-IsConsistent most c = (c.number ≡ length c.log) × (joined c.parts ≡ joined c.log) × (length (joined c.log) ≤ most)
+IsConsistent most c = (c.number ≡ length c.log) × (items_in c.parts ≡ items_in c.log) × (length (items_in c.log) ≤ most)
 
 -- no opening but this one is known
 abbrev pub KnowsOnly : Opening → List Opening → Type 0
@@ -79,7 +79,7 @@ IsLawfulSeat publisher history opening seat v =
     KnowsOnly opening v.openings × IsEmptyOrAmong v.read history × (seat ≡ publisher → v.published ≡ history) × (seat ≢ publisher → AreEmpty v.published)
 
 -- The rule of the published value: it is consistent, its log was published, all logs that were published are prefixes of it, and each seat knows what it may
-pub record IsLawful {A : Type 0} (most : ℕ) (c : Content A) (views : List (Knowledge A)) : Type 0 where
+pub record IsLawfulContent {A : Type 0} (most : ℕ) (c : Content A) (views : List (Knowledge A)) : Type 0 where
   pub publisher : ℕ
   pub history : List (List (List A))
   pub consistent : IsConsistent most c
@@ -91,7 +91,7 @@ pub record IsLawful {A : Type 0} (most : ℕ) (c : Content A) (views : List (Kno
 -- Under the rule, whoever has published what is published has published each log that anyone has read
 abbrev pub ReadsArePublished : Type 0 → ℕ → Type 0
 ReadsArePublished A most =
-    (c : Content A) (views : List (Knowledge A)) → IsLawful most c views
+    (c : Content A) (views : List (Knowledge A)) → IsLawfulContent most c views
     → (seat : ℕ) (v : Knowledge A) → get_elem? views seat ≡ some v → IsEmptyOrAmong c.log v.published
     → (other : ℕ) (u : Knowledge A) → get_elem? views other ≡ some u → IsEmptyOrAmong u.read v.published
 
@@ -127,7 +127,7 @@ pub record IsReady {A : Type 0} (most : ℕ) (published next : Content A) (waiti
   pub next_opening : next.opening ≡ opening_of b
   pub grows : IsPrefix published.log next.log
   pub is_whole : next.log ++ waiting ≡ whole
-  pub fits : length (joined whole) ≤ most
+  pub fits : length (items_in whole) ≤ most
 
 -- a searcher of this opening that has read, seen and learned nothing
 abbrev pub IsNewSearcher : {A : Type 0} → Opening → SearcherState A → Type 0

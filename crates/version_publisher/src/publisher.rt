@@ -3,7 +3,7 @@ ghost use Rattle.std.specs.Prelude.{◌≡◌, ◌+◌, ◌≤◌, ◌<◌, ◌^
 ghost use Rattle.std.specs.Bool.{OnFalse};
 ghost use Rattle.std.specs.Arc.{arc_value};
 ghost use Rattle.left_right.specs.Sides.{view as seat_view};
-ghost use Rattle.version_publisher.specs.Contents.{opening_of, joined, content, merged_last, last_two_joined, IsEmptyOrAmong, ReadsArePublished};
+ghost use Rattle.version_publisher.specs.Contents.{opening_of, items_in, content, merged_last, last_two_joined, IsEmptyOrAmong, ReadsArePublished};
 ghost use Rattle.version_publisher.specs.Replicas.{content_of};
 
 use crate::handles::{ReplicaWriter, publish_in_place, queue_waiting};
@@ -66,7 +66,7 @@ impl<P: Part> Publisher<P> {
     /// The log and the pending parts, this one among them, must have at most [`Part::MOST`] items, and
     /// be fewer than 2^64 parts.
     pub fn append(&mut self, part: Arc<P>) -> Result<(), (Arc<P>, NoMemory)>
-        requires room { length (joined (self.old.log ++ self.old.pending)) + length (P.items (arc_value part)) ≤ P.MOST }
+        requires room { length (items_in (self.old.log ++ self.old.pending)) + length (P.items (arc_value part)) ≤ P.MOST }
         requires number { length (self.old.log ++ self.old.pending) + 1 < 2 ^ 64 }
         ensures { MatchResult result
             (λ _. self.new ≡ record self.old { pending = self.old.pending ++ P.items (arc_value part) ∷ []; next_parts = self.old.next_parts ++ P.items (arc_value part) ∷ []; has_pending = true })

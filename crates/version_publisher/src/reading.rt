@@ -2,7 +2,7 @@
 ghost use Rattle.std.specs.Prelude.{◌≡◌, List, [], ◌∷◌, length, IfOk, IfSome};
 ghost use mathlib.Core.List.{IsPrefix};
 ghost use Rattle.left_right.specs.Sides.{view};
-ghost use Rattle.version_publisher.specs.Contents.{opening_of, joined, IsConsistent, KnowsOne};
+ghost use Rattle.version_publisher.specs.Contents.{opening_of, items_in, IsConsistent, KnowsOne};
 ghost use Rattle.version_publisher.specs.Replicas.{content_of};
 
 use crate::handles::ReplicaReader;
@@ -20,7 +20,7 @@ fn version_of<P: Part>(
     alloc: Global,
 ) -> Result<(Version<P>, Receipt<P>), LookError>
     requires consistent { IsConsistent P.MOST (content_of P.items replica.now) }
-    ensures { IfOk result (λ t. (t.1.opening ≡ opening_of replica.now.token.book) × (t.1.log ≡ replica.now.token.log) × (t.0.number ≡ length t.1.log) × (joined t.0.parts ≡ joined t.1.log)) }
+    ensures { IfOk result (λ t. (t.1.opening ≡ opening_of replica.now.token.book) × (t.1.log ≡ replica.now.token.log) × (t.0.number ≡ length t.1.log) × (items_in t.0.parts ≡ items_in t.1.log)) }
 {
     let version = Version::of(alloc, replica.number, replica.parts.as_slice())?;
     Ok((version, Receipt::new(replica.number, &replica.token)))
@@ -36,7 +36,7 @@ fn enter<P: Part>(
 )
     requires one { KnowsOne (view reader.place).openings }
     ensures reader { ((view result.0.place).openings ≡ (view reader.place).openings) × IsPrefix (view reader.place).read (view result.0.place).read }
-    ensures read { IfOk result.1 (λ t. ((view reader.place).openings ≡ t.1.opening ∷ []) × (t.1.log ≡ (view result.0.place).read) × (t.0.number ≡ length t.1.log) × (joined t.0.parts ≡ joined t.1.log) × ((log : List (List P.Item)) → IsPrefix log (view reader.place).read → IsPrefix log t.1.log)) }
+    ensures read { IfOk result.1 (λ t. ((view reader.place).openings ≡ t.1.opening ∷ []) × (t.1.log ≡ (view result.0.place).read) × (t.0.number ≡ length t.1.log) × (items_in t.0.parts ≡ items_in t.1.log) × ((log : List (List P.Item)) → IsPrefix log (view reader.place).read → IsPrefix log t.1.log)) }
 {
     let reading = match reader.enter_as::<Look>() {
         Ok(reading) => reading,
@@ -53,7 +53,7 @@ pub fn read<P: Part>(
 ) -> Result<(Version<P>, Receipt<P>), LookError>
     requires one { KnowsOne (view reader.old.place).openings }
     ensures reader { ((view reader.new.place).openings ≡ (view reader.old.place).openings) × IsPrefix (view reader.old.place).read (view reader.new.place).read }
-    ensures read { IfOk result (λ t. ((view reader.old.place).openings ≡ t.1.opening ∷ []) × (t.1.log ≡ (view reader.new.place).read) × (t.0.number ≡ length t.1.log) × (joined t.0.parts ≡ joined t.1.log) × ((log : List (List P.Item)) → IsPrefix log (view reader.old.place).read → IsPrefix log t.1.log)) }
+    ensures read { IfOk result (λ t. ((view reader.old.place).openings ≡ t.1.opening ∷ []) × (t.1.log ≡ (view reader.new.place).read) × (t.0.number ≡ length t.1.log) × (items_in t.0.parts ≡ items_in t.1.log) × ((log : List (List P.Item)) → IsPrefix log (view reader.old.place).read → IsPrefix log t.1.log)) }
 {
     replace_with(
         reader,

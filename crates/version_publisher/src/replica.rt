@@ -82,9 +82,9 @@ pub struct ReplicaRule<P> {
 
 impl<P: Part> Protocol<Replica<P>, Knowledge<P::Item>> for ReplicaRule<P> {
     ghost use Rattle.version_publisher.specs.Replicas.{content_of};
-    ghost use Rattle.version_publisher.specs.Contents.{IsLawful, nothing_known};
+    ghost use Rattle.version_publisher.specs.Contents.{IsLawfulContent, nothing_known};
 
-    ghost holds = { λ b views. IsLawful P.MOST (content_of P.items b) views };
+    ghost holds = { λ b views. IsLawfulContent P.MOST (content_of P.items b) views };
 
     ghost first = { nothing_known };
 }

@@ -2,7 +2,7 @@
 ghost use Rattle.std.specs.Prelude.{◌≡◌, ◌≤◌, List, [], ◌∷◌, length, MatchResult};
 ghost use mathlib.Core.List.{IsPrefix};
 ghost use Rattle.left_right.specs.Sides.{view as seat_view};
-ghost use Rattle.version_publisher.specs.Contents.{joined, longer, KnowsOne, IsNewSearcher};
+ghost use Rattle.version_publisher.specs.Contents.{items_in, longer, KnowsOne, IsNewSearcher};
 
 use crate::handles::ReplicaReader;
 use crate::part::Part;
@@ -102,7 +102,7 @@ impl<P: Part> Searcher<P> {
         ensures same { (self.new.opening ≡ self.old.opening) × (self.new.learned ≡ self.old.learned) }
         ensures read { IsPrefix self.old.read self.new.read }
         ensures answer { MatchResult result
-            (λ v. (self.new.seen ≡ self.new.read) × (v.number ≡ length self.new.seen) × (joined v.parts ≡ joined self.new.seen) × IsPrefix self.old.seen self.new.seen × IsPrefix self.old.learned self.new.seen)
+            (λ v. (self.new.seen ≡ self.new.read) × (v.number ≡ length self.new.seen) × (items_in v.parts ≡ items_in self.new.seen) × IsPrefix self.old.seen self.new.seen × IsPrefix self.old.learned self.new.seen)
             (λ _. self.new ≡ record self.old { read = self.new.read }) }
     {
         let (version, found) = read(&mut self.reader, alloc)?;
@@ -153,7 +153,7 @@ impl<P: Part> Searcher<P> {
         ensures same { (self.new.opening ≡ self.old.opening) × (self.new.learned ≡ self.old.learned) }
         ensures read { IsPrefix self.old.read self.new.read }
         ensures answer { MatchResult result
-            (λ v. (self.new.seen ≡ publisher.now.log) × (self.new.seen ≡ self.new.read) × (v.number ≡ length self.new.seen) × (joined v.parts ≡ joined self.new.seen) × IsPrefix self.old.seen self.new.seen)
+            (λ v. (self.new.seen ≡ publisher.now.log) × (self.new.seen ≡ self.new.read) × (v.number ≡ length self.new.seen) × (items_in v.parts ≡ items_in self.new.seen) × IsPrefix self.old.seen self.new.seen)
             (λ _. self.new ≡ record self.old { read = self.new.read }) }
     {
         let (version, found) = read(&mut self.reader, alloc)?;

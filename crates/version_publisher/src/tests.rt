@@ -2,7 +2,7 @@
 ghost use Rattle.std.specs.Prelude.{◌≡◌, ◌+◌, ◌≤◌, ◌<◌, ◌^◌, ◌++◌, ◌∷◌, [], length, IfOk};
 ghost use Rattle.std.specs.Bool.{OnTrue};
 ghost use Rattle.std.specs.Arc.{arc_value};
-ghost use Rattle.version_publisher.specs.Contents.{joined};
+ghost use Rattle.version_publisher.specs.Contents.{items_in};
 
 use crate::{Part, Publisher, Searcher, Version, open};
 use std::alloc::{AllocError, Global};
@@ -218,7 +218,7 @@ fn look_often(alloc: Global, searcher: Searcher<Numbers>) -> Looks {
 
 // Appends a copy of a part.
 fn append_copy(publisher: &mut Publisher<Numbers>, part: &Arc<Numbers>) -> bool
-    requires room { length (joined (publisher.old.log ++ publisher.old.pending)) + length (arc_value part.now).all.items ≤ 1000 }
+    requires room { length (items_in (publisher.old.log ++ publisher.old.pending)) + length (arc_value part.now).all.items ≤ 1000 }
     requires number { length (publisher.old.log ++ publisher.old.pending) + 1 < 2 ^ 64 }
     ensures same { publisher.new.opening ≡ publisher.old.opening }
     ensures log { OnTrue result (publisher.new.log ++ publisher.new.pending ≡ (publisher.old.log ++ publisher.old.pending) ++ (arc_value part.now).all.items ∷ []) }

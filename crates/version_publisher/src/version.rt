@@ -1,7 +1,7 @@
 // What a look gives.
 ghost use Rattle.std.specs.Prelude.{◌≡◌, ◌+◌, ◌≤◌, ◌<◌, ◌^◌, ◌++◌, ◌∷◌, [], map, length, IfOk, MatchResult};
 ghost use Rattle.std.specs.Arc.{arc_value};
-ghost use Rattle.version_publisher.specs.Contents.{joined};
+ghost use Rattle.version_publisher.specs.Contents.{items_in};
 
 use crate::part::Part;
 use kb_geometry::NoMemory;
@@ -20,13 +20,13 @@ impl<P: Part> Model for Version<P> {
     ghost use Rattle.std.specs.Prelude.{◌≤◌, map, length};
     ghost use Rattle.std.specs.Arc.{arc_value};
     ghost use Rattle.version_publisher.specs.declared.state.VersionState.{VersionState};
-    ghost use Rattle.version_publisher.specs.Contents.{joined};
+    ghost use Rattle.version_publisher.specs.Contents.{items_in};
 
     ghost Value = { VersionState P.Item };
 
     ghost view = { λ v. record { number = v.number; parts = map (λ a. P.items (arc_value a)) v.parts.items } };
 
-    ghost invariant = { λ v. length (joined (map (λ a. P.items (arc_value a)) v.parts.items)) ≤ P.MOST };
+    ghost invariant = { λ v. length (items_in (map (λ a. P.items (arc_value a)) v.parts.items)) ≤ P.MOST };
 }
 
 impl<P: Part> Version<P> {
@@ -42,7 +42,7 @@ impl<P: Part> Version<P> {
 
     // Copies of these parts under this number.
     pub(crate) fn of(alloc: Global, number: u64, parts: &[Arc<P>]) -> Result<Version<P>, NoMemory>
-        requires fits { length (joined (map (λ a. P.items (arc_value a)) parts.now)) ≤ P.MOST }
+        requires fits { length (items_in (map (λ a. P.items (arc_value a)) parts.now)) ≤ P.MOST }
         ensures { IfOk result (λ v. (v.number ≡ number) × (v.parts ≡ map (λ a. P.items (arc_value a)) parts.now)) }
     {
         let parts = Vec::from_clones(alloc, parts)?;
@@ -59,7 +59,7 @@ impl<P: Part> Version<P> {
     /// The parts, which together have at most [`Part::MOST`] items.
     pub fn parts(&self) -> &[Arc<P>]
         ensures items { map (λ a. P.items (arc_value a)) result.now ≡ self.now.parts }
-        ensures fits { length (joined self.now.parts) ≤ P.MOST }
+        ensures fits { length (items_in self.now.parts) ≤ P.MOST }
     {
         self.parts.as_slice()
     }
@@ -69,7 +69,7 @@ impl<P: Part> Version<P> {
     /// The items of the version and the part must together be at most [`Part::MOST`], and the number
     /// below 2^64 - 1.
     pub fn push(&mut self, part: Arc<P>) -> Result<(), (Arc<P>, NoMemory)>
-        requires room { length (joined self.old.parts) + length (P.items (arc_value part)) ≤ P.MOST }
+        requires room { length (items_in self.old.parts) + length (P.items (arc_value part)) ≤ P.MOST }
         requires number { self.old.number + 1 < 2 ^ 64 }
         ensures { MatchResult result
             (λ _. (self.new.number ≡ self.old.number + 1) × (self.new.parts ≡ self.old.parts ++ P.items (arc_value part) ∷ []))

@@ -9,7 +9,7 @@ pub loop-k-init : goal.loop-k-init
 loop-k-init c = AreMoved-start c.self.inside.words c.from-skip.result (c.args.by % 64)
 
 pub loop-k-preserved : goal.loop-k-preserved
-loop-k-preserved c = AreMoved-more c.self.inside.words c.loop-k.words c.from-skip.result (c.args.by % 64) c.loop-k.k c.loop-k.before c.loop-k.invariant _ c.joined.result refl c.joined.ensures (omega arith) (omega arith)
+loop-k-preserved c = AreMoved-more c.self.inside.words c.loop-k.words c.from-skip.result (c.args.by % 64) c.loop-k.k c.loop-k.before c.loop-k.invariant _ c.joined_word.result refl c.joined_word.ensures (omega arith) (omega arith)
 
 -- the words behind the loop, with one more where there is room
 whole : (c : goal.After-words_in_use-used) → IsMoved c.self.inside.words c.if-end-lt-WORDS.words c.from-skip.result (c.args.by % 64) c.if-end-lt-WORDS.end
@@ -20,7 +20,7 @@ whole c =
     let so_far = rw ended at c.loop-k.invariant in
     elim c.if-end-lt-WORDS.branch [
       | then-end-lt-WORDS w ↦
-          rw (w.words-is, w.end-is) (IsMoved-more xs c.self.inside.used c.self.invariant c.loop-k.words c.from-skip.result (c.args.by % 64) kept c.loop-k.before w.joined-then-end-lt-WORDS.result so_far c.min-kept.ensures w.joined-then-end-lt-WORDS.ensures w.joined-then-end-lt-WORDS.type_inv w.if-end-lt-WORDS.true)
+          rw (w.words-is, w.end-is) (IsMoved-more xs c.self.inside.used c.self.invariant c.loop-k.words c.from-skip.result (c.args.by % 64) kept c.loop-k.before w.joined_word-then-end-lt-WORDS.result so_far c.min-kept.ensures w.joined_word-then-end-lt-WORDS.ensures w.joined_word-then-end-lt-WORDS.type_inv w.if-end-lt-WORDS.true)
       | else-end-lt-WORDS w ↦
           rw (w.words-is, w.end-is) (IsMoved-room xs c.self.inside.used c.self.invariant c.loop-k.words c.from-skip.result (c.args.by % 64) kept c.loop-k.before so_far w.if-end-lt-WORDS.false)
     ]

@@ -11,6 +11,6 @@ returns-then-bits-eq0 c =
 
 pub returns : goal.returns
 returns c =
-    let w = c.joined.result in
+    let w = c.joined_word.result in
     subst (λ (now : List ℕ). (k : ℕ) → k < 64 → (bit_at w k ≡ 1) ↔ Contains now (c.args.start + k)) c.self.view_is
-    (window_across c.self.inside.words c.self.inside.used c.args.start c.self.invariant w c.word_at-low.result c.word_at.result c.from-first.result (c.args.start % 64) c.from-first.ensures refl c.word_at-low.ensures c.word_at.ensures c.joined.ensures)
+    (window_across c.self.inside.words c.self.inside.used c.args.start c.self.invariant w c.word_at-low.result c.word_at.result c.from-first.result (c.args.start % 64) c.from-first.ensures refl c.word_at-low.ensures c.word_at.ensures c.joined_word.ensures)

@@ -2,7 +2,7 @@
 use Rattle.std.proofs.Common.{ℕ, ◌+◌, ◌*◌, ◌<◌, ◌≤◌, ◌∙◌, ◌≡◌, length, slice_index, subst, ap, arith}
 use Rattle.kb_geometry.specs.declared.shape.Shape.{Shape}
 use Rattle.kb_geometry.specs.Board.{cols_of, point_count}
-use Rattle.line_matcher.specs.Begins.{IsAdded, holds_anew, seen}
+use Rattle.line_matcher.specs.Begins.{AreOccurrencesAdded, holds_anew, seen}
 use Rattle.line_matcher.proofs.Areas.{at_point, row_left, row_right, start_le}
 use Rattle.line_matcher.proofs.FoundLists.{IsAdded-trans}
 use Rattle.line_matcher.proofs.matcher.Matcher.add_row.Goals as goal
@@ -43,8 +43,8 @@ loop-x-preserved c =
     let from_is : c.start-from.result ≡ slice_index starts (row_start + c.loop-x.x) = c.start-from.ensures ∙ ap (slice_index starts) here in
     let to_is : c.start-to.result ≡ slice_index starts (row_start + (c.loop-x.x + 1)) = c.start-to.ensures ∙ ap (slice_index starts) next in
     IsAdded-trans images.placements test c.args.visit.now.node c.loop-x.invariant
-    (subst (λ (from : ℕ). IsAdded images.placements test c.args.visit.now.node from (slice_index starts (row_start + (c.loop-x.x + 1))) c.loop-x.found.items c.add_run.new.found.items) from_is
-    (subst (λ (to : ℕ). IsAdded images.placements test c.args.visit.now.node c.start-from.result to c.loop-x.found.items c.add_run.new.found.items) to_is c.in_ok-add_run.ensures))
+    (subst (λ (from : ℕ). AreOccurrencesAdded images.placements test c.args.visit.now.node from (slice_index starts (row_start + (c.loop-x.x + 1))) c.loop-x.found.items c.add_run.new.found.items) from_is
+    (subst (λ (to : ℕ). AreOccurrencesAdded images.placements test c.args.visit.now.node c.start-from.result to c.loop-x.found.items c.add_run.new.found.items) to_is c.in_ok-add_run.ensures))
 
 pub returns : goal.returns
 returns c =

@@ -1,7 +1,7 @@
 use Rattle.std.proofs.Common.{rules, arith, ◌≡◌, ◌≤◌, ◌++◌, length, map, refl, sym, ap, subst, ◌∙◌}
 use Rattle.std.proofs.lemmas.List.{length-map}
 use Rattle.std.specs.Arc.{arc_value}
-use Rattle.version_publisher.specs.Contents.{joined, last_two_joined}
+use Rattle.version_publisher.specs.Contents.{items_in, last_two_joined}
 use Rattle.version_publisher.proofs.PartLists.{last_two_there, last_two_fit}
 use Rattle.version_publisher.proofs.publisher.Publisher.last_two.Goals as goal
 
@@ -32,5 +32,5 @@ returns-clause-fits g c =
     let second : c.deref-2.result.now ≡ arc_value c.index-parts-len-2.result = search rules in
     let last = last_two_there (λ a. items (arc_value a)) xs c.index-parts-len.result c.index-parts-len-2.result _ refl two c.index-parts-len.is c.index-parts-len-2.is in
     let known = c.self.invariant.1.published_consistent in
-    let fits : length (joined (map (λ a. items (arc_value a)) all)) ≤ most = subst (λ n. n ≤ most) (ap length (sym known.1)) known.2 in
-    last_two_fit (map (λ a. items (arc_value a)) xs) (items c.deref.result.now) (items c.deref-2.result.now) most (last ∙ (λ i. items (sym first i) ++ items (sym second i))) (subst (λ zs. length (joined (map (λ a. items (arc_value a)) zs)) ≤ most) (sym parts) fits)
+    let fits : length (items_in (map (λ a. items (arc_value a)) all)) ≤ most = subst (λ n. n ≤ most) (ap length (sym known.1)) known.2 in
+    last_two_fit (map (λ a. items (arc_value a)) xs) (items c.deref.result.now) (items c.deref-2.result.now) most (last ∙ (λ i. items (sym first i) ++ items (sym second i))) (subst (λ zs. length (items_in (map (λ a. items (arc_value a)) zs)) ≤ most) (sym parts) fits)
