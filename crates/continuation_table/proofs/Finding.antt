@@ -5,17 +5,8 @@ use Rattle.std.proofs.lemmas.Bool.{cases_eq, cases_lt}
 use Rattle.pattern_images.specs.declared.hit.Place.{Place}
 use Rattle.pattern_images.specs.ImageList.{IsPlaceOf, placement_at}
 use Rattle.pattern_images.specs.Placements.{IsBefore, Placement}
+use Rattle.pattern_images.proofs.OneList.{before_opposed}
 use Rattle.continuation_table.specs.Rebuilding.{IsPlaceBefore}
-
--- no placement comes before one that comes before it
-before_asymmetric : (a b : Placement) → IsBefore a b → IsBefore b a → ⊥
-before_asymmetric a b (inl p) (inl q) = omega arith
-before_asymmetric a b (inl p) (inr q) = omega (arith, q.0)
-before_asymmetric a b (inr p) (inl q) = omega (arith, p.0)
-before_asymmetric a b (inr (row, inl p)) (inr (_, inl q)) = omega arith
-before_asymmetric a b (inr (row, inl p)) (inr (_, inr q)) = omega (arith, q.0)
-before_asymmetric a b (inr (row, inr p)) (inr (_, inl q)) = omega (arith, p.0)
-before_asymmetric a b (inr (row, inr p)) (inr (_, inr q)) = omega (arith, p.1, q.1)
 
 -- places are in the order of their placements
 places_in_order : (a b : Placement) (p q : Place) → IsPlaceOf a p → IsPlaceOf b q → IsPlaceBefore p q → IsBefore a b
@@ -42,8 +33,8 @@ module _ (placements : List Placement) (ordered : AllPairs IsBefore placements) 
       elim (cases_lt middle i) [
         | inl h ↦ h
         | inr le ↦ elim (cases_eq i middle) [
-          | inl same ↦ absurd (before_asymmetric one other first (subst (λ (k : ℕ). IsBefore (placement_at placements k) one) (sym same) (subst (λ (k : ℕ). IsBefore one (placement_at placements k)) same first)))
-          | inr ne ↦ absurd (before_asymmetric one other first (ordered i middle _ (omega arith) in_range))
+          | inl same ↦ absurd (before_opposed one other first (subst (λ (k : ℕ). IsBefore (placement_at placements k) one) (sym same) (subst (λ (k : ℕ). IsBefore one (placement_at placements k)) same first)))
+          | inr ne ↦ absurd (before_opposed one other first (ordered i middle _ (omega arith) in_range))
         ]
       ]
 

@@ -5,7 +5,7 @@ use Rattle.std.proofs.lemmas.List.{get_or_default}
 use Rattle.kb_geometry.specs.declared.stone.Colour.{Colour}
 use Rattle.pattern_images.specs.declared.hit.Hit.{Hit}
 use Rattle.pattern_images.specs.declared.hit.Next.{Next}
-use Rattle.pattern_images.proofs.OneList.{same_order}
+use Rattle.kb_geometry.proofs.Lists.{same_order}
 use Rattle.continuation_table.specs.declared.table.Row.{Row}
 use Rattle.continuation_table.specs.Counting.{HaveSameNext}
 use Rattle.continuation_table.specs.Table.{AreRows, IsRowBefore, IsRowOf, IsTable, IsTold, TableView, goes_on, going_on, tally_of}

@@ -1,4 +1,5 @@
--- The bits of a board's words, and what the words say of its members. The board's model cites these lemmas, so they stand here.
+-- The bits of a board's words, and what the words say of its members. The board's model cites these
+-- lemmas, so they stand here.
 use Rattle.std.proofs.Common.{◌≡◌, ℕ, ◌+◌, ◌*◌, ◌/◌, ◌%◌, ◌^◌, ◌<◌, ◌≤◌, ◌⊎◌, inl, inr, List, slice_index, arith, Contains}
 use Rattle.std.specs.Int.{bit_at, w64, trailing_zeros}
 use Rattle.std.specs.List.Sorted.{IsStrictlyIncreasing}
@@ -12,7 +13,8 @@ use Rattle.kb_bits.specs.MemberLaws.{Contains-numbers_below, Contains-from_numbe
 pub place_of : (k i n : ℕ) → i < 64 → n ≡ k * 64 + i → (n / 64 ≡ k) × (n % 64 ≡ i)
 place_of k i n lt e = (omega arith, omega arith)
 
-pub bit_of-place : (words : List ℕ) (k i n : ℕ) → i < 64 → n ≡ k * 64 + i → bit_of words n ≡ bit_at (slice_index words k) i
+pub bit_of-place : (words : List ℕ) (k i n : ℕ) → i < 64 → n ≡ k * 64 + i →
+    bit_of words n ≡ bit_at (slice_index words k) i
 bit_of-place words k i n lt e = let p = place_of k i n lt e in rw (p.0, p.1)
 
 -- ---- the members are the numbers below the bound whose bits are set
@@ -20,9 +22,11 @@ bit_of-place words k i n lt e = let p = place_of k i n lt e in rw (p.0, p.1)
 module _ (words : List ℕ) where
   pub Contains-members : (n : ℕ) → n < BOUND → bit_of words n ≡ 1 → Contains (members words) n
   unfolding members
-  Contains-members n lt e = Contains-numbers_below BOUND (has_bit words) n lt (eq-eqb (bit_of words n) 1 e)
+  Contains-members n lt e = Contains-numbers_below BOUND (has_bit words) n lt
+      (eq-eqb (bit_of words n) 1 e)
 
-  pub Contains-from_members : (n : ℕ) → Contains (members words) n → (n < BOUND) × (bit_of words n ≡ 1)
+  pub Contains-from_members : (n : ℕ) → Contains (members words) n →
+      (n < BOUND) × (bit_of words n ≡ 1)
   unfolding members
   Contains-from_members n h =
       let k = Contains-from_numbers_below BOUND (has_bit words) n h in
@@ -32,12 +36,14 @@ module _ (words : List ℕ) where
   unfolding members
   IsStrictlyIncreasing-members = IsStrictlyIncreasing-numbers_below BOUND (has_bit words)
 
-bit_below : (words : List ℕ) → ((n : ℕ) → BOUND ≤ n → bit_of words n ≡ 0) → (n : ℕ) → bit_of words n ≡ 1 → (n < BOUND) ⊎ (BOUND ≤ n) → Contains (members words) n
+bit_below : (words : List ℕ) → ((n : ℕ) → BOUND ≤ n → bit_of words n ≡ 0) → (n : ℕ) →
+    bit_of words n ≡ 1 → (n < BOUND) ⊎ (BOUND ≤ n) → Contains (members words) n
 bit_below words bounded n e (inl lt) = Contains-members words n lt e
 bit_below words bounded n e (inr le) = absurd (omega (arith, bounded n le))
 
 -- where no bit stands from the bound on, the members are the numbers whose bits are set
-pub member_from_bit : (words : List ℕ) → ((n : ℕ) → BOUND ≤ n → bit_of words n ≡ 0) → (n : ℕ) → bit_of words n ≡ 1 → Contains (members words) n
+pub member_from_bit : (words : List ℕ) → ((n : ℕ) → BOUND ≤ n → bit_of words n ≡ 0) → (n : ℕ) →
+    bit_of words n ≡ 1 → Contains (members words) n
 member_from_bit words bounded n e = bit_below words bounded n e (cases_lt n BOUND)
 
 pub bit_from_member : (words : List ℕ) (n : ℕ) → Contains (members words) n → bit_of words n ≡ 1

@@ -1,5 +1,7 @@
 // What a folder in memory finds among its files.
-ghost use Rattle.std.specs.Prelude.{◌≡◌, ◌≢◌, ◌&&◌, ℕ, List, AllPairs, Contains, map, find, string_bytes, IfOk};
+ghost use Rattle.std.specs.Prelude.{
+    ◌≡◌, ◌≢◌, ◌&&◌, ℕ, List, AllPairs, Contains, map, find, string_bytes, IfOk,
+};
 ghost use Rattle.std.specs.Cmp.Lexicographic.{slice_cmp};
 ghost use Rattle.std.specs.List.{list_any};
 ghost use Rattle.std.specs.Option.{option_copied};
@@ -46,7 +48,8 @@ pub fn sgf_names(alloc: Global, files: &[FileEntry], path: &str) -> Result<Vec<S
 
 /// Sorts names by their bytes, and drops repeats.
 pub fn sort_names(names: &mut Vec<String>)
-    ensures ascending { AllPairs (λ x y. slice_cmp nat_cmp x y ≡ Less) (map string_bytes names.new.items) }
+    ensures ascending { AllPairs (λ x y. slice_cmp nat_cmp x y ≡ Less)
+        (map string_bytes names.new.items) }
     ensures distinct { AllPairs (λ x y. x ≢ y) (map string_bytes names.new.items) }
     ensures kept { (name : List ℕ) → Contains (map string_bytes names.old.items) name →
         Contains (map string_bytes names.new.items) name }
@@ -59,7 +62,8 @@ pub fn sort_names(names: &mut Vec<String>)
 
 fn is_listed(file: &FileEntry, path: &str) -> bool
     ensures { result
-        ≡ (bytes_eq (string_bytes file.now.path) path.now && is_sgf_name (string_bytes file.now.name)) }
+        ≡ (bytes_eq (string_bytes file.now.path) path.now
+            && is_sgf_name (string_bytes file.now.name)) }
 {
     file.path.as_str() == path && is_sgf_name(file.name.as_str())
 }

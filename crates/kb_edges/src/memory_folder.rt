@@ -1,5 +1,8 @@
 // A folder in memory.
-ghost use Rattle.std.specs.Prelude.{◌≡◌, ◌≢◌, ◌+◌, ◌≤◌, ◌↔◌, None, Some, take, map, string_bytes, vec_len, All, AllPairs, Contains, IsTrue, IsErrOf, IsSome, IfOk, OnOk};
+ghost use Rattle.std.specs.Prelude.{
+    ◌≡◌, ◌≢◌, ◌+◌, ◌≤◌, ◌↔◌, None, Some, take, map, string_bytes, vec_len, All, AllPairs, Contains,
+    IsTrue, IsErrOf, IsSome, IfOk, OnOk,
+};
 ghost use Rattle.kb_edges.specs.Faults.{next_count};
 ghost use Rattle.kb_edges.specs.Files.{HasPath, IsListing, IsSgfName, content_of};
 ghost use Rattle.kb_edges.specs.Told.{IfTold};
@@ -18,7 +21,9 @@ pub struct MemoryFolder {
 
 impl MemoryFolder {
     ghost use Rattle.kb_edges.specs.Entries.{files_of};
-    ghost use Rattle.kb_edges.specs.Memory.{folder_files, folder_fails, folder_calls, folder_faults};
+    ghost use Rattle.kb_edges.specs.Memory.{
+        folder_files, folder_fails, folder_calls, folder_faults,
+    };
 
     /// A folder of these files, which fails at the calls of these numbers.
     pub fn new(files: Vec<FileEntry>, fails: Vec<u32>) -> MemoryFolder
@@ -49,7 +54,9 @@ impl MemoryFolder {
 }
 
 impl Folder for MemoryFolder {
-    ghost use Rattle.kb_edges.specs.Memory.{folder_files, folder_fails, folder_calls, folder_faults};
+    ghost use Rattle.kb_edges.specs.Memory.{
+        folder_files, folder_fails, folder_calls, folder_faults,
+    };
 
     ghost files = { λ folder. Some (folder_files folder) };
 
@@ -100,7 +107,8 @@ impl Folder for MemoryFolder {
         ensures content { IfOk result (λ read.
             IfTold (content_of (folder_files self.old) path.now name.now)
             (λ bytes. read.items ≡ take (limit + 1) bytes)) }
-        ensures there { OnOk result (IsSome (content_of (folder_files self.old) path.now name.now)) }
+        ensures there { OnOk result
+            (IsSome (content_of (folder_files self.old) path.now name.now)) }
         ensures missing { IsErrOf result FolderError.Missing →
             content_of (folder_files self.old) path.now name.now ≡ None }
         ensures no_memory { IsErrOf result FolderError.NoMemory →

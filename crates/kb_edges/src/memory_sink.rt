@@ -1,5 +1,7 @@
 // A sink in memory.
-ghost use Rattle.std.specs.Prelude.{◌≡◌, ◌≢◌, ◌≤◌, ◌↔◌, Some, ◌++◌, length, Contains, IsErrOf, IfOk, OnOk, OnErr};
+ghost use Rattle.std.specs.Prelude.{
+    ◌≡◌, ◌≢◌, ◌≤◌, ◌↔◌, Some, ◌++◌, length, Contains, IsErrOf, IfOk, OnOk, OnErr,
+};
 ghost use Rattle.kb_edges.specs.Faults.{next_count};
 
 use crate::plan::FailurePlan;
@@ -52,7 +54,8 @@ impl Sink for MemorySink {
 
     /// Takes the whole piece.
     fn write(&mut self, bytes: &[u8]) -> Result<usize, SinkError>
-        ensures fails { IsErrOf result SinkError.Failed ↔ Contains (sink_fails self.old) (sink_calls self.old) }
+        ensures fails { IsErrOf result SinkError.Failed
+            ↔ Contains (sink_fails self.old) (sink_calls self.old) }
         ensures whole { IfOk result (λ n. n ≡ length bytes.now) }
         ensures appended { OnOk result (sink_written self.new
             ≡ sink_written self.old ++ bytes.now) }

@@ -1,5 +1,7 @@
 // A folder over the file system.
-ghost use Rattle.std.specs.Prelude.{◌≡◌, ◌≢◌, ◌⊎◌, ◌+◌, ◌≤◌, None, map, string_bytes, vec_len, All, AllPairs, IfOk, IsErrOf};
+ghost use Rattle.std.specs.Prelude.{
+    ◌≡◌, ◌≢◌, ◌⊎◌, ◌+◌, ◌≤◌, None, map, string_bytes, vec_len, All, AllPairs, IfOk, IsErrOf,
+};
 ghost use Rattle.kb_edges.specs.Faults.{next_count};
 ghost use Rattle.kb_edges.specs.Files.{IsSgfName};
 
@@ -10,8 +12,9 @@ use std::io::{ErrorKind, Read};
 use std::rt::Files;
 use std::{fs, io};
 
-/// The files of the system. It tells nothing of them. Each error of the system but want of memory is a fault: a path
-/// that isn't there, and a name in a directory that isn't UTF-8, among them. So it never answers `Missing`.
+/// The files of the system. It tells nothing of them. Each error of the system but want of memory
+/// is a fault: a path that isn't there, and a name in a directory that isn't UTF-8, among them. So
+/// it never answers `Missing`.
 #[derive(Drop)]
 pub struct RealFolder<R: Files + AllocGlobal + Clone + Drop> {
     rt: R,

@@ -36,7 +36,8 @@ impl<R: Read> Source for RealSource<R> {
     /// Passes one read on.
     fn read(&mut self, into: &mut [u8]) -> Result<usize, ReadFailed>
         ensures bound { ReadsAtMost result into.new }
-        ensures bytes { ReadConsumes (R.remaining (reader_of self.old)) (R.remaining (reader_of self.new)) result into.new }
+        ensures bytes { ReadConsumes (R.remaining (reader_of self.old))
+            (R.remaining (reader_of self.new)) result into.new }
         ensures later { real_source_faults self.old ≤ real_source_faults self.new }
         ensures faults { OnOk result (real_source_faults self.new ≡ real_source_faults self.old) }
         ensures faults_rise { OnErr result (real_source_faults self.new

@@ -28,7 +28,8 @@ fn read_all<S: Source>(alloc: Global, source: &mut S) -> Result<(Vec<u8>, u8), F
     Ok((bytes, failed))
 }
 
-// Writes each piece, and answers what each call answered: how many bytes it took, 100 for a fault, 101 for want of memory.
+// Writes each piece, and answers what each call answered: how many bytes it took, 100 for a fault,
+// 101 for want of memory.
 fn write_each<K: Sink>(alloc: Global, sink: &mut K, pieces: &[&[u8]]) -> Result<Vec<usize>, Fail> {
     let mut answers = Vec::new(alloc);
     for piece in pieces {

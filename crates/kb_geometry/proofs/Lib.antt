@@ -1,3 +1,4 @@
+pub mod Lists
 pub mod Setups
 pub mod Shapes
 pub mod Symmetries

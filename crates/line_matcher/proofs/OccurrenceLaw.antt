@@ -9,7 +9,7 @@ use Rattle.std.proofs.lemmas.List.Elements.{All-append, All-cons, All-contains, 
 use Rattle.std.proofs.lemmas.List.FromFn.{get_or-range_with_len, length-range_with_len}
 use Rattle.std.proofs.lemmas.List.Kept.{AllPairs-cons, AllPairs-filter}
 use Rattle.capture_board.specs.Deltas.{Deltas, node_count, parent_of, position_at}
-use Rattle.capture_board.proofs.MadeChanges.{AllPairs-head, AllPairs-tail}
+use Rattle.kb_geometry.proofs.Lists.{All-flat_map, AllPairs-head, AllPairs-tail, Contains-cases, Contains-first, Contains-later, all_less, range_bounds}
 use Rattle.pattern_images.specs.ImageList.{placement_at}
 use Rattle.pattern_images.specs.Placements.{Placement}
 use Rattle.line_matcher.specs.declared.occurrence.Occurrence.{Occurrence}
@@ -18,25 +18,15 @@ use Rattle.line_matcher.proofs.HoldsLaw.{holds-decides}
 
 -- ---- what lists contain
 module _ {X : Type 0} where
-  contains_first : (x : X) (xs : List X) → Contains (x ∷ xs) x
-  contains_first x xs = (0, omega arith, refl)
-
-  contains_later : (y x : X) (xs : List X) → Contains xs x → Contains (y ∷ xs) x
-  contains_later y x xs h = (suc h.0, omega (arith, h.1), h.2)
-
-  contains_cases : (y x : X) (xs : List X) → Contains (y ∷ xs) x → (y ≡ x) ⊎ Contains xs x
-  contains_cases y x xs (zero, lt, e) = inl e
-  contains_cases y x xs (suc k, lt, e) = inr (k, omega arith, e)
-
   Contains-filter : (p : X → Bool) (xs : List X) (x : X) → Contains xs x → p x ≡ true → Contains (filter p xs) x
   Contains-filter p [] x h t = absurd (omega (arith, h.1))
   Contains-filter p (y ∷ xs) x h t =
       elim (cases_Bool (p y)) [
-        | inl kept ↦ subst (λ (b : Bool). Contains (cond b (y ∷ filter p xs) (filter p xs)) x) (sym kept) (elim (contains_cases y x xs h) [
-          | inl here ↦ subst (λ (z : X). Contains (y ∷ filter p xs) z) here (contains_first y (filter p xs))
-          | inr later ↦ contains_later y x (filter p xs) (Contains-filter p xs x later t)
+        | inl kept ↦ subst (λ (b : Bool). Contains (cond b (y ∷ filter p xs) (filter p xs)) x) (sym kept) (elim (Contains-cases y x xs h) [
+          | inl here ↦ subst (λ (z : X). Contains (y ∷ filter p xs) z) here (Contains-first y (filter p xs))
+          | inr later ↦ Contains-later y x (filter p xs) (Contains-filter p xs x later t)
         ])
-        | inr dropped ↦ subst (λ (b : Bool). Contains (cond b (y ∷ filter p xs) (filter p xs)) x) (sym dropped) (elim (contains_cases y x xs h) [
+        | inr dropped ↦ subst (λ (b : Bool). Contains (cond b (y ∷ filter p xs) (filter p xs)) x) (sym dropped) (elim (Contains-cases y x xs h) [
           | inl here ↦ absurd (false≢true (sym dropped ∙ ap p here ∙ t))
           | inr later ↦ Contains-filter p xs x later t
         ])
@@ -45,36 +35,21 @@ module _ {X : Type 0} where
 Contains-map : {X Y : Type 0} (f : X → Y) (xs : List X) (x : X) → Contains xs x → Contains (map f xs) (f x)
 Contains-map f [] x h = absurd (omega (arith, h.1))
 Contains-map f (y ∷ xs) x h =
-    elim (contains_cases y x xs h) [
-      | inl here ↦ subst (λ z. Contains (f y ∷ map f xs) (f z)) here (contains_first (f y) (map f xs))
-      | inr later ↦ contains_later (f y) (f x) (map f xs) (Contains-map f xs x later)
+    elim (Contains-cases y x xs h) [
+      | inl here ↦ subst (λ z. Contains (f y ∷ map f xs) (f z)) here (Contains-first (f y) (map f xs))
+      | inr later ↦ Contains-later (f y) (f x) (map f xs) (Contains-map f xs x later)
     ]
 
 Contains-flat_map : {X Y : Type 0} (f : X → List Y) (xs : List X) (x : X) (y : Y) → Contains xs x → Contains (f x) y → Contains (flat_map f xs) y
 Contains-flat_map f [] x y h at = absurd (omega (arith, h.1))
 Contains-flat_map f (z ∷ xs) x y h at =
-    elim (contains_cases z x xs h) [
+    elim (Contains-cases z x xs h) [
       | inl here ↦ Contains-append_left (f z) (flat_map f xs) y (subst (λ w. Contains (f w) y) (sym here) at)
       | inr later ↦ Contains-append_right (f z) (flat_map f xs) y (Contains-flat_map f xs x y later at)
     ]
 
 Contains-range : (n k : ℕ) → k < n → Contains (range_with_len 0 n) k
 Contains-range n k lt = (k, omega (arith, length-range_with_len 0 n), get_or-range_with_len 0 n k k lt ∙ omega arith)
-
--- ---- what holds of each element, and of each two
-All-flat_map : {X Y : Type 0} (P : Y → Type 0) (f : X → List Y) (xs : List X) → All (λ x. All P (f x)) xs → All P (flat_map f xs)
-All-flat_map P f [] each = All-nil P
-All-flat_map P f (x ∷ xs) each =
-    All-append P (f x) (flat_map f xs) (All-head (λ y. All P (f y)) x xs each) (All-flat_map P f xs (All-tail (λ y. All P (f y)) x xs each))
-
-range_bounds : (a n : ℕ) → All (λ k. (a ≤ k) × (k < a + n)) (range_with_len a n)
-range_bounds a zero = All-nil (λ k. (a ≤ k) × (k < a + 0))
-range_bounds a (suc n) =
-    All-cons (λ k. (a ≤ k) × (k < a + suc n)) a (range_with_len (a + 1) n) (omega arith, omega arith)
-    (All-weaker (λ k. (a + 1 ≤ k) × (k < a + 1 + n)) (λ k. (a ≤ k) × (k < a + suc n)) (λ k h. let low = h.0 in let high = h.1 in (omega arith, omega arith)) (range_with_len (a + 1) n) (range_bounds (a + 1) n))
-
-all_less : (n : ℕ) → All (λ k. k < n) (range_with_len 0 n)
-all_less n = All-weaker (λ k. (0 ≤ k) × (k < 0 + n)) (λ k. k < n) (λ k h. let high = h.1 in omega arith) (range_with_len 0 n) (range_bounds 0 n)
 
 AllPairs-nil : {X : Type 0} (R : X → X → Type 0) → AllPairs R []
 AllPairs-nil R = λ i j d before lt. absurd (omega arith)

@@ -8,19 +8,13 @@ use Rattle.std.proofs.lemmas.List.{get_or_append_left, length-append}
 use Rattle.std.proofs.lemmas.List.Elements.{All-nil, All-push, All-weaker}
 use Rattle.std.proofs.lemmas.List.Quantifiers.{Any-push, all_pairs_push}
 use Rattle.std.proofs.lemmas.Nat.{div-mul-add, mod-mul-add, mul-add-lt}
+use Rattle.kb_geometry.proofs.Lists.{Any-kept, Any-weaker}
 use Rattle.kb_geometry.specs.declared.shape.Shape.{Shape}
 use Rattle.kb_geometry.specs.Board.{cols_of, rows_of}
 use Rattle.pattern_images.specs.declared.query.Query.{Query}
 use Rattle.pattern_images.specs.Placements.{ArePlacements, Placement, IsBefore, IsResult, IsSame}
 use Rattle.pattern_images.proofs.PlacedOn.{IsPlacedOn-result}
 use Rattle.pattern_images.proofs.ToldResults.{IsFirst, first-least, first-of, placement_by, told_first}
-
-Any-kept : {X : Type 0} (Q : X → Type 0) (xs : List X) (y : X) → Any Q xs → Any Q (xs ++ y ∷ [])
-Any-kept Q xs y (k, x, below, is, holds) =
-    (k, x, omega (arith, length-append xs (y ∷ [])), get_or_append_left xs (y ∷ []) x k below ∙ is, holds)
-
-Any-weaker : {X : Type 0} (P Q : X → Type 0) → ((x : X) → P x → Q x) → (xs : List X) → Any P xs → Any Q xs
-Any-weaker P Q f xs (k, x, below, is, holds) = (k, x, below, is, f x holds)
 
 -- ---- points and labels by one number
 

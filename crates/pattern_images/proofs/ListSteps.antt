@@ -3,6 +3,7 @@ use Rattle.std.proofs.Common.{◌≡◌, ℕ, ◌+◌, ◌<◌, inl, inr, Option
 use Rattle.std.specs.Prelude.{Any}
 use Rattle.std.proofs.lemmas.Bool.{cases_lt}
 use Rattle.std.proofs.lemmas.List.{get_or-take, get_or_default, length-take-le}
+use Rattle.kb_geometry.proofs.Lists.{Any-weaker}
 use Rattle.kb_geometry.specs.declared.shape.Shape.{Shape}
 use Rattle.kb_geometry.specs.declared.shape.Point.{Point}
 use Rattle.kb_geometry.specs.Board.{IsInside}
@@ -16,9 +17,6 @@ use Rattle.pattern_images.specs.Listing.{GivesAt, IsListedTo, placement_in}
 use Rattle.pattern_images.specs.Placements.{Placement, IsResult, IsSame}
 use Rattle.pattern_images.specs.Turns.{AreTurns, IsTurn, IsTurnOf}
 use Rattle.pattern_images.proofs.Listed.{IsAt, IsListedTo-push, IsListedTo-skip}
-
-Any-weaker : {X : Type 0} (P Q : X → Type 0) → ((x : X) → P x → Q x) → (xs : List X) → Any P xs → Any Q xs
-Any-weaker P Q f xs (k, x, below, is, holds) = (k, x, below, is, f x holds)
 
 -- a turn that gives the cells at the point
 given_turn : (class : ℕ) (p : Point) (o : Option Turn) → GivesAt class p o → (turn : Turn) × (o ≡ Some turn) × (turn.class ≡ class) × IsInside turn.corners p

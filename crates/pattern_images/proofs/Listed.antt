@@ -5,6 +5,7 @@ use Rattle.std.proofs.lemmas.Bool.{cases_lt}
 use Rattle.std.proofs.lemmas.List.{get_or_append_left, length-append, map_push}
 use Rattle.std.proofs.lemmas.List.Elements.{All-nil, All-push, All-weaker}
 use Rattle.std.proofs.lemmas.List.Quantifiers.{Any-push, all_pairs_push}
+use Rattle.kb_geometry.proofs.Lists.{Any-kept}
 use Rattle.kb_geometry.specs.declared.shape.Shape.{Shape}
 use Rattle.kb_geometry.specs.Symmetry.{number_of_label}
 use Rattle.pattern_images.specs.declared.listing.StoredPlace.{StoredPlace}
@@ -37,9 +38,6 @@ earlier_label : (p : Placement) (y x label : ℕ) → IsEarlier p y x label → 
 earlier_label p y x label (inl above) row column = omega arith
 earlier_label p y x label (inr (_, inl left)) row column = omega arith
 earlier_label p y x label (inr (_, inr (_, less))) row column = less
-
-Any-front : {X : Type 0} (Q : X → Type 0) (xs : List X) (y : X) → Any Q xs → Any Q (xs ++ y ∷ [])
-Any-front Q xs y (k, x, below, is, holds) = (k, x, omega (arith, length-append xs (y ∷ [])), get_or_append_left xs (y ∷ []) x k below ∙ is, holds)
 
 module _ (query : Query) (shape : Shape) (grids : List Grid) where
   -- the places so far
@@ -105,7 +103,7 @@ module _ (query : Query) (shape : Shape) (grids : List Grid) where
       classes = All-push (λ (t : StoredPlace). t.class < length grids) stored s listed.classes class;
       complete = λ r is earlier. over (Any (IsSame r))
           (elim (earlier_cases r s.y s.x (number_of_label s.label) earlier) [
-            | inl before ↦ Any-front (IsSame r) (all_of stored) (placement_in grids s) (listed.complete r is before)
+            | inl before ↦ Any-kept (IsSame r) (all_of stored) (placement_in grids s) (listed.complete r is before)
             | inr here ↦ Any-push (IsSame r) (all_of stored) (placement_in grids s) (record { column = here.1; row = here.0; grid = only r is here })
           ]);
       sound = over (All (IsResult query shape)) (All-push (IsResult query shape) (all_of stored) (placement_in grids s) listed.sound result);

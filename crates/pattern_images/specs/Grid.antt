@@ -13,7 +13,8 @@ pub record Grid : Type 0 where
 abbrev pub cell_in : Grid → ℕ → ℕ → PatternCell
 cell_in grid x y = slice_index_or grid.cells (y * grid.cols + x) cell.Any
 
--- black for white and white for black, and "not white" for "not black"; empty cells and wildcards stay
+-- black for white and white for black, and "not white" for "not black"; empty cells and wildcards
+-- stay
 abbrev pub exchanged_cell : PatternCell → PatternCell
 exchanged_cell cell.Empty = cell.Empty
 exchanged_cell cell.Black = cell.White

@@ -11,8 +11,8 @@ use Rattle.pattern_images.specs.declared.cell.PatternCell.TheVariants as cell
 use Rattle.pattern_images.specs.Grid.{cell_in}
 use Rattle.pattern_images.specs.Placements.{Placement}
 
--- The pattern's cell allows this cell of the board: empty, black and white allow themselves alone, the half wildcards
--- black or empty and white or empty, and a wildcard allows everything.
+-- The pattern's cell allows this cell of the board: empty, black and white allow themselves alone,
+-- the half wildcards black or empty and white or empty, and a wildcard allows everything.
 abbrev pub Allows : PatternCell → Cell → Type 0
 Allows cell.Empty on_board = on_board ≡ stone.Empty
 Allows cell.Black on_board = on_board ≡ stone.Black
@@ -23,7 +23,8 @@ Allows cell.Any on_board = Unit {0}
 
 -- the number of the point of the board under column dx and row dy of the placement
 abbrev pub number_under : Shape → Placement → ℕ → ℕ → ℕ
-number_under shape placement dx dy = number_of shape (point_of (placement.x + dx) (placement.y + dy))
+number_under shape placement dx dy = number_of shape (point_of (placement.x + dx)
+    (placement.y + dy))
 
 -- each cell of the placement allows the board's cell under it
 abbrev pub Holds : Shape → Position → Placement → Type 0

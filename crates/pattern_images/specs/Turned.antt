@@ -18,19 +18,24 @@ source label to p = moved (inverse_number (symmetry_of label)) to p
 
 -- the cell of the turned pattern at a point
 abbrev pub turned_cell : ℕ → Shape → Grid → Point → PatternCell
-turned_cell label to grid p = labelled_cell label (cell_in grid (source label to p).x (source label to p).y)
+turned_cell label to grid p = labelled_cell label
+    (cell_in grid (source label to p).x (source label to p).y)
 
 -- a rectangle of this size, each cell by its point
 abbrev pub grid_by : Shape → (Point → PatternCell) → Grid
-grid_by size f = record { cols = cols_of size; rows = rows_of size; cells = map (λ k. f (numbered size k)) (range_with_len 0 (point_count size)) }
+grid_by size f = record {
+    cols = cols_of size; rows = rows_of size;
+    cells = map (λ k. f (numbered size k)) (range_with_len 0 (point_count size)) }
 
--- the upper left point, after a symmetry of the board, of a rectangle of this size that has its upper left point there
+-- the upper left point, after a symmetry of the board, of a rectangle of this size that has its
+-- upper left point there
 abbrev pub upper_left : ℕ → Shape → Shape → Point → Point
 upper_left n shape size base =
     if n == 0 then point_of base.x base.y
     else if n == 1 then point_of (cols_of shape - cols_of size - base.x) base.y
     else if n == 2 then point_of base.x (rows_of shape - rows_of size - base.y)
-    else if n == 3 then point_of (cols_of shape - cols_of size - base.x) (rows_of shape - rows_of size - base.y)
+    else if n == 3 then point_of (cols_of shape - cols_of size - base.x)
+        (rows_of shape - rows_of size - base.y)
     else if n == 4 then point_of base.y base.x
     else if n == 5 then point_of base.y (cols_of shape - cols_of size - base.x)
     else if n == 6 then point_of (rows_of shape - rows_of size - base.y) base.x

@@ -32,12 +32,14 @@ pub record AreBasePlaces (query : Query) (shape : Shape) (r : Rect) : Type 0 whe
 abbrev pub HasNoBasePlace : Query → Shape → Type 0
 HasNoBasePlace query shape = (p : Point) → IsForBoard query shape → IsBasePlace query shape p → ⊥
 
--- The results of a label, by a turn: the placements with the turn's rectangle of cells whose upper left point lies in its
--- rectangle of points.
-pub record IsTurnOf (query : Query) (shape : Shape) (grids : List Grid) (number : ℕ) (turn : Turn) : Type 0 where
+-- The results of a label, by a turn: the placements with the turn's rectangle of cells whose upper
+-- left point lies in its rectangle of points.
+pub record IsTurnOf (query : Query) (shape : Shape) (grids : List Grid) (number : ℕ)
+    (turn : Turn) : Type 0 where
   pub label : number_of_label turn.label ≡ number
   pub class : turn.class < length grids
-  pub results : (p : Placement) → p.label ≡ number → IsResult query shape p ↔ (IsInside turn.corners (point_of p.x p.y) × (p.grid ≡ grid_at grids turn.class))
+  pub results : (p : Placement) → p.label ≡ number → IsResult query shape p
+      ↔ (IsInside turn.corners (point_of p.x p.y) × (p.grid ≡ grid_at grids turn.class))
 
 -- what a label makes of the query's pattern: nothing, or its results by a turn
 abbrev pub IsTurn : Query → Shape → List Grid → ℕ → Option Turn → Type 0
@@ -45,8 +47,10 @@ IsTurn query shape grids label None = (p : Placement) → p.label ≡ label → 
 IsTurn query shape grids label (Some turn) = IsTurnOf query shape grids label turn
 
 -- the turn at each place is that of the label with this number
-pub record AreTurns (query : Query) (shape : Shape) (grids : List Grid) (turns : List (Option Turn)) : Type 0 where
-  pub each : (label : ℕ) → label < length turns → IsTurn query shape grids label (slice_index_or turns label None)
+pub record AreTurns (query : Query) (shape : Shape) (grids : List Grid)
+    (turns : List (Option Turn)) : Type 0 where
+  pub each : (label : ℕ) → label < length turns →
+      IsTurn query shape grids label (slice_index_or turns label None)
   pub distinct : AreDistinct grids
   pub few : length grids ≤ length turns
 

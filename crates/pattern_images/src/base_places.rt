@@ -7,8 +7,8 @@ ghost use Rattle.pattern_images.specs.Turns.{AreBasePlaces, HasNoBasePlace, IsCo
 use crate::Query;
 use kb_geometry::{Rect, Shape};
 
-// The base places of the query on a board of this shape. `None` where there are none, or where the query names another
-// board.
+// The base places of the query on a board of this shape. `None` where there are none, or where the
+// query names another board.
 pub(crate) fn base_places(query: &Query, shape: Shape) -> Option<Rect>
     ensures { MatchOption result (HasNoBasePlace query.now shape) (AreBasePlaces query.now shape) }
 {

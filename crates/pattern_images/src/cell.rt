@@ -23,7 +23,8 @@ pub enum PatternCell {
 impl PatternCell {
     ghost use Rattle.pattern_images.specs.Grid.{exchanged_cell};
 
-    /// Black for white and white for black, and the same where no stone may stand too. Empty cells and wildcards stay.
+    /// Black for white and white for black, and the same where no stone may stand too. Empty cells
+    /// and wildcards stay.
     pub fn exchanged(self) -> Self
         ensures { result ≡ exchanged_cell self }
     {

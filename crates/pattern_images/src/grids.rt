@@ -1,5 +1,7 @@
 // Rectangles of pattern cells, all in one list.
-ghost use Rattle.std.specs.Prelude.{◌≡◌, ◌↔◌, ℕ, IsTrue, ◌<◌, ◌*◌, ◌++◌, ◌∷◌, [], length, map, All, IfOk, IfSome, IsNone, Contains};
+ghost use Rattle.std.specs.Prelude.{
+    ◌≡◌, ◌↔◌, ℕ, IsTrue, ◌<◌, ◌*◌, ◌++◌, ◌∷◌, [], length, map, All, IfOk, IfSome, IsNone, Contains,
+};
 ghost use Rattle.kb_geometry.specs.Board.{cols_of, rows_of, point_count};
 
 use crate::PatternCell;
@@ -67,7 +69,8 @@ impl Grids {
     pub(crate) fn cells(&self, number: usize) -> &[PatternCell]
         requires { number < length self.now }
         ensures value { result.now ≡ (grid_at self.now number).cells }
-        ensures count { length result.now ≡ (grid_at self.now number).cols * (grid_at self.now number).rows }
+        ensures count { length result.now
+            ≡ (grid_at self.now number).cols * (grid_at self.now number).rows }
     {
         let StoredGrid { size, start } = self.stored[number];
         &self.cells[start..start + usize::from(size.count())]
@@ -75,8 +78,12 @@ impl Grids {
 
     // The number of the rectangle of this size with these cells. `None` where there is none.
     pub(crate) fn find(&self, size: Shape, cells: &[PatternCell]) -> Option<usize>
-        ensures found { IfSome result (λ k. (k < length self.now) × (grid_at self.now k ≡ record { cols = cols_of size; rows = rows_of size; cells = cells.now })) }
-        ensures none { IsNone result → ¬ Contains self.now (record { cols = cols_of size; rows = rows_of size; cells = cells.now }) }
+        ensures found { IfSome result (λ k. (k < length self.now)
+            × (grid_at self.now k ≡ record { cols = cols_of size; rows = rows_of size;
+            cells = cells.now })) }
+        ensures none { IsNone result →
+            ¬ Contains self.now (record {
+            cols = cols_of size; rows = rows_of size; cells = cells.now }) }
     {
         for number in 0..self.len() {
             if self.is(number, size, cells) {
@@ -89,7 +96,8 @@ impl Grids {
     // Whether this rectangle has this size and these cells.
     fn is(&self, number: usize, size: Shape, cells: &[PatternCell]) -> bool
         requires { number < length self.now }
-        ensures { IsTrue result ↔ (grid_at self.now number ≡ record { cols = cols_of size; rows = rows_of size; cells = cells.now }) }
+        ensures { IsTrue result ↔ (grid_at self.now number
+            ≡ record { cols = cols_of size; rows = rows_of size; cells = cells.now }) }
     {
         self.size(number) == size && self.cells(number) == cells
     }
@@ -97,7 +105,9 @@ impl Grids {
     // The number of the rectangle of this size with these cells, which is added if it isn't there.
     pub(crate) fn number(&mut self, size: Shape, cells: &[PatternCell]) -> Result<usize, AllocError>
         requires { length cells.now ≡ point_count size }
-        ensures there { IfOk result (λ k. (k < length self.new) × (grid_at self.new k ≡ record { cols = cols_of size; rows = rows_of size; cells = cells.now })) }
+        ensures there { IfOk result (λ k. (k < length self.new)
+            × (grid_at self.new k ≡ record { cols = cols_of size; rows = rows_of size;
+            cells = cells.now })) }
         ensures grown { IfOk result (λ _. HasGrown self.old self.new) }
     {
         if let Some(number) = self.find(size, cells) {
@@ -111,7 +121,9 @@ impl Grids {
     // One more rectangle, of this size and with these cells.
     pub(crate) fn push(&mut self, size: Shape, cells: &[PatternCell]) -> Result<(), AllocError>
         requires { length cells.now ≡ point_count size }
-        ensures { IfOk result (λ _. self.new ≡ self.old ++ record { cols = cols_of size; rows = rows_of size; cells = cells.now } ∷ []) }
+        ensures { IfOk result (λ _. self.new
+            ≡ self.old ++ record { cols = cols_of size; rows = rows_of size; cells = cells.now }
+            ∷ []) }
     {
         let start = self.cells.len();
         self.cells.extend_from_slice(cells)?;

@@ -1,8 +1,8 @@
 // Where a pattern was found, as plain data.
 use kb_geometry::{Colour, Label, Outcome};
 
-/// A placement of a pattern on a board, without its cells: the upper left point and the size of its rectangle, and the
-/// least label that gives it.
+/// A placement of a pattern on a board, without its cells: the upper left point and the size of its
+/// rectangle, and the least label that gives it.
 #[derive(Clone, Copy, Debug, PartialEq, Eq, Hash)]
 pub struct Place {
     pub x: u8,

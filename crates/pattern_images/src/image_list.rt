@@ -8,12 +8,13 @@ use crate::{PatternCell, Place};
 use kb_geometry::Shape;
 use std::marker::Model;
 
-/// The placements of a query on a board of one shape, in order of rows, columns and labels, each once and under its
-/// least label. See [`images`](crate::images).
+/// The placements of a query on a board of one shape, in order of rows, columns and labels, each
+/// once and under its least label. See [`images`](crate::images).
 ///
-/// The cells of a placement are one of at most 16 rectangles of cells, here called classes: one for each different
-/// way in which the pattern can be turned and its colours exchanged, so no two are equal. Placements of one class
-/// differ only in where they stand, so what follows from their cells can be made once for each class.
+/// The cells of a placement are one of at most 16 rectangles of cells, here called classes: one for
+/// each different way in which the pattern can be turned and its colours exchanged, so no two are
+/// equal. Placements of one class differ only in where they stand, so what follows from their cells
+/// can be made once for each class.
 #[derive(Debug, Drop)]
 pub struct Images {
     pub(crate) shape: Shape,
@@ -29,14 +30,18 @@ impl Model for Images {
 
     ghost use Rattle.pattern_images.specs.Listing.{placement_in, AreStoredOn};
 
-    ghost view = { λ im. record { shape = im.shape; grids = im.grids; placements = map (placement_in im.grids) im.places.items } };
+    ghost view = { λ im. record {
+        shape = im.shape; grids = im.grids;
+        placements = map (placement_in im.grids) im.places.items } };
 
     ghost invariant = { λ im. AreStoredOn im.shape im.grids im.places.items };
 }
 
 impl Images {
     ghost use Rattle.pattern_images.specs.Grid.{cell_in};
-    ghost use Rattle.pattern_images.specs.ImageList.{grid_at, placement_at, AreImages, IsPlaceOf, IsPlacedOn};
+    ghost use Rattle.pattern_images.specs.ImageList.{
+        grid_at, placement_at, AreImages, IsPlaceOf, IsPlacedOn,
+    };
 
     /// The shape of the board.
     pub fn shape(&self) -> Shape
@@ -118,7 +123,8 @@ impl Images {
     pub fn class_cells(&self, class: usize) -> &[PatternCell]
         requires { class < length self.now.grids }
         ensures value { result.now ≡ (grid_at self.now.grids class).cells }
-        ensures count { length result.now ≡ (grid_at self.now.grids class).cols * (grid_at self.now.grids class).rows }
+        ensures count { length result.now
+            ≡ (grid_at self.now.grids class).cols * (grid_at self.now.grids class).rows }
     {
         self.grids.cells(class)
     }

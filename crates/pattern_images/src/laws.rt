@@ -4,7 +4,8 @@ ghost use Rattle.kb_geometry.specs.declared.shape.Shape.{Shape};
 ghost use Rattle.pattern_images.specs.declared.query.Query.{Query};
 ghost use Rattle.pattern_images.specs.Placements.{ArePlacements, Placement};
 
-/// A query has a list of placements on a board of each shape, and one only: that of [`images`](crate::images).
+/// A query has a list of placements on a board of each shape, and one only: that of
+/// [`images`](crate::images).
 pub fn a_query_has_one_list_of_placements()
     ensures some { (query : Query) (shape : Shape) →
         (placements : List Placement) × ArePlacements query shape placements }

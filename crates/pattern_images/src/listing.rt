@@ -9,7 +9,8 @@ use kb_geometry::{Label, Point, Shape};
 use std::alloc::{AllocError, Global};
 use std::mem::size_of;
 
-// A place, in 4 bytes: the upper left point, the least label, and the number of the rectangle of cells.
+// A place, in 4 bytes: the upper left point, the least label, and the number of the rectangle of
+// cells.
 #[derive(Clone, Copy, Debug)]
 pub(crate) struct StoredPlace {
     pub(crate) x: u8,
@@ -20,14 +21,16 @@ pub(crate) struct StoredPlace {
 
 const _: () = prove!(size_of::<StoredPlace>() == 4);
 
-// The places of the turns on a board: by row, then by column, then by label, each under its least label.
+// The places of the turns on a board: by row, then by column, then by label, each under its least
+// label.
 pub(crate) fn list_places(
     alloc: Global,
     turns: &[Option<Turn>],
     shape: Shape,
 ) -> Result<Vec<StoredPlace>, AllocError>
     requires { length turns.now ≡ 16 }
-    ensures { IfOk result (λ places. ListsOn shape turns.now 0 0 0 [] (rows_of shape) 0 0 places.items) }
+    ensures { IfOk result (λ places. ListsOn shape turns.now 0 0 0 [] (rows_of shape) 0 0
+        places.items) }
 {
     let mut places = Vec::new(alloc);
     for y in 0..shape.rows() {
@@ -44,7 +47,8 @@ fn list_row(
     places: &mut Vec<StoredPlace>,
 ) -> Result<(), AllocError>
     requires { length turns.now ≡ 16 }
-    ensures { IfOk result (λ _. ListsOn shape turns.now y 0 0 places.old.items (y + 1) 0 0 places.new.items) }
+    ensures { IfOk result (λ _. ListsOn shape turns.now y 0 0 places.old.items (y + 1) 0 0
+        places.new.items) }
 {
     for x in 0..shape.cols() {
         list_point(turns, Point { x, y }, places)?;
@@ -59,7 +63,8 @@ fn list_point(
     places: &mut Vec<StoredPlace>,
 ) -> Result<(), AllocError>
     requires { length turns.now ≡ 16 }
-    ensures { IfOk result (λ _. (shape : Shape) → ListsOn shape turns.now p.y p.x 0 places.old.items p.y (p.x + 1) 0 places.new.items) }
+    ensures { IfOk result (λ _. (shape : Shape) →
+        ListsOn shape turns.now p.y p.x 0 places.old.items p.y (p.x + 1) 0 places.new.items) }
 {
     for number in 0..turns.len() {
         list_label(turns, number, p, places)?;
@@ -75,7 +80,9 @@ fn list_label(
     places: &mut Vec<StoredPlace>,
 ) -> Result<(), AllocError>
     requires { number < length turns.now }
-    ensures { IfOk result (λ _. (shape : Shape) → ListsOn shape turns.now p.y p.x number places.old.items p.y p.x (number + 1) places.new.items) }
+    ensures { IfOk result (λ _. (shape : Shape) →
+        ListsOn shape turns.now p.y p.x number places.old.items p.y p.x (number + 1)
+        places.new.items) }
 {
     let Some(turn) = turns[number] else {
         return Ok(());

@@ -10,13 +10,14 @@ use crate::{Images, Query};
 use kb_geometry::{NoMemory, Shape};
 use std::alloc::Global;
 
-/// The placements of the query's pattern on a board of this shape. There are none where the query names another board,
-/// and where the pattern doesn't fit. The only error is `NoMemory`.
+/// The placements of the query's pattern on a board of this shape. There are none where the query
+/// names another board, and where the pattern doesn't fit. The only error is `NoMemory`.
 ///
-/// A base place is a point from which the pattern, as it is written, lies on the board, and which lies in the query's
-/// rectangle `at` if it has one. For each label of the query and each base place, the label's symmetry of the board moves
-/// the pattern's points, and its colours are exchanged if the label says so. What this gives is a rectangle with one cell
-/// for each point. Equal ones are one placement, which carries the least of the labels that give it.
+/// A base place is a point from which the pattern, as it is written, lies on the board, and which
+/// lies in the query's rectangle `at` if it has one. For each label of the query and each base
+/// place, the label's symmetry of the board moves the pattern's points, and its colours are
+/// exchanged if the label says so. What this gives is a rectangle with one cell for each point.
+/// Equal ones are one placement, which carries the least of the labels that give it.
 pub fn images(alloc: Global, query: &Query, shape: Shape) -> Result<Images, NoMemory>
     ensures shape { IfOk result (λ im. im.shape ≡ shape) }
     ensures placements { IfOk result (λ im. ArePlacements query.now shape im.placements) }

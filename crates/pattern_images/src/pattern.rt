@@ -6,7 +6,8 @@ use crate::{CellList, PatternCell};
 use kb_geometry::{MAX_SIDE, NoMemory, Shape};
 use std::alloc::Global;
 
-/// A pattern: a rectangle of cells, row by row from the upper left, with 1 to [`MAX_SIDE`] columns and as many rows.
+/// A pattern: a rectangle of cells, row by row from the upper left, with 1 to [`MAX_SIDE`] columns
+/// and as many rows.
 #[derive(Debug, Drop)]
 pub struct Pattern {
     cols: u8,
@@ -21,11 +22,13 @@ impl Pattern {
     ghost use Rattle.pattern_images.specs.Grid.{cell_in};
     ghost use Rattle.pattern_images.specs.Pattern.{grid_of};
 
-    /// The pattern of these cells. `None` exactly where a side is none of 1 to [`MAX_SIDE`], or where there are not
-    /// `cols * rows` cells.
+    /// The pattern of these cells. `None` exactly where a side is none of 1 to [`MAX_SIDE`], or
+    /// where there are not `cols * rows` cells.
     pub fn new(cols: u8, rows: u8, cells: Vec<PatternCell>) -> Option<Self>
-        ensures fits { IsSome result ↔ (IsSide cols × IsSide rows × (length cells.items ≡ cols * rows)) }
-        ensures made { IfSome result (λ pattern. grid_of pattern ≡ record { cols = cols; rows = rows; cells = cells.items }) }
+        ensures fits { IsSome result
+            ↔ (IsSide cols × IsSide rows × (length cells.items ≡ cols * rows)) }
+        ensures made { IfSome result (λ pattern. grid_of pattern
+            ≡ record { cols = cols; rows = rows; cells = cells.items }) }
     {
         let sides = 1..=MAX_SIDE;
         if !sides.contains(&cols) || !sides.contains(&rows) {

@@ -21,8 +21,8 @@ pub struct Query {
     pub from_move: u32,
     /// The greatest move number that counts.
     pub to_move: u32,
-    /// Where the pattern's upper left point may stand before it is moved, if that is told. Both corners belong to
-    /// the rectangle. It may reach past the board.
+    /// Where the pattern's upper left point may stand before it is moved, if that is told. Both
+    /// corners belong to the rectangle. It may reach past the board.
     pub at: Option<Rect>,
 }
 

@@ -6,8 +6,8 @@ use std::fmt::Write;
 use std::process::Abort;
 use std::test::Fail;
 
-// A query of a table: the pattern's columns, rows and cells, whether the colours and the directions stay, and where
-// its base places are.
+// A query of a table: the pattern's columns, rows and cells, whether the colours and the directions
+// stay, and where its base places are.
 type Asked = ((u8, u8, &'static str), bool, bool, Option<Rect>);
 
 const ANYWHERE: Option<Rect> = None;
@@ -182,8 +182,8 @@ fn anchored_pairs(rt: HostRuntime) -> Result<(), Fail> {
     Ok(())
 }
 
-// Patterns as large as their board. Each is left alone by one subgroup of the eight symmetries, and so each of its
-// images stands under the least label of one coset.
+// Patterns as large as their board. Each is left alone by one subgroup of the eight symmetries, and
+// so each of its images stands under the least label of one coset.
 #[test]
 fn patterns_with_symmetries_of_their_own(rt: HostRuntime) -> Result<(), Fail> {
     let cases = [
@@ -304,8 +304,8 @@ fn patterns_of_one_point_and_of_the_whole_board(rt: HostRuntime) -> Result<(), F
     Ok(())
 }
 
-// An exchange of the colours exchanges the two half wildcards too. Placements whose cells are of different kinds are
-// two, though both hold where the points are empty.
+// An exchange of the colours exchanges the two half wildcards too. Placements whose cells are of
+// different kinds are two, though both hold where the points are empty.
 #[test]
 fn placements_of_half_wildcards(rt: HostRuntime) -> Result<(), Fail> {
     let cases = [
@@ -365,8 +365,8 @@ fn placements_of_half_wildcards(rt: HostRuntime) -> Result<(), Fail> {
     Ok(())
 }
 
-// A pattern as large as the greatest board: a black stone on its upper left point, and nothing asked of the others.
-// Its images have a stone in one of the four corners, which is black or white.
+// A pattern as large as the greatest board: a black stone on its upper left point, and nothing
+// asked of the others. Its images have a stone in one of the four corners, which is black or white.
 #[test]
 fn a_pattern_of_the_greatest_board(rt: HostRuntime) -> Result<(), Fail> {
     let asked = ((1u8, 1u8, "X"), false, false, ANYWHERE);

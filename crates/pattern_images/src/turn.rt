@@ -12,8 +12,8 @@ use crate::turning::turned_cells;
 use kb_geometry::{LABELS, Label, Rect, Shape, Symmetry, apply_rect, turned};
 use std::alloc::{AllocError, Global};
 
-// The pattern under one label: the number of its rectangle of cells, and the upper left points at which it stands on
-// the board.
+// The pattern under one label: the number of its rectangle of cells, and the upper left points at
+// which it stands on the board.
 #[derive(Clone, Copy, Debug)]
 pub(crate) struct Turn {
     pub(crate) label: Label,
@@ -21,8 +21,9 @@ pub(crate) struct Turn {
     pub(crate) corners: Rect,
 }
 
-// What each label makes of the query's pattern on a board with these base places, by the labels' numbers: `None` for a
-// label that isn't one of the query's. The rectangles of cells are added to `grids`, each once.
+// What each label makes of the query's pattern on a board with these base places, by the labels'
+// numbers: `None` for a label that isn't one of the query's. The rectangles of cells are added to
+// `grids`, each once.
 pub(crate) fn turns(
     alloc: Global,
     query: &Query,
@@ -57,7 +58,8 @@ fn turn_of(
 ) -> Result<Option<Turn>, AllocError>
     requires base { AreBasePlaces query.now shape base }
     requires room { length grids.old < 16 }
-    ensures turn { IfOk result (λ turn. IsTurn query.now shape grids.new (number_of_label label) turn) }
+    ensures turn { IfOk result
+        (λ turn. IsTurn query.now shape grids.new (number_of_label label) turn) }
     ensures grown { IfOk result (λ _. HasGrown grids.old grids.new) }
 {
     if !query.has_label(shape, label) {
@@ -75,15 +77,16 @@ fn turn_of(
     }))
 }
 
-// The upper left points, after a symmetry of the board, of the rectangles of this size whose upper left points are
-// those of `base`.
+// The upper left points, after a symmetry of the board, of the rectangles of this size whose upper
+// left points are those of `base`.
 fn corners(s: Symmetry, shape: Shape, size: Shape, base: Rect) -> Rect
     requires allowed { IsAllowed (number_of_symmetry s) shape }
     requires columns { base.x0 ≤ base.x1 }
     requires rows { base.y0 ≤ base.y1 }
     requires right { base.x1 + cols_of size ≤ cols_of shape }
     requires bottom { base.y1 + rows_of size ≤ rows_of shape }
-    ensures { (q : Point) → IsInside result q ↔ ((p : Point) × IsInside base p × (upper_left (number_of_symmetry s) shape size p ≡ q)) }
+    ensures { (q : Point) → IsInside result q
+        ↔ ((p : Point) × IsInside base p × (upper_left (number_of_symmetry s) shape size p ≡ q)) }
 {
     let to = turned(s, size);
     let covered = apply_rect(

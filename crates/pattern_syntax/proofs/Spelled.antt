@@ -9,6 +9,7 @@ use Rattle.std.proofs.lemmas.List.Sums.{count_by_more_yes, count_by_more_no}
 use Rattle.pattern_images.specs.declared.cell.PatternCell.{PatternCell}
 use Rattle.pattern_images.specs.declared.cell.PatternCell.TheVariants as cell
 use Rattle.pattern_images.specs.Grid.{Grid, cell_in}
+use Rattle.pattern_images.proofs.Turned.{same_grid}
 use Rattle.pattern_syntax.specs.Text.{slash, cell_byte, SpellsPattern}
 use Rattle.pattern_syntax.specs.Faults.{HasPatternFault, slashes_before}
 use Rattle.pattern_syntax.specs.Faults.HasPatternFault.{unknown_byte, empty_row, uneven_row, long_row, many_rows}
@@ -33,12 +34,6 @@ not_wider text a b some other one two lt =
           let long : 1 * (b.cols + 1) ≤ b.rows * (b.cols + 1) = mul-le-mul_right (b.cols + 1) other in
           omega (arith, one.size, two.size)
     ]
-
-pub same_grid : (a b : Grid) → a.cols ≡ b.cols → a.rows ≡ b.rows → a.cells ≡ b.cells → a ≡ b
-same_grid a b cols rows cells =
-    ap (λ n. record { cols = n; rows = a.rows; cells = a.cells }) cols
-    ∙ ap (λ n. record { cols = b.cols; rows = n; cells = a.cells }) rows
-    ∙ ap (λ l. record { cols = b.cols; rows = b.rows; cells = l }) cells
 
 -- the row and the column of the cell with a number
 cell-place : (cols rows k : ℕ) → 0 < cols → k < cols * rows → (y : ℕ) × (x : ℕ) × (y < rows) × (x < cols) × (y * cols + x ≡ k)

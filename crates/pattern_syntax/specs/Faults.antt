@@ -1,5 +1,5 @@
--- What can be wrong with a text that is to spell a pattern, and at which byte. Offsets count from 0, and the end of a text
--- has its length for an offset.
+-- What can be wrong with a text that is to spell a pattern, and at which byte. Offsets count from
+-- 0, and the end of a text has its length for an offset.
 use Rattle.std.specs.Prelude.{◌≡◌, ◌≢◌, ℕ, ◌+◌, ◌<◌, ◌≤◌, ◌⊎◌, ◌==◌, List, length, take, slice_index}
 use Rattle.std.specs.List.{count_by}
 use Rattle.pattern_images.specs.declared.cell.PatternCell.{PatternCell}
@@ -13,8 +13,8 @@ IsPatternByte byte = (byte ≡ slash) ⊎ ((cell : PatternCell) × (cell_byte ce
 abbrev pub HasSlash : List ℕ → ℕ → Type 0
 HasSlash text k = (k < length text) × (slice_index text k ≡ slash)
 
--- One row of the text is what stands from one offset up to another: the text begins or a `/` stands before it, the text
--- ends or a `/` stands behind it, and no `/` stands in it.
+-- One row of the text is what stands from one offset up to another: the text begins or a `/` stands
+-- before it, the text ends or a `/` stands behind it, and no `/` stands in it.
 pub record IsRow (text : List ℕ) (from to : ℕ) : Type 0 where
   pub ordered : from ≤ to
   pub begins : (from ≡ 0) ⊎ ((before : ℕ) × (before + 1 ≡ from) × HasSlash text before)
@@ -32,7 +32,8 @@ pub data HasPatternFault (text : List ℕ) (k : ℕ) : Type 0 where
   -- the `/` or the end behind an empty row
   empty_row : IsRow text k k → HasPatternFault text k
   -- the `/` or the end behind a row of another length than the first
-  uneven_row : (first from : ℕ) → IsRow text 0 first → IsRow text from k → from + first ≢ k → HasPatternFault text k
+  uneven_row : (first from : ℕ) → IsRow text 0 first → IsRow text from k → from + first ≢ k →
+      HasPatternFault text k
   -- the 53rd byte of a row
   long_row : (from to : ℕ) → IsRow text from to → from + 52 ≡ k → k < to → HasPatternFault text k
   -- the `/` before a 53rd row

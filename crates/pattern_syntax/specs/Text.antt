@@ -32,8 +32,8 @@ small_x = 120
 abbrev pub small_o : ℕ
 small_o = 111
 
--- The byte of a cell: `.` for an empty one, `X` for black, `O` for white, `x` for black or empty, `o` for white or empty,
--- `*` for anything.
+-- The byte of a cell: `.` for an empty one, `X` for black, `O` for white, `x` for black or empty,
+-- `o` for white or empty, `*` for anything.
 abbrev pub cell_byte : PatternCell → ℕ
 cell_byte cell.Empty = dot
 cell_byte cell.Black = capital_x
@@ -50,7 +50,8 @@ row_text grid y = map (λ x. cell_byte (cell_in grid x y)) (range_with_len 0 gri
 abbrev pub pattern_text : Grid → List ℕ
 pattern_text grid = join_with_byte slash (map (row_text grid) (range_with_len 0 grid.rows))
 
--- The text spells the pattern. A pattern has 1 to 52 columns, 1 to 52 rows, and a cell for each column of each row.
+-- The text spells the pattern. A pattern has 1 to 52 columns, 1 to 52 rows, and a cell for each
+-- column of each row.
 pub record SpellsPattern (text : List ℕ) (grid : Grid) : Type 0 where
   pub cols : IsSide grid.cols
   pub rows : IsSide grid.rows

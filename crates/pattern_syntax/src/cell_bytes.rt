@@ -10,7 +10,8 @@ pub(crate) const SLASH: u8 = b'/';
 
 // The cell of a byte, if it is the byte of one.
 pub(crate) fn cell_of(byte: u8) -> Option<PatternCell>
-    ensures { MatchOption result ((cell : PatternCell) → cell_byte cell ≢ byte) (λ cell. cell_byte cell ≡ byte) }
+    ensures { MatchOption result ((cell : PatternCell) → cell_byte cell ≢ byte)
+        (λ cell. cell_byte cell ≡ byte) }
 {
     match byte {
         b'.' => Some(PatternCell::Empty),

@@ -7,8 +7,9 @@ use crate::cell_bytes::{SLASH, byte_of};
 use kb_geometry::NoMemory;
 use pattern_images::Pattern;
 
-/// Appends the text of a pattern: its rows with `/` between, a cell as `.`, `X`, `O`, `x`, `o` or `*`. It is the one text that
-/// [`read_pattern`](crate::read_pattern) reads as this pattern. The only error is `NoMemory`, and then `out` is as before.
+/// Appends the text of a pattern: its rows with `/` between, a cell as `.`, `X`, `O`, `x`, `o` or
+/// `*`. It is the one text that [`read_pattern`](crate::read_pattern) reads as this pattern. The
+/// only error is `NoMemory`, and then `out` is as before.
 pub fn print_pattern(pattern: &Pattern, out: &mut Vec<u8>) -> Result<(), NoMemory>
     ensures ok { OnOk result (out.new.items ≡ out.old.items ++ pattern_text (grid_of pattern.now)) }
     ensures refused { OnErr result (out.new.items ≡ out.old.items) }
@@ -30,7 +31,8 @@ fn print_row(pattern: &Pattern, y: u8, out: &mut Vec<u8>) -> Result<(), NoMemory
     requires { y < (grid_of pattern.now).rows }
     ensures ok { OnOk result (out.new.items ≡ out.old.items ++ row_text (grid_of pattern.now) y) }
     ensures len { OnOk result (vec_len out.new ≡ vec_len out.old + (grid_of pattern.now).cols) }
-    ensures full { OnErr result (vec_capacity out.old < vec_len out.old + (grid_of pattern.now).cols) }
+    ensures full { OnErr result
+        (vec_capacity out.old < vec_len out.old + (grid_of pattern.now).cols) }
     ensures room { vec_capacity out.old ≤ vec_capacity out.new }
 {
     for x in 0..pattern.cols() {

@@ -1,5 +1,8 @@
 // How far a text was read, and what its next byte does.
-ghost use Rattle.std.specs.Prelude.{◌≡◌, ◌≢◌, ◌+◌, ◌++◌, ◌<◌, ◌≤◌, ◌⊎◌, [], ℕ, List, length, slice_index, MatchOption, option_to_list};
+ghost use Rattle.std.specs.Prelude.{
+    ◌≡◌, ◌≢◌, ◌+◌, ◌++◌, ◌<◌, ◌≤◌, ◌⊎◌, [], ℕ, List, length, slice_index, MatchOption,
+    option_to_list,
+};
 ghost use Rattle.kb_geometry.specs.Board.{cols_of, rows_of};
 ghost use Rattle.pattern_images.specs.declared.cell.PatternCell.{PatternCell};
 ghost use Rattle.pattern_syntax.specs.Text.{slash, cell_byte};
@@ -39,8 +42,8 @@ impl Progress {
         }
     }
 
-    // The size of all rows, with the one that isn't closed as the last one. `None` where that one is empty, or where
-    // it isn't as long as the others.
+    // The size of all rows, with the one that isn't closed as the last one. `None` where that one
+    // is empty, or where it isn't as long as the others.
     pub(crate) fn size(self) -> Option<Shape>
         requires { closed_rows self.closed < 52 }
         ensures { MatchOption result
@@ -64,8 +67,11 @@ impl Progress {
     // What the next byte of the text does. `None` where it is a fault.
     pub(crate) fn after(self, byte: u8) -> Option<Step>
         requires { closed_rows self.closed < 52 }
-        ensures { (text : List ℕ) (k : ℕ) (cells : List PatternCell) → IsPatternReadTo text k self cells → k < length text → slice_index text k ≡ byte →
-            MatchOption result (HasPatternFault text k) (λ step. IsPatternReadTo text (k + 1) step.next (cells ++ option_to_list step.cell)) }
+        ensures { (text : List ℕ) (k : ℕ) (cells : List PatternCell) →
+            IsPatternReadTo text k self cells → k < length text → slice_index text k ≡ byte →
+            MatchOption result (HasPatternFault text k)
+                (λ step. IsPatternReadTo text (k + 1) step.next (cells
+                ++ option_to_list step.cell)) }
     {
         if byte == SLASH {
             self.after_slash()
@@ -77,8 +83,11 @@ impl Progress {
     // What a `/` does.
     fn after_slash(self) -> Option<Step>
         requires { closed_rows self.closed < 52 }
-        ensures { (text : List ℕ) (k : ℕ) (cells : List PatternCell) → IsPatternReadTo text k self cells → k < length text → slice_index text k ≡ slash →
-            MatchOption result (HasPatternFault text k) (λ step. IsPatternReadTo text (k + 1) step.next (cells ++ option_to_list step.cell)) }
+        ensures { (text : List ℕ) (k : ℕ) (cells : List PatternCell) →
+            IsPatternReadTo text k self cells → k < length text → slice_index text k ≡ slash →
+            MatchOption result (HasPatternFault text k)
+                (λ step. IsPatternReadTo text (k + 1) step.next (cells
+                ++ option_to_list step.cell)) }
     {
         let closed = self.size()?;
         if closed.rows() == MAX_SIDE {
@@ -95,8 +104,12 @@ impl Progress {
 
     // What the byte of a cell does.
     fn after_cell(self, cell: PatternCell) -> Option<Step>
-        ensures { (text : List ℕ) (k : ℕ) (cells : List PatternCell) → IsPatternReadTo text k self cells → k < length text → slice_index text k ≡ cell_byte cell →
-            MatchOption result (HasPatternFault text k) (λ step. IsPatternReadTo text (k + 1) step.next (cells ++ option_to_list step.cell)) }
+        ensures { (text : List ℕ) (k : ℕ) (cells : List PatternCell) →
+            IsPatternReadTo text k self cells → k < length text →
+            slice_index text k ≡ cell_byte cell →
+            MatchOption result (HasPatternFault text k)
+                (λ step. IsPatternReadTo text (k + 1) step.next (cells
+                ++ option_to_list step.cell)) }
     {
         let width = one_wider(self.width)?;
         Some(Step {

@@ -11,16 +11,17 @@ use crate::{PatternError, PatternFault};
 use pattern_images::Pattern;
 use std::alloc::Global;
 
-/// Reads a pattern text: 1 to 52 rows with `/` between, each of as many cells, 1 to 52. A cell is `.` for an empty
-/// point, `X` for black, `O` for white, `x` for black or empty, `o` for white or empty, or `*` for anything. There is
-/// no other byte, and no white space.
+/// Reads a pattern text: 1 to 52 rows with `/` between, each of as many cells, 1 to 52. A cell is
+/// `.` for an empty point, `X` for black, `O` for white, `x` for black or empty, `o` for white or
+/// empty, or `*` for anything. There is no other byte, and no white space.
 ///
-/// A fault is one of these, and that of least offset is answered: a byte that is none of these; the `/` or the end behind
-/// an empty row, or behind one of another length than the first; the 53rd byte of a row; the `/` before a 53rd row. The
-/// only other error is `NoMemory`.
+/// A fault is one of these, and that of least offset is answered: a byte that is none of these; the
+/// `/` or the end behind an empty row, or behind one of another length than the first; the 53rd
+/// byte of a row; the `/` before a 53rd row. The only other error is `NoMemory`.
 pub fn read_pattern(alloc: Global, text: &str) -> Result<Pattern, PatternError>
     ensures ok { IfOk result (λ pattern. SpellsPattern text.now (grid_of pattern)) }
-    ensures fault { (f : PatternFault) → result ≡ Err (Fault f) → IsFirstPatternFault text.now f.column }
+    ensures fault { (f : PatternFault) → result ≡ Err (Fault f) →
+        IsFirstPatternFault text.now f.column }
 {
     let mut cells = Vec::new(alloc);
     let mut progress = Progress::start();

@@ -5,7 +5,7 @@ use Rattle.std.specs.Prelude.{Contains}
 use Rattle.std.proofs.lemmas.Bool.{cases_lt}
 use Rattle.std.proofs.lemmas.List.{get_or_default}
 use Rattle.pattern_images.specs.declared.query.Query.{Query}
-use Rattle.pattern_images.proofs.OneList.{same_order}
+use Rattle.kb_geometry.proofs.Lists.{same_order}
 use Rattle.query_script.specs.declared.statement.Placed.{Placed}
 use Rattle.query_script.specs.declared.statement.PlacedSearch.{PlacedSearch}
 use Rattle.query_script.specs.declared.statement.Statement.{Statement}

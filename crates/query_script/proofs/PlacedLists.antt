@@ -5,13 +5,10 @@ use Rattle.std.proofs.lemmas.List.{get_or-map, get_or_append_left, get_or_defaul
 use Rattle.std.proofs.lemmas.List.Elements.{All-weaker}
 use Rattle.std.proofs.lemmas.List.Quantifiers.{all_pairs_push}
 use Rattle.std.specs.List.{All, AllPairs, Any}
+use Rattle.kb_geometry.proofs.Lists.{Any-kept}
 use Rattle.query_script.specs.Progress.{IsPlacedBefore, IsSearchBefore}
 use Rattle.query_script.specs.declared.statement.Placed.{Placed}
 use Rattle.query_script.specs.declared.statement.PlacedSearch.{PlacedSearch}
-
--- one more element takes none away
-pub Any-kept : {A : Type 0} (P : A → Type 0) (xs : List A) (y : A) → Any P xs → Any P (xs ++ y ∷ [])
-Any-kept P xs y (k, x, within, is, holds) = (k, x, omega (arith, length_push xs y, within), get_or_append_left xs (y ∷ []) x k within ∙ is, holds)
 
 -- a list that isn't empty has an element
 pub one_of : {A : Type 0} (P : A → Type 0) (xs : List A) → 1 ≤ length xs → All P xs → (x : A) × P x

@@ -5,6 +5,7 @@ use Rattle.std.proofs.lemmas.List.{length-map, length_push}
 use Rattle.std.proofs.lemmas.List.Elements.{All-map, All-nil, All-push, All-weaker}
 use Rattle.std.proofs.lemmas.List.Quantifiers.{Any-push}
 use Rattle.std.specs.List.{Any}
+use Rattle.kb_geometry.proofs.Lists.{Any-kept}
 use Rattle.pattern_images.specs.declared.query.Query.{Query}
 use Rattle.query_script.specs.Lines.{IsLine}
 use Rattle.query_script.specs.Progress.{AreReadBefore, IsBlockBegun, IsBroken, IsReadInside, IsLineAt, IsPlacedBefore, IsSearchBefore}
@@ -18,7 +19,7 @@ use Rattle.query_script.specs.declared.statement.Statement.{Statement}
 use Rattle.query_script.specs.declared.statement.Statement.TheVariants as statement
 use Rattle.query_script.proofs.Faults.{begun_after, good_before, least_bad, least_first, lt_or_same, no_end_past, one_block, skipped_fine, within_begun}
 use Rattle.query_script.proofs.LineStatements.{SpellsStatement-search}
-use Rattle.query_script.proofs.PlacedLists.{Any-kept, as_many, lines_ascend, one_of, placed_before, placed_in_order, searches_before, searches_in_order}
+use Rattle.query_script.proofs.PlacedLists.{as_many, lines_ascend, one_of, placed_before, placed_in_order, searches_before, searches_in_order}
 use Rattle.query_script.proofs.ReadOutside.{stands_cases}
 
 module _ (lines : List (List ℕ)) where

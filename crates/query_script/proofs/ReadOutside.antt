@@ -2,6 +2,7 @@
 use Rattle.std.proofs.Common.{◌≡◌, ◌⊎◌, ⊎_elim, inl, inr, ℕ, ◌+◌, List, [], ◌∷◌, ◌++◌, length, sym, arith}
 use Rattle.std.proofs.lemmas.List.Elements.{All-nil, All-push, All-weaker}
 use Rattle.std.proofs.lemmas.List.Quantifiers.{Any-push}
+use Rattle.kb_geometry.proofs.Lists.{Any-kept}
 use Rattle.query_script.specs.Progress.{AreReadBefore, IsLineAt, IsPlacedBefore}
 use Rattle.query_script.specs.Script.{AreStatements, IsLeastBadLine, IsPlacedAt, IsInBlock, StandsAlone, IsStatementAt, ends_no_block, line_at, spells_nothing}
 use Rattle.query_script.specs.Statements.{SpellsStatement, SpellsTogether}
@@ -10,7 +11,7 @@ use Rattle.query_script.specs.declared.statement.Placed.{Placed}
 use Rattle.query_script.specs.declared.statement.Statement.{Statement}
 use Rattle.query_script.specs.declared.statement.Statement.TheVariants as statement
 use Rattle.query_script.proofs.Faults.{alone_fine, good_after, least_bad, lt_or_same, no_block_before_first, outside_after, skipped_fine}
-use Rattle.query_script.proofs.PlacedLists.{Any-kept, placed_before, placed_in_order}
+use Rattle.query_script.proofs.PlacedLists.{placed_before, placed_in_order}
 
 -- what stands at a line stands there alone or is a block that begins there
 pub stands_cases : {lines : List (List ℕ)} {k : ℕ} (s : Statement) → IsStatementAt lines k s → StandsAlone lines k s ⊎ SpellsTogether (line_at lines k)

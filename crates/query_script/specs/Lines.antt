@@ -12,8 +12,10 @@ SpellsNone text = (s : Statement) → ¬ SpellsStatement text s
 
 -- What the line is, and that it is nothing else.
 abbrev pub IsLine : List ℕ → Line → Type 0
-IsLine text line.Skipped = IsSkipped text × ¬ SpellsTogether text × ¬ SpellsEnd text × SpellsNone text
-IsLine text line.Together = SpellsTogether text × ¬ IsSkipped text × ¬ SpellsEnd text × SpellsNone text
+IsLine text line.Skipped = IsSkipped text × ¬ SpellsTogether text × ¬ SpellsEnd text
+    × SpellsNone text
+IsLine text line.Together = SpellsTogether text × ¬ IsSkipped text × ¬ SpellsEnd text
+    × SpellsNone text
 IsLine text line.End = SpellsEnd text × ¬ IsSkipped text × ¬ SpellsTogether text × SpellsNone text
 IsLine text (line.Statement s) =
     SpellsStatement text s × ¬ IsSkipped text × ¬ SpellsTogether text × ¬ SpellsEnd text ×

@@ -16,14 +16,16 @@ pub record IsPlacedBefore (lines : List (List ℕ)) (k : ℕ) (p : Placed) : Typ
   pub before : p.line < k
   pub placed : IsPlacedAt lines p
 
--- The lines before line k are read: none of them is bad, they leave no block open, and these are their statements.
+-- The lines before line k are read: none of them is bad, they leave no block open, and these are
+-- their statements.
 pub record AreReadBefore (lines : List (List ℕ)) (k : ℕ) (placed : List Placed) : Type 0 where
   pub from_one : 1 ≤ k
   pub outside : (j : ℕ) → ¬ IsInBlock lines j k
   pub good : (m : ℕ) → m < k → ¬ IsBadLine lines m
   pub ordered : AllPairs (λ (a : Placed) (b : Placed). a.line < b.line) placed
   pub sound : All (IsPlacedBefore lines k) placed
-  pub complete : (m : ℕ) (s : Statement) → 1 ≤ m → m < k → IsStatementAt lines m s → Any (λ (p : Placed). p.line ≡ m) placed
+  pub complete : (m : ℕ) (s : Statement) → 1 ≤ m → m < k → IsStatementAt lines m s →
+      Any (λ (p : Placed). p.line ≡ m) placed
 
 -- Line j begins a block that goes on before line k, and the lines before it are read.
 pub record IsBlockBegun (lines : List (List ℕ)) (j k : ℕ) (placed : List Placed) : Type 0 where
@@ -38,8 +40,8 @@ pub record IsSearchBefore (lines : List (List ℕ)) (j k : ℕ) (s : PlacedSearc
   pub before : s.line < k
   pub search : IsSearchOf lines j s
 
--- The block that a first line begins goes on before line k, no line behind the first one is bad so far, and these are its
--- searches.
+-- The block that a first line begins goes on before line k, no line behind the first one is bad so
+-- far, and these are its searches.
 pub record IsReadInside (lines : List (List ℕ)) (k : ℕ) (placed : List Placed)
     (first : ℕ) (searches : List PlacedSearch) : Type 0 where
   pub begun : IsBlockBegun lines first k placed
@@ -48,10 +50,13 @@ pub record IsReadInside (lines : List (List ℕ)) (k : ℕ) (placed : List Place
   pub ordered : AllPairs (λ (a : PlacedSearch) (b : PlacedSearch). a.line < b.line) searches
   pub sound : All (IsSearchBefore lines first k) searches
   pub complete : (m : ℕ) → first < m → m < k →
-      ((query : _) × SpellsSearch (line_at lines m) query) → Any (λ (s : PlacedSearch). s.line ≡ m) searches
+      ((query : _) × SpellsSearch (line_at lines m) query) →
+          Any (λ (s : PlacedSearch). s.line ≡ m) searches
 
--- The block that line j begins goes on before line k, and one of its lines is bad: the least one behind line j.
-pub record IsBroken (lines : List (List ℕ)) (k : ℕ) (placed : List Placed) (j bad : ℕ) : Type 0 where
+-- The block that line j begins goes on before line k, and one of its lines is bad: the least one
+-- behind line j.
+pub record IsBroken (lines : List (List ℕ)) (k : ℕ) (placed : List Placed)
+    (j bad : ℕ) : Type 0 where
   pub begun : IsBlockBegun lines j k placed
   pub behind : j < bad
   pub to_last : bad ≤ length lines

@@ -19,19 +19,22 @@ BeginsWithNoBareByte text = (byte : ℕ) (rest : List ℕ) → text ≡ byte ∷
 -- The words of the text are this one and those of what stands behind it.
 pub record BeginsWithWord (text : List ℕ) (w : Word) (behind : List ℕ) : Type 0 where
   pub more : (words : List Word) → AreWords behind words → AreWords text (w ∷ words)
-  pub only : (words : List Word) → AreWords text words → (others : List Word) × (words ≡ w ∷ others) × AreWords behind others
+  pub only : (words : List Word) → AreWords text words →
+      (others : List Word) × (words ≡ w ∷ others) × AreWords behind others
 
 -- The words of the line are these and those of the rest.
 pub record AreWordsTo (line : List ℕ) (words : List Word) (rest : List ℕ) : Type 0 where
   pub more : (others : List Word) → AreWords rest others → AreWords line (words ++ others)
-  pub only : (all : List Word) → AreWords line all → (others : List Word) × (all ≡ words ++ others) × AreWords rest others
+  pub only : (all : List Word) → AreWords line all →
+      (others : List Word) × (all ≡ words ++ others) × AreWords rest others
 
 -- the words don't begin with the bare word of this name
 abbrev pub BeginsOtherwise : List ℕ → List Word → Type 0
 BeginsOtherwise name words = (more : List Word) → words ≢ bare name ∷ more
 
 -- The words are some that say this value, and others behind them.
-pub record AreParted {A : Type 0} (Says : A → List Word → Type 0) (words : List Word) (value : A) (rest : List Word) : Type 0 where
+pub record AreParted {A : Type 0} (Says : A → List Word → Type 0) (words : List Word) (value : A)
+    (rest : List Word) : Type 0 where
   pub own : List Word
   pub split : words ≡ own ++ rest
   pub says : Says value own
@@ -51,25 +54,32 @@ pub record IsPointAt (words : List Word) (x y : ℕ) (rest : List Word) : Type 0
 -- ---- the words of a search from one of its options on
 
 abbrev pub AreFromAt : List Word → Query → Type 0
-AreFromAt words query = (rest : List Word) × AreParted IsAt words query.at rest × IsPattern query.pattern rest
+AreFromAt words query = (rest : List Word) × AreParted IsAt words query.at rest
+    × IsPattern query.pattern rest
 
 abbrev pub AreFromMoves : List Word → Query → Type 0
-AreFromMoves words query = (rest : List Word) × AreParted AreMovesOf words (record { from = query.from_move; to = query.to_move }) rest × AreFromAt rest query
+AreFromMoves words query = (rest : List Word)
+    × AreParted AreMovesOf words (record { from = query.from_move; to = query.to_move }) rest
+    × AreFromAt rest query
 
 abbrev pub AreFromBoard : List Word → Query → Type 0
-AreFromBoard words query = (rest : List Word) × AreParted IsBoardOption words query.board rest × AreFromMoves rest query
+AreFromBoard words query = (rest : List Word) × AreParted IsBoardOption words query.board rest
+    × AreFromMoves rest query
 
 abbrev pub AreFromMain : List Word → Query → Type 0
-AreFromMain words query = (rest : List Word) × AreParted (IsFlag (codes "main")) words query.main rest × AreFromBoard rest query
+AreFromMain words query = (rest : List Word)
+    × AreParted (IsFlag (codes "main")) words query.main rest × AreFromBoard rest query
 
 abbrev pub AreFromFixed : List Word → Query → Type 0
-AreFromFixed words query = (rest : List Word) × AreParted (IsFlag (codes "fixed")) words query.fixed rest × AreFromMain rest query
+AreFromFixed words query = (rest : List Word)
+    × AreParted (IsFlag (codes "fixed")) words query.fixed rest × AreFromMain rest query
 
 abbrev pub AreFromSame : List Word → Query → Type 0
-AreFromSame words query = (rest : List Word) × AreParted (IsFlag (codes "same")) words query.same rest × AreFromFixed rest query
+AreFromSame words query = (rest : List Word)
+    × AreParted (IsFlag (codes "same")) words query.same rest × AreFromFixed rest query
 
--- Which option a bare word begins, by its place in their order, and 6 where it begins none. It tells the names of the options
--- apart, and `to` counts as `at`; other words may have any place.
+-- Which option a bare word begins, by its place in their order, and 6 where it begins none. It
+-- tells the names of the options apart, and `to` counts as `at`; other words may have any place.
 abbrev pub place_of_option : List ℕ → ℕ
 place_of_option [] = 6
 place_of_option (a ∷ []) = 6

@@ -1,4 +1,5 @@
--- The script: its lines, its blocks of searches, the statements that it spells, and the least line that is bad.
+-- The script: its lines, its blocks of searches, the statements that it spells, and the least line
+-- that is bad.
 use Rattle.std.specs.Prelude.{◌≡◌, ◌==◌, ◌&&◌, ℕ, ◌-◌, ◌<◌, ◌≤◌, nat_lt, List, [], ◌∷◌, length, map, take, slice_index_or, All, AllPairs, Any, if◌then◌else◌}
 use Rattle.bstr.specs.Text.{lines_of}
 use Rattle.pattern_images.specs.declared.query.Query.{Query}
@@ -11,7 +12,9 @@ use Rattle.query_script.specs.Statements.{IsSkipped, SpellsStatement, SpellsEnd,
 
 -- the bytes without the last one, if that is this byte
 abbrev pub without_last : ℕ → List ℕ → List ℕ
-without_last c bytes = if nat_lt 0 (length bytes) && (slice_index_or bytes (length bytes - 1) 0 == c) then take (length bytes - 1) bytes else bytes
+without_last c bytes = if nat_lt 0 (length bytes)
+    && (slice_index_or bytes (length bytes - 1) 0 == c) then take (length bytes - 1) bytes else
+    bytes
 
 -- a line without its line feed, and without one carriage return before that or before the end
 abbrev pub without_end : List ℕ → List ℕ
@@ -57,8 +60,9 @@ IsSearch s = (query : Query) × (s ≡ statement.Search query)
 abbrev pub most_searches : ℕ
 most_searches = 8
 
--- Why a line is bad: it spells nothing; it ends no block, or one without a search; it is the ninth search of a block or a later one,
--- or another statement inside a block; or it begins a block that no later line ends.
+-- Why a line is bad: it spells nothing; it ends no block, or one without a search; it is the ninth
+-- search of a block or a later one, or another statement inside a block; or it begins a block that
+-- no later line ends.
 pub data IsFaultyLine (lines : List (List ℕ)) (k : ℕ) : Type 0 where
   spells_nothing :
       ¬ IsSkipped (line_at lines k) →
@@ -116,10 +120,12 @@ pub record IsSearchOf (lines : List (List ℕ)) (j : ℕ) (s : PlacedSearch) : T
   pub spelled : SpellsSearch (line_at lines s.line) s.query
 
 -- These are the searches of the block that line j begins, in order of their lines.
-pub record AreSearchesOf (lines : List (List ℕ)) (j : ℕ) (searches : List PlacedSearch) : Type 0 where
+pub record AreSearchesOf (lines : List (List ℕ)) (j : ℕ)
+    (searches : List PlacedSearch) : Type 0 where
   pub ordered : AllPairs (λ (a : PlacedSearch) (b : PlacedSearch). a.line < b.line) searches
   pub sound : All (IsSearchOf lines j) searches
-  pub complete : (m : ℕ) (query : Query) → m ≤ length lines → IsInBlock lines j m → SpellsSearch (line_at lines m) query → Any (λ (s : PlacedSearch). s.line ≡ m) searches
+  pub complete : (m : ℕ) (query : Query) → m ≤ length lines → IsInBlock lines j m →
+      SpellsSearch (line_at lines m) query → Any (λ (s : PlacedSearch). s.line ≡ m) searches
 
 -- the line spells the statement by itself, outside blocks
 pub record StandsAlone (lines : List (List ℕ)) (k : ℕ) (s : Statement) : Type 0 where
@@ -132,7 +138,8 @@ IsStatementAt lines k (statement.Import path) = StandsAlone lines k (statement.I
 IsStatementAt lines k statement.Wait = StandsAlone lines k statement.Wait
 IsStatementAt lines k (statement.Until number) = StandsAlone lines k (statement.Until number)
 IsStatementAt lines k (statement.Search query) = StandsAlone lines k (statement.Search query)
-IsStatementAt lines k (statement.Together searches) = SpellsTogether (line_at lines k) × AreSearchesOf lines k searches
+IsStatementAt lines k (statement.Together searches) = SpellsTogether (line_at lines k)
+    × AreSearchesOf lines k searches
 IsStatementAt lines k (statement.Game number) = StandsAlone lines k (statement.Game number)
 
 -- a statement stands at this line
@@ -146,4 +153,5 @@ pub record AreStatements (lines : List (List ℕ)) (placed : List Placed) : Type
   pub good : AreGood lines
   pub ordered : AllPairs (λ (a : Placed) (b : Placed). a.line < b.line) placed
   pub sound : All (IsPlacedAt lines) placed
-  pub complete : (k : ℕ) (s : Statement) → 1 ≤ k → k ≤ length lines → IsStatementAt lines k s → Any (λ (p : Placed). p.line ≡ k) placed
+  pub complete : (k : ℕ) (s : Statement) → 1 ≤ k → k ≤ length lines → IsStatementAt lines k s →
+      Any (λ (p : Placed). p.line ≡ k) placed

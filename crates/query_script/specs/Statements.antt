@@ -20,12 +20,16 @@ pub record IsPath (w : Word) (path : List ℕ) : Type 0 where
 
 -- the words spell the statement, which takes one line
 abbrev pub IsStatement : List Word → Statement → Type 0
-IsStatement words (statement.Import path) = (w : Word) × (words ≡ bare (codes "import") ∷ w ∷ []) × IsPath w path
+IsStatement words (statement.Import path) = (w : Word) × (words ≡ bare (codes "import") ∷ w ∷ [])
+    × IsPath w path
 IsStatement words statement.Wait = words ≡ bare (codes "wait") ∷ []
-IsStatement words (statement.Until number) = (w : Word) × (words ≡ bare (codes "until") ∷ w ∷ []) × IsNumber w number × (number ≤ most_number)
-IsStatement words (statement.Search query) = (body : List Word) × (words ≡ bare (codes "search") ∷ body) × IsBody body query
+IsStatement words (statement.Until number) = (w : Word) × (words ≡ bare (codes "until") ∷ w ∷ [])
+    × IsNumber w number × (number ≤ most_number)
+IsStatement words (statement.Search query) = (body : List Word)
+    × (words ≡ bare (codes "search") ∷ body) × IsBody body query
 IsStatement words (statement.Together searches) = ⊥
-IsStatement words (statement.Game number) = (w : Word) × (words ≡ bare (codes "game") ∷ w ∷ []) × IsNumber w number × (number ≤ most_number)
+IsStatement words (statement.Game number) = (w : Word) × (words ≡ bare (codes "game") ∷ w ∷ [])
+    × IsNumber w number × (number ≤ most_number)
 
 -- the line spells the statement
 abbrev pub SpellsStatement : List ℕ → Statement → Type 0

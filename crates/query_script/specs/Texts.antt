@@ -27,7 +27,8 @@ wait_text line version = line_text (decimal line ∷ codes " wait version " ∷ 
 
 -- `LINE until K version V`
 abbrev pub until_text : ℕ → ℕ → ℕ → List ℕ
-until_text line number version = line_text (decimal line ∷ codes " until " ∷ decimal number ∷ codes " version " ∷ decimal version ∷ [])
+until_text line number version = line_text (decimal line ∷ codes " until " ∷ decimal number
+    ∷ codes " version " ∷ decimal version ∷ [])
 
 -- `B` or `W`
 abbrev pub colour_letter : Colour → List ℕ
@@ -42,11 +43,17 @@ when_word false = codes "later"
 -- how a hit goes on: `-`, or the colour, column and row, and when
 abbrev pub next_text : Option Next → List ℕ
 next_text None = line_text (codes "-" ∷ [])
-next_text (Some next) = line_text (colour_letter next.colour ∷ codes " " ∷ decimal next.x ∷ codes " " ∷ decimal next.y ∷ codes " " ∷ when_word next.now ∷ [])
+next_text (Some next) = line_text (colour_letter next.colour ∷ codes " " ∷ decimal next.x
+    ∷ codes " " ∷ decimal next.y ∷ codes " " ∷ when_word next.now ∷ [])
 
 -- `hit GAME NODE X Y LABEL `
 abbrev pub hit_head : Hit → List ℕ
-hit_head hit = codes "hit " ++ (decimal hit.game ++ (codes " " ++ (decimal hit.node ++ (codes " " ++ (decimal hit.place.x ++ (codes " " ++ (decimal hit.place.y ++ (codes " " ++ (decimal (number_of_label hit.place.label) ++ codes " ")))))))))
+hit_head hit = codes "hit "
+    ++ (decimal hit.game ++ (codes " "
+    ++ (decimal hit.node ++ (codes " "
+    ++ (decimal hit.place.x ++ (codes " "
+    ++ (decimal hit.place.y ++ (codes " "
+    ++ (decimal (number_of_label hit.place.label) ++ codes " ")))))))))
 
 -- `hit GAME NODE X Y LABEL NEXT`
 abbrev pub hit_text : Hit → List ℕ
@@ -54,11 +61,15 @@ hit_text hit = hit_head hit ++ next_text hit.next
 
 -- `COUNT NOW LATER BLACK WHITE OTHER`
 abbrev pub tally_text : Tally → List ℕ
-tally_text tally = line_text (decimal tally.count ∷ codes " " ∷ decimal tally.now ∷ codes " " ∷ decimal tally.later ∷ codes " " ∷ decimal tally.black ∷ codes " " ∷ decimal tally.white ∷ codes " " ∷ decimal tally.other ∷ [])
+tally_text tally = line_text (decimal tally.count ∷ codes " " ∷ decimal tally.now ∷ codes " "
+    ∷ decimal tally.later ∷ codes " " ∷ decimal tally.black ∷ codes " " ∷ decimal tally.white
+    ∷ codes " " ∷ decimal tally.other ∷ [])
 
 -- `row COLOUR X Y `
 abbrev pub row_head : Row → List ℕ
-row_head row = codes "row " ++ (colour_letter row.colour ++ (codes " " ++ (decimal row.x ++ (codes " " ++ (decimal row.y ++ codes " ")))))
+row_head row = codes "row "
+    ++ (colour_letter row.colour
+    ++ (codes " " ++ (decimal row.x ++ (codes " " ++ (decimal row.y ++ codes " ")))))
 
 -- `row COLOUR X Y COUNT NOW LATER BLACK WHITE OTHER`
 abbrev pub row_text : Row → List ℕ
@@ -70,17 +81,22 @@ total_text tally = codes "total " ++ tally_text tally
 
 -- `LINE search version V games G hits H`
 abbrev pub search_head : ℕ → ℕ → ℕ → ℕ → List ℕ
-search_head line version games hits = line_text (decimal line ∷ codes " search version " ∷ decimal version ∷ codes " games " ∷ decimal games ∷ codes " hits " ∷ decimal hits ∷ [])
+search_head line version games hits = line_text (decimal line ∷ codes " search version "
+    ∷ decimal version ∷ codes " games " ∷ decimal games ∷ codes " hits " ∷ decimal hits ∷ [])
 
 -- the head of a search, its hits, the rows and the totals of their table
 abbrev pub search_text : ℕ → ℕ → ℕ → List Hit → TableView → List ℕ
 search_text line version games hits table =
-    search_head line version games (length hits) ++ (flat_map hit_text hits ++ (flat_map row_text table.rows ++ total_text table.totals))
+    search_head line version games (length hits)
+        ++ (flat_map hit_text hits ++ (flat_map row_text table.rows ++ total_text table.totals))
 
 -- `LINE game N version V place P file NAME`
 abbrev pub game_head : ℕ → ℕ → ℕ → ℕ → List ℕ → List ℕ
-game_head line game version place file = line_text (decimal line ∷ codes " game " ∷ decimal game ∷ codes " version " ∷ decimal version ∷ codes " place " ∷ decimal place ∷ codes " file " ∷ file ∷ [])
+game_head line game version place file = line_text (decimal line ∷ codes " game " ∷ decimal game
+    ∷ codes " version " ∷ decimal version ∷ codes " place " ∷ decimal place ∷ codes " file " ∷ file
+    ∷ [])
 
 -- `LINE game N version V none`
 abbrev pub no_game_text : ℕ → ℕ → ℕ → List ℕ
-no_game_text line game version = line_text (decimal line ∷ codes " game " ∷ decimal game ∷ codes " version " ∷ decimal version ∷ codes " none" ∷ [])
+no_game_text line game version = line_text (decimal line ∷ codes " game " ∷ decimal game
+    ∷ codes " version " ∷ decimal version ∷ codes " none" ∷ [])

@@ -31,7 +31,8 @@ abbrev pub word_text : Word → List ℕ
 word_text (word.Bare bytes) = bytes
 word_text (word.Quoted bytes) = quote ∷ escaped bytes ++ quote ∷ []
 
--- a bare word has a byte, and none that would end it or begin a quoted word; a quoted one may have any bytes
+-- a bare word has a byte, and none that would end it or begin a quoted word; a quoted one may have
+-- any bytes
 abbrev pub IsWord : Word → Type 0
 IsWord (word.Bare bytes) = (1 ≤ length bytes) × All IsBareByte bytes
 IsWord (word.Quoted bytes) = Unit {0}
@@ -46,8 +47,8 @@ abbrev pub IsWordEnd : List ℕ → Type 0
 IsWordEnd [] = Unit {0}
 IsWordEnd (c ∷ rest) = IsBlank c
 
--- The words of a line: spaces and tabs may stand before the first and behind the last one, and at least one of them
--- stands between two.
+-- The words of a line: spaces and tabs may stand before the first and behind the last one, and at
+-- least one of them stands between two.
 pub data AreWords : List ℕ → List Word → Type 0 where
   none : {blanks : List ℕ} → AreBlanks blanks → AreWords blanks []
   one_more : {words : List Word} (blanks rest : List ℕ) (w : Word) → AreBlanks blanks → IsWord w →

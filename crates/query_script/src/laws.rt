@@ -2,7 +2,9 @@
 ghost use Rattle.std.specs.Prelude.{◌≡◌, ◌⊎◌, ℕ, List};
 ghost use Rattle.query_script.specs.declared.statement.Placed.{Placed};
 ghost use Rattle.query_script.specs.declared.statement.TheConstants.{MAX_SCRIPT};
-ghost use Rattle.query_script.specs.Script.{AreStatements, IsLeastBadLine, most_script_bytes, script_lines};
+ghost use Rattle.query_script.specs.Script.{
+    AreStatements, IsLeastBadLine, most_script_bytes, script_lines,
+};
 
 /// The longest script that [`read_script`](crate::read_script) reads has 1,048,576 bytes.
 pub fn the_longest_script_has_1048576_bytes()
@@ -10,8 +12,9 @@ pub fn the_longest_script_has_1048576_bytes()
     ensures limit { MAX_SCRIPT ≡ most_script_bytes }
 {}
 
-/// A script has its statements or a least bad line, which is what [`read_script`](crate::read_script) answers. It has one
-/// list of statements only, one least bad line only, and not both.
+/// A script has its statements or a least bad line, which is what
+/// [`read_script`](crate::read_script) answers. It has one list of statements only, one least bad
+/// line only, and not both.
 pub fn a_script_has_its_statements_or_a_bad_line()
     ensures some { (text : List ℕ) →
         ((placed : List Placed) × AreStatements (script_lines text) placed)

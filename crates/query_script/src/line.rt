@@ -43,7 +43,8 @@ pub(crate) fn read_line(alloc: Global, line: &[u8]) -> Result<Line, NoMemory>
 
 // What a line of these words is, which isn't skipped. The only error is `NoMemory`.
 fn line_of(alloc: Global, words: &[Word]) -> Result<Line, NoMemory>
-    ensures { IfOk result (λ line. (text : List ℕ) → AreWords text words.now → ¬ IsSkipped text → IsLine text line) }
+    ensures { IfOk result (λ line. (text : List ℕ) → AreWords text words.now → ¬ IsSkipped text →
+        IsLine text line) }
 {
     if is_name(words, b"together") {
         return Ok(Line::Together);

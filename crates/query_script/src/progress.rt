@@ -42,13 +42,15 @@ pub(crate) enum Progress {
     Outside,
     /// In a block without a bad line so far.
     Inside(Block),
-    /// In a block with a bad line. If no line ends the block, then the line that begins it is bad, too.
+    /// In a block with a bad line. If no line ends the block, then the line that begins it is bad,
+    /// too.
     Broken { begun: u32, bad: u32 },
 }
 
 impl Progress {
-    /// Where reading stands after the line with this number. A statement that is whole then is appended to those so far. The
-    /// errors are the least bad line, where it is known by now, and `NoMemory`.
+    /// Where reading stands after the line with this number. A statement that is whole then is
+    /// appended to those so far. The errors are the least bad line, where it is known by now, and
+    /// `NoMemory`.
     pub(crate) fn after(
         self,
         alloc: Global,
@@ -56,10 +58,13 @@ impl Progress {
         line: Line,
         placed: &mut Vec<Placed>,
     ) -> Result<Progress, ScriptError>
-        ensures read { IfOk result (λ next. (lines : List (List ℕ)) → IsReadBefore lines number placed.old.items self
+        ensures read { IfOk result (λ next. (lines : List (List ℕ)) →
+            IsReadBefore lines number placed.old.items self
             → IsLineAt lines number line → IsReadBefore lines (number + 1) placed.new.items next) }
-        ensures bad_line { (k : ℕ) → IsErrOf result (ScriptError.BadLine k) → (lines : List (List ℕ))
-            → IsReadBefore lines number placed.old.items self → IsLineAt lines number line → IsLeastBadLine lines k }
+        ensures bad_line { (k : ℕ) → IsErrOf result (ScriptError.BadLine k) →
+            (lines : List (List ℕ))
+            → IsReadBefore lines number placed.old.items self → IsLineAt lines number line →
+                IsLeastBadLine lines k }
     {
         match self {
             Progress::Outside => read_outside(alloc, number, line, placed),
@@ -76,10 +81,12 @@ fn read_outside(
     line: Line,
     placed: &mut Vec<Placed>,
 ) -> Result<Progress, ScriptError>
-    ensures read { IfOk result (λ next. (lines : List (List ℕ)) → IsReadBefore lines number placed.old.items progress.Outside
+    ensures read { IfOk result (λ next. (lines : List (List ℕ)) →
+        IsReadBefore lines number placed.old.items progress.Outside
         → IsLineAt lines number line → IsReadBefore lines (number + 1) placed.new.items next) }
     ensures bad_line { (k : ℕ) → IsErrOf result (ScriptError.BadLine k) → (lines : List (List ℕ))
-        → IsReadBefore lines number placed.old.items progress.Outside → IsLineAt lines number line → IsLeastBadLine lines k }
+        → IsReadBefore lines number placed.old.items progress.Outside → IsLineAt lines number line →
+            IsLeastBadLine lines k }
 {
     match line {
         Line::Skipped => Ok(Progress::Outside),
@@ -106,10 +113,12 @@ fn read_inside(
     line: Line,
     placed: &mut Vec<Placed>,
 ) -> Result<Progress, ScriptError>
-    ensures read { IfOk result (λ next. (lines : List (List ℕ)) → IsReadBefore lines number placed.old.items (progress.Inside block)
+    ensures read { IfOk result (λ next. (lines : List (List ℕ)) →
+        IsReadBefore lines number placed.old.items (progress.Inside block)
         → IsLineAt lines number line → IsReadBefore lines (number + 1) placed.new.items next) }
     ensures bad_line { (k : ℕ) → IsErrOf result (ScriptError.BadLine k) → (lines : List (List ℕ))
-        → IsReadBefore lines number placed.old.items (progress.Inside block) → IsLineAt lines number line → IsLeastBadLine lines k }
+        → IsReadBefore lines number placed.old.items (progress.Inside block) →
+            IsLineAt lines number line → IsLeastBadLine lines k }
 {
     match line {
         Line::Skipped => Ok(Progress::Inside(block)),
@@ -122,8 +131,10 @@ fn read_inside(
 
 // What a statement inside a block does.
 fn read_statement(block: Block, number: u32, statement: Statement) -> Result<Progress, ScriptError>
-    ensures read { IfOk result (λ next. (lines : List (List ℕ)) (placed : List Placed) → IsReadBefore lines number placed (progress.Inside block)
-        → IsLineAt lines number (line.Statement statement) → IsReadBefore lines (number + 1) placed next) }
+    ensures read { IfOk result (λ next. (lines : List (List ℕ)) (placed : List Placed) →
+        IsReadBefore lines number placed (progress.Inside block)
+        → IsLineAt lines number (line.Statement statement) →
+            IsReadBefore lines (number + 1) placed next) }
     ensures bad_line { (k : ℕ) → ¬ IsErrOf result (ScriptError.BadLine k) }
 {
     match statement {
@@ -134,10 +145,12 @@ fn read_statement(block: Block, number: u32, statement: Statement) -> Result<Pro
 
 // What the end of a block does.
 fn end_block(block: Block, number: u32, placed: &mut Vec<Placed>) -> Result<Progress, ScriptError>
-    ensures read { IfOk result (λ next. (lines : List (List ℕ)) → IsReadBefore lines number placed.old.items (progress.Inside block)
+    ensures read { IfOk result (λ next. (lines : List (List ℕ)) →
+        IsReadBefore lines number placed.old.items (progress.Inside block)
         → IsLineAt lines number line.End → IsReadBefore lines (number + 1) placed.new.items next) }
     ensures bad_line { (k : ℕ) → IsErrOf result (ScriptError.BadLine k) → (lines : List (List ℕ))
-        → IsReadBefore lines number placed.old.items (progress.Inside block) → IsLineAt lines number line.End → IsLeastBadLine lines k }
+        → IsReadBefore lines number placed.old.items (progress.Inside block) →
+            IsLineAt lines number line.End → IsLeastBadLine lines k }
 {
     if block.searches.is_empty() {
         return Err(ScriptError::BadLine { line: number });
@@ -153,8 +166,10 @@ fn end_block(block: Block, number: u32, placed: &mut Vec<Placed>) -> Result<Prog
 
 // What a search inside a block does.
 fn add_search(mut block: Block, number: u32, query: Query) -> Result<Progress, ScriptError>
-    ensures read { IfOk result (λ next. (lines : List (List ℕ)) (placed : List Placed) → IsReadBefore lines number placed (progress.Inside block)
-        → IsLineAt lines number (line.Statement (statement.Search query)) → IsReadBefore lines (number + 1) placed next) }
+    ensures read { IfOk result (λ next. (lines : List (List ℕ)) (placed : List Placed) →
+        IsReadBefore lines number placed (progress.Inside block)
+        → IsLineAt lines number (line.Statement (statement.Search query)) →
+            IsReadBefore lines (number + 1) placed next) }
     ensures bad_line { (k : ℕ) → ¬ IsErrOf result (ScriptError.BadLine k) }
 {
     if block.searches.len() >= MAX_SEARCHES {
@@ -169,10 +184,13 @@ fn add_search(mut block: Block, number: u32, query: Query) -> Result<Progress, S
 
 // What a line behind a bad one in a block does.
 fn read_broken(begun: u32, bad: u32, line: Line) -> Result<Progress, ScriptError>
-    ensures read { IfOk result (λ next. (lines : List (List ℕ)) (placed : List Placed) (number : ℕ) → IsReadBefore lines number placed (progress.Broken begun bad)
+    ensures read { IfOk result (λ next. (lines : List (List ℕ)) (placed : List Placed)
+        (number : ℕ) → IsReadBefore lines number placed (progress.Broken begun bad)
         → IsLineAt lines number line → IsReadBefore lines (number + 1) placed next) }
-    ensures bad_line { (k : ℕ) → IsErrOf result (ScriptError.BadLine k) → (lines : List (List ℕ)) (placed : List Placed) (number : ℕ)
-        → IsReadBefore lines number placed (progress.Broken begun bad) → IsLineAt lines number line → IsLeastBadLine lines k }
+    ensures bad_line { (k : ℕ) → IsErrOf result (ScriptError.BadLine k) →
+        (lines : List (List ℕ)) (placed : List Placed) (number : ℕ)
+        → IsReadBefore lines number placed (progress.Broken begun bad) →
+            IsLineAt lines number line → IsLeastBadLine lines k }
 {
     match line {
         Line::End => Err(ScriptError::BadLine { line: bad }),

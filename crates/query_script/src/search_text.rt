@@ -1,7 +1,10 @@
 // The printed text of a search.
 ghost use Rattle.std.specs.Prelude.{◌≡◌, ◌++◌, OnErr, OnOk, string_bytes};
 ghost use Rattle.std.specs.List.{flat_map};
-ghost use Rattle.query_script.specs.Texts.{colour_letter, hit_head, hit_text, next_text, row_head, row_text, search_head, search_text, tally_text, total_text, when_word};
+ghost use Rattle.query_script.specs.Texts.{
+    colour_letter, hit_head, hit_text, next_text, row_head, row_text, search_head, search_text,
+    tally_text, total_text, when_word,
+};
 
 use continuation_table::{Row, Table, Tally};
 use kb_geometry::{Colour, NoMemory};
@@ -63,7 +66,8 @@ fn print_hit(text: &mut String, hit: &Hit) -> Result<(), NoMemory>
 
 // Appends the lines of hits, in order.
 fn print_hit_lines(text: &mut String, hits: &[Hit]) -> Result<(), NoMemory>
-    ensures { OnOk result (string_bytes text.new ≡ string_bytes text.old ++ flat_map hit_text hits.now) }
+    ensures { OnOk result (string_bytes text.new
+        ≡ string_bytes text.old ++ flat_map hit_text hits.now) }
 {
     for hit in hits {
         print_hit(text, hit)?;
@@ -108,7 +112,8 @@ fn print_row(text: &mut String, row: &Row) -> Result<(), NoMemory>
 
 // Appends rows, in order.
 fn print_rows(text: &mut String, rows: &[Row]) -> Result<(), NoMemory>
-    ensures { OnOk result (string_bytes text.new ≡ string_bytes text.old ++ flat_map row_text rows.now) }
+    ensures { OnOk result (string_bytes text.new
+        ≡ string_bytes text.old ++ flat_map row_text rows.now) }
 {
     for row in rows {
         print_row(text, row)?;
@@ -132,7 +137,8 @@ fn print_head(
     games: u32,
     hits: usize,
 ) -> Result<(), NoMemory>
-    ensures { OnOk result (string_bytes text.new ≡ string_bytes text.old ++ search_head line version games hits) }
+    ensures { OnOk result (string_bytes text.new
+        ≡ string_bytes text.old ++ search_head line version games hits) }
 {
     writeln!(
         text,
@@ -141,8 +147,9 @@ fn print_head(
     Ok(())
 }
 
-/// Appends the text of a search: its head with the number of the version, of its games and of the hits; then a line for each
-/// hit, a line for each row of the table, and the totals. The only error is `NoMemory`, and then `out` is as before.
+/// Appends the text of a search: its head with the number of the version, of its games and of the
+/// hits; then a line for each hit, a line for each row of the table, and the totals. The only error
+/// is `NoMemory`, and then `out` is as before.
 pub fn print_hits(
     line: u32,
     number: u64,
@@ -151,7 +158,8 @@ pub fn print_hits(
     table: &Table,
     out: &mut Vec<u8>,
 ) -> Result<(), NoMemory>
-    ensures ok { OnOk result (out.new.items ≡ out.old.items ++ search_text line number games hits.now table.now) }
+    ensures ok { OnOk result (out.new.items
+        ≡ out.old.items ++ search_text line number games hits.now table.now) }
     ensures refused { OnErr result (out.new.items ≡ out.old.items) }
 {
     let mut text = String::new(*out.allocator());

@@ -1,5 +1,7 @@
 // The words of a search.
-ghost use Rattle.std.specs.Prelude.{◌≡◌, ◌≢◌, ◌≤◌, ◌<◌, ℕ, Bool, List, [], ◌∷◌, Option, Some, None, codes, IfOk, IfSome, IfNone};
+ghost use Rattle.std.specs.Prelude.{
+    ◌≡◌, ◌≢◌, ◌≤◌, ◌<◌, ℕ, Bool, List, [], ◌∷◌, Option, Some, None, codes, IfOk, IfSome, IfNone,
+};
 ghost use Rattle.kb_geometry.specs.declared.shape.Rect.{Rect};
 ghost use Rattle.kb_geometry.specs.declared.shape.Shape.{Shape};
 ghost use Rattle.kb_geometry.specs.Board.{cols_of, rows_of};
@@ -8,7 +10,9 @@ ghost use Rattle.pattern_images.specs.declared.pattern.Pattern.{Pattern};
 ghost use Rattle.pattern_images.specs.declared.query.Query.{Query};
 ghost use Rattle.query_script.specs.declared.search_words.Moves.{Moves};
 ghost use Rattle.query_script.specs.declared.word.Word.{Word};
-ghost use Rattle.query_script.specs.Search.{IsAt, IsBoardOption, IsBody, IsCoordinateWord, IsFlag, IsPattern, most_moves, rect};
+ghost use Rattle.query_script.specs.Search.{
+    IsAt, IsBoardOption, IsBody, IsCoordinateWord, IsFlag, IsPattern, most_moves, rect,
+};
 ghost use Rattle.query_script.specs.Words.{IsNumber, bare};
 ghost use Rattle.query_script.specs.Reading.{AreMovesOf, AreParted, BeginsOtherwise, IsPointAt};
 
@@ -32,7 +36,8 @@ pub(crate) struct Moves {
 // The query that the words behind `search` spell, if they spell one. The only error is `NoMemory`.
 pub(crate) fn query_of(alloc: Global, words: &[Word]) -> Result<Option<Query>, NoMemory>
     ensures some { IfOk result (λ found. IfSome found (λ query. IsBody words.now query)) }
-    ensures none { IfOk result (λ found. IfNone found ((query : Query) → ¬ IsBody words.now query)) }
+    ensures none { IfOk result (λ found. IfNone found ((query : Query) →
+        ¬ IsBody words.now query)) }
 {
     let (same, rest) = flag(words, b"same");
     let (fixed, rest) = flag(rest, b"fixed");
@@ -64,7 +69,8 @@ pub(crate) fn query_of(alloc: Global, words: &[Word]) -> Result<Option<Query>, N
 // Whether the words begin with this option of one word, and the words behind it.
 fn flag<'a>(words: &'a [Word], name: &[u8]) -> (bool, &'a [Word])
     ensures parted { AreParted (IsFlag name.now) words.now result.0 result.1.now }
-    ensures only { (given : Bool) (rest : List Word) → AreParted (IsFlag name.now) words.now given rest → BeginsOtherwise name.now rest →
+    ensures only { (given : Bool) (rest : List Word) →
+        AreParted (IsFlag name.now) words.now given rest → BeginsOtherwise name.now rest →
         (given ≡ result.0) × (rest ≡ result.1.now) }
 {
     match behind_name(words, name) {
@@ -98,9 +104,11 @@ fn two_words(words: &[Word]) -> Option<(&Word, &Word, &[Word])>
 // The board of `board C R` at the beginning of the words, or no board, and the words behind that.
 fn board_of(words: &[Word]) -> Option<(Option<Shape>, &[Word])>
     ensures parted { IfSome result (λ r. AreParted IsBoardOption words.now r.0 r.1.now) }
-    ensures only { IfSome result (λ r. (board : Option Shape) (rest : List Word) → AreParted IsBoardOption words.now board rest →
+    ensures only { IfSome result (λ r. (board : Option Shape) (rest : List Word) →
+        AreParted IsBoardOption words.now board rest →
         BeginsOtherwise (codes "board") rest → (board ≡ r.0) × (rest ≡ r.1.now)) }
-    ensures none { result ≡ None → (board : Option Shape) (rest : List Word) → AreParted IsBoardOption words.now board rest →
+    ensures none { result ≡ None → (board : Option Shape) (rest : List Word) →
+        AreParted IsBoardOption words.now board rest →
         ¬ BeginsOtherwise (codes "board") rest }
 {
     let Some(behind) = behind_name(words, b"board") else {
@@ -113,8 +121,10 @@ fn board_of(words: &[Word]) -> Option<(Option<Shape>, &[Word])>
 
 // The board with the columns and rows that two words name.
 fn shape_of(cols: &Word, rows: &Word) -> Option<Shape>
-    ensures some { IfSome result (λ shape. IsNumber cols.now (cols_of shape) × IsNumber rows.now (rows_of shape)) }
-    ensures none { result ≡ None → (shape : Shape) → IsNumber cols.now (cols_of shape) → ¬ IsNumber rows.now (rows_of shape) }
+    ensures some { IfSome result (λ shape. IsNumber cols.now (cols_of shape)
+        × IsNumber rows.now (rows_of shape)) }
+    ensures none { result ≡ None → (shape : Shape) → IsNumber cols.now (cols_of shape) →
+        ¬ IsNumber rows.now (rows_of shape) }
 {
     Shape::new(side_of(cols)?, side_of(rows)?)
 }
@@ -128,12 +138,15 @@ fn side_of(word: &Word) -> Option<u8>
     Some(side as u8)
 }
 
-// The move numbers of `moves A B` at the beginning of the words, or all of them, and the words behind that.
+// The move numbers of `moves A B` at the beginning of the words, or all of them, and the words
+// behind that.
 fn moves_of(words: &[Word]) -> Option<(Moves, &[Word])>
     ensures parted { IfSome result (λ r. AreParted AreMovesOf words.now r.0 r.1.now) }
-    ensures only { IfSome result (λ r. (moves : Moves) (rest : List Word) → AreParted AreMovesOf words.now moves rest →
+    ensures only { IfSome result (λ r. (moves : Moves) (rest : List Word) →
+        AreParted AreMovesOf words.now moves rest →
         BeginsOtherwise (codes "moves") rest → (moves ≡ r.0) × (rest ≡ r.1.now)) }
-    ensures none { result ≡ None → (moves : Moves) (rest : List Word) → AreParted AreMovesOf words.now moves rest →
+    ensures none { result ≡ None → (moves : Moves) (rest : List Word) →
+        AreParted AreMovesOf words.now moves rest →
         ¬ BeginsOtherwise (codes "moves") rest }
 {
     let Some(behind) = behind_name(words, b"moves") else {
@@ -152,8 +165,10 @@ fn moves_of(words: &[Word]) -> Option<(Moves, &[Word])>
 
 // The move numbers that two words name.
 fn moves_between(from: &Word, to: &Word) -> Option<Moves>
-    ensures some { IfSome result (λ moves. IsNumber from.now moves.from × IsNumber to.now moves.to × (moves.from ≤ moves.to) × (moves.to ≤ most_moves)) }
-    ensures none { result ≡ None → (a b : ℕ) → a ≤ b → b ≤ most_moves → IsNumber from.now a → ¬ IsNumber to.now b }
+    ensures some { IfSome result (λ moves. IsNumber from.now moves.from × IsNumber to.now moves.to
+        × (moves.from ≤ moves.to) × (moves.to ≤ most_moves)) }
+    ensures none { result ≡ None → (a b : ℕ) → a ≤ b → b ≤ most_moves → IsNumber from.now a →
+        ¬ IsNumber to.now b }
 {
     let to = number_up_to(to, u64::from(MAX_MOVES))?;
     let from = number_up_to(from, to)?;
@@ -163,12 +178,15 @@ fn moves_between(from: &Word, to: &Word) -> Option<Moves>
     })
 }
 
-// The rectangle of `at X Y` or `at X Y to X1 Y1` at the beginning of the words, or none, and the words behind that.
+// The rectangle of `at X Y` or `at X Y to X1 Y1` at the beginning of the words, or none, and the
+// words behind that.
 fn at_of(words: &[Word]) -> Option<(Option<Rect>, &[Word])>
     ensures parted { IfSome result (λ r. AreParted IsAt words.now r.0 r.1.now) }
-    ensures only { IfSome result (λ r. (at : Option Rect) (rest : List Word) → AreParted IsAt words.now at rest →
+    ensures only { IfSome result (λ r. (at : Option Rect) (rest : List Word) →
+        AreParted IsAt words.now at rest →
         BeginsOtherwise (codes "at") rest → BeginsOtherwise (codes "to") rest → (at ≡ r.0) × (rest ≡ r.1.now)) }
-    ensures none { result ≡ None → (at : Option Rect) (rest : List Word) → AreParted IsAt words.now at rest →
+    ensures none { result ≡ None → (at : Option Rect) (rest : List Word) →
+        AreParted IsAt words.now at rest →
         BeginsOtherwise (codes "at") rest → ¬ BeginsOtherwise (codes "to") rest }
 {
     let Some(behind) = behind_name(words, b"at") else {
@@ -217,10 +235,12 @@ fn rect_of(first: Point, last: Point) -> Rect
     }
 }
 
-// The pattern that the only word spells, if there is one word and it spells one. The only error is `NoMemory`.
+// The pattern that the only word spells, if there is one word and it spells one. The only error is
+// `NoMemory`.
 fn pattern_of(alloc: Global, words: &[Word]) -> Result<Option<Pattern>, NoMemory>
     ensures some { IfOk result (λ found. IfSome found (λ pattern. IsPattern pattern words.now)) }
-    ensures none { IfOk result (λ found. IfNone found ((pattern : Pattern) → ¬ IsPattern pattern words.now)) }
+    ensures none { IfOk result (λ found. IfNone found ((pattern : Pattern) →
+        ¬ IsPattern pattern words.now)) }
 {
     let Some(bytes) = only_bare(words) else {
         return Ok(None);

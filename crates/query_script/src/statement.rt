@@ -5,6 +5,8 @@ ghost use Rattle.query_script.specs.declared.statement.ScriptError.TheVariants.{
 use kb_geometry::{NoMemory, Text};
 use pattern_images::Query;
 use std::alloc::{AllocError, AllocFailed};
+use std::error::Error;
+use std::fmt;
 use std::marker::Model;
 
 /// The most bytes that a script may have.
@@ -80,6 +82,17 @@ pub enum ScriptError {
     /// An allocation was refused.
     NoMemory,
 }
+
+impl fmt::Display for ScriptError {
+    fn fmt<W: fmt::Write>(&self, f: &mut fmt::Formatter<W>) -> fmt::Result {
+        match *self {
+            ScriptError::BadLine { line } => write!(f, "line {line} is bad"),
+            ScriptError::NoMemory => f.write_str("out of memory"),
+        }
+    }
+}
+
+impl Error for ScriptError {}
 
 impl From<AllocError> for ScriptError {
     ghost from_gives = { λ _ e. e ≡ NoMemory };

@@ -1,5 +1,7 @@
 // The statements that take one line, from the words of a line.
-ghost use Rattle.std.specs.Prelude.{◌≡◌, ◌≢◌, ◌≤◌, ◌↔◌, ℕ, List, [], ◌∷◌, Option, None, codes, IfOk, IfSome, IfNone, IsTrue};
+ghost use Rattle.std.specs.Prelude.{
+    ◌≡◌, ◌≢◌, ◌≤◌, ◌↔◌, ℕ, List, [], ◌∷◌, Option, None, codes, IfOk, IfSome, IfNone, IsTrue,
+};
 ghost use Rattle.pattern_images.specs.declared.query.Query.{Query};
 ghost use Rattle.query_script.specs.declared.statement.Statement.{Statement};
 ghost use Rattle.query_script.specs.declared.statement.Statement.TheVariants as statement;
@@ -15,10 +17,12 @@ use kb_geometry::{NoMemory, Text};
 use pattern_images::Query;
 use std::alloc::Global;
 
-// The statement that the words spell, if they spell one that takes one line. The only error is `NoMemory`.
+// The statement that the words spell, if they spell one that takes one line. The only error is
+// `NoMemory`.
 pub(crate) fn statement_of(alloc: Global, words: &[Word]) -> Result<Option<Statement>, NoMemory>
     ensures some { IfOk result (λ found. IfSome found (λ s. IsStatement words.now s)) }
-    ensures none { IfOk result (λ found. IfNone found ((s : Statement) → ¬ IsStatement words.now s)) }
+    ensures none { IfOk result (λ found. IfNone found ((s : Statement) →
+        ¬ IsStatement words.now s)) }
 {
     if let Some(path) = import_of(alloc, words)? {
         return Ok(Some(Statement::Import { path }));
@@ -40,8 +44,10 @@ pub(crate) fn statement_of(alloc: Global, words: &[Word]) -> Result<Option<State
 
 // The path of `import PATH`. The only error is `NoMemory`.
 fn import_of(alloc: Global, words: &[Word]) -> Result<Option<Text>, NoMemory>
-    ensures some { IfOk result (λ found. IfSome found (λ path. IsStatement words.now (statement.Import path))) }
-    ensures none { IfOk result (λ found. IfNone found ((path : List ℕ) → ¬ IsStatement words.now (statement.Import path))) }
+    ensures some { IfOk result
+        (λ found. IfSome found (λ path. IsStatement words.now (statement.Import path))) }
+    ensures none { IfOk result (λ found. IfNone found ((path : List ℕ) →
+        ¬ IsStatement words.now (statement.Import path))) }
 {
     let Some(word) = only_word_behind(words, b"import") else {
         return Ok(None);
@@ -75,8 +81,10 @@ fn until_of(words: &[Word]) -> Option<u64>
 
 // The query of `search ..`. The only error is `NoMemory`.
 fn search_of(alloc: Global, words: &[Word]) -> Result<Option<Query>, NoMemory>
-    ensures some { IfOk result (λ found. IfSome found (λ query. IsStatement words.now (statement.Search query))) }
-    ensures none { IfOk result (λ found. IfNone found ((query : Query) → ¬ IsStatement words.now (statement.Search query))) }
+    ensures some { IfOk result
+        (λ found. IfSome found (λ query. IsStatement words.now (statement.Search query))) }
+    ensures none { IfOk result (λ found. IfNone found ((query : Query) →
+        ¬ IsStatement words.now (statement.Search query))) }
 {
     let Some(rest) = behind_name(words, b"search") else {
         return Ok(None);

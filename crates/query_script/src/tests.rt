@@ -381,11 +381,14 @@ fn blocks_are_read(rt: HostRuntime) -> Result<(), Fail> {
                 "1 together (4 search same moves 0 65536 X) (5 search moves 1 2 O)",
             ),
             (
-                "together\nsearch moves 1 1 X\nsearch moves 1 2 X\nsearch moves 1 3 X\nsearch moves 1 4 X\nsearch moves 1 5 X\nsearch moves 1 6 X\nsearch moves 1 7 X\nsearch moves 1 8 X\nend\n",
+                "together\nsearch moves 1 1 X\nsearch moves 1 2 X\nsearch moves 1 3 X\n\
+                 search moves 1 4 X\nsearch moves 1 5 X\nsearch moves 1 6 X\n\
+                 search moves 1 7 X\nsearch moves 1 8 X\nend\n",
                 "1 together (2 search moves 1 1 X) (3 search moves 1 2 X) (4 search moves 1 3 X) (5 search moves 1 4 X) (6 search moves 1 5 X) (7 search moves 1 6 X) (8 search moves 1 7 X) (9 search moves 1 8 X)",
             ),
             (
-                "import a\ntogether\nsearch X\nend\nsearch O\ntogether\nsearch .\nsearch *\nend\nwait\n",
+                "import a\ntogether\nsearch X\nend\nsearch O\ntogether\nsearch .\n\
+                 search *\nend\nwait\n",
                 "1 import <a>, 2 together (3 search moves 0 65536 X), 5 search moves 0 65536 O, 6 together (7 search moves 0 65536 .) (8 search moves 0 65536 *), 10 wait",
             ),
         ],
@@ -411,11 +414,13 @@ fn the_least_bad_line_is_told(rt: HostRuntime) -> Result<(), Fail> {
             ("together\nsearch X\nend X\nend", "bad 3"),
             // The ninth search.
             (
-                "together\nsearch X\nsearch X\nsearch X\nsearch X\nsearch X\nsearch X\nsearch X\nsearch X\nsearch X\nend\n",
+                "together\nsearch X\nsearch X\nsearch X\nsearch X\nsearch X\nsearch X\n\
+                 search X\nsearch X\nsearch X\nend\n",
                 "bad 10",
             ),
             (
-                "together\nsearch X\nsearch X\nsearch X\nsearch X\nsearch X\nsearch X\nsearch X\nsearch X\nsearch X\n",
+                "together\nsearch X\nsearch X\nsearch X\nsearch X\nsearch X\nsearch X\n\
+                 search X\nsearch X\nsearch X\n",
                 "bad 1",
             ),
             // Other statements in a block.

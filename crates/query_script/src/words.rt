@@ -1,10 +1,16 @@
 // Splits a line into its words.
 ghost use Rattle.std.specs.Prelude.{◌≡◌, ◌≢◌, ◌++◌, ◌∷◌, ◌<◌, ◌≤◌, ◌↔◌, ◌⊎◌};
-ghost use Rattle.std.specs.Prelude.{ℕ, List, [], All, length, Option, Some, None, IfOk, IfSome, IfNone, IsTrue};
+ghost use Rattle.std.specs.Prelude.{
+    ℕ, List, [], All, length, Option, Some, None, IfOk, IfSome, IfNone, IsTrue,
+};
 ghost use Rattle.query_script.specs.declared.word.Word.{Word};
 ghost use Rattle.query_script.specs.Bytes.{backslash, quote};
-ghost use Rattle.query_script.specs.Words.{AreBlanks, AreWords, IsBareByte, IsBlank, IsWordEnd, escaped, escaped_byte};
-ghost use Rattle.query_script.specs.Reading.{BeginsWithNoBareByte, BeginsWithNoBlank, BeginsWithWord};
+ghost use Rattle.query_script.specs.Words.{
+    AreBlanks, AreWords, IsBareByte, IsBlank, IsWordEnd, escaped, escaped_byte,
+};
+ghost use Rattle.query_script.specs.Reading.{
+    BeginsWithNoBareByte, BeginsWithNoBlank, BeginsWithWord,
+};
 
 use crate::word::Word;
 use game_tree::Bytes;
@@ -14,7 +20,8 @@ use std::alloc::Global;
 // The words of a line, if it is made of words. The only error is `NoMemory`.
 pub(crate) fn words_of(alloc: Global, line: &[u8]) -> Result<Option<Vec<Word>>, NoMemory>
     ensures some { IfOk result (λ found. IfSome found (λ words. AreWords line.now words.items)) }
-    ensures none { IfOk result (λ found. IfNone found ((words : List Word) → ¬ AreWords line.now words)) }
+    ensures none { IfOk result (λ found. IfNone found ((words : List Word) →
+        ¬ AreWords line.now words)) }
 {
     let mut words = Vec::new(alloc);
     let mut rest = without_blanks(line);
@@ -53,13 +60,15 @@ fn is_blank(byte: u8) -> bool
     byte == b' ' || byte == b'\t'
 }
 
-// The word with which a text begins, and what stands behind it, if it begins with one. The only error is `NoMemory`.
+// The word with which a text begins, and what stands behind it, if it begins with one. The only
+// error is `NoMemory`.
 fn first_word(alloc: Global, text: &[u8]) -> Result<Option<(Word, &[u8])>, NoMemory>
     requires some { 1 ≤ length text.now }
     requires first { BeginsWithNoBlank text.now }
     ensures some { IfOk result (λ found. IfSome found (λ r. BeginsWithWord text.now r.0 r.1.now)) }
     ensures shorter { IfOk result (λ found. IfSome found (λ r. length r.1.now < length text.now)) }
-    ensures none { IfOk result (λ found. IfNone found ((words : List Word) → ¬ AreWords text.now words)) }
+    ensures none { IfOk result (λ found. IfNone found ((words : List Word) →
+        ¬ AreWords text.now words)) }
 {
     match behind_quote(text) {
         Some(inner) => quoted_word(alloc, inner),
@@ -67,7 +76,8 @@ fn first_word(alloc: Global, text: &[u8]) -> Result<Option<(Word, &[u8])>, NoMem
     }
 }
 
-// The quoted word that begins before these bytes, and what stands behind it. The only error is `NoMemory`.
+// The quoted word that begins before these bytes, and what stands behind it. The only error is
+// `NoMemory`.
 fn quoted_word(alloc: Global, inner: &[u8]) -> Result<Option<(Word, &[u8])>, NoMemory>
     ensures some { IfOk result (λ found. IfSome found (λ r.
         BeginsWithWord (quote ∷ inner.now) r.0 r.1.now)) }
@@ -84,8 +94,8 @@ fn quoted_word(alloc: Global, inner: &[u8]) -> Result<Option<(Word, &[u8])>, NoM
     Ok(Some((Word::Quoted(Bytes::new(bytes)), behind)))
 }
 
-// The bytes before a quote that ends a word, without the `\` before a `"` or a `\`, and what stands behind the quote. The
-// only error is `NoMemory`.
+// The bytes before a quote that ends a word, without the `\` before a `"` or a `\`, and what stands
+// behind the quote. The only error is `NoMemory`.
 fn unescaped(alloc: Global, text: &[u8]) -> Result<Option<(Vec<u8>, &[u8])>, NoMemory>
     ensures some { IfOk result (λ found. IfSome found (λ r.
         text.now ≡ escaped r.0.items ++ quote ∷ r.1.now)) }
@@ -119,7 +129,8 @@ fn behind_quote(text: &[u8]) -> Option<&[u8]>
 fn quoted_byte(text: &[u8]) -> Option<(u8, &[u8])>
     ensures some { IfSome result (λ r. text.now ≡ escaped_byte r.0 ++ r.1.now) }
     ensures shorter { IfSome result (λ r. length r.1.now < length text.now) }
-    ensures none { result ≡ None → (byte : ℕ) (rest : List ℕ) → text.now ≢ escaped_byte byte ++ rest }
+    ensures none { result ≡ None → (byte : ℕ) (rest : List ℕ) →
+        text.now ≢ escaped_byte byte ++ rest }
 {
     match text {
         [b'\\', byte, rest @ ..] if is_special(*byte) => Some((*byte, rest)),
@@ -142,7 +153,8 @@ fn bare_word(alloc: Global, text: &[u8]) -> Result<Option<(Word, &[u8])>, NoMemo
     requires bare { (rest : List ℕ) → text.now ≢ quote ∷ rest }
     ensures some { IfOk result (λ found. IfSome found (λ r. BeginsWithWord text.now r.0 r.1.now)) }
     ensures shorter { IfOk result (λ found. IfSome found (λ r. length r.1.now < length text.now)) }
-    ensures none { IfOk result (λ found. IfNone found ((words : List Word) → ¬ AreWords text.now words)) }
+    ensures none { IfOk result (λ found. IfNone found ((words : List Word) →
+        ¬ AreWords text.now words)) }
 {
     let (bytes, behind) = split_bare(text);
     if !is_word_end(behind) {
@@ -152,7 +164,8 @@ fn bare_word(alloc: Global, text: &[u8]) -> Result<Option<(Word, &[u8])>, NoMemo
     Ok(Some((Word::Bare(Bytes::new(bytes)), behind)))
 }
 
-// The bytes of a bare word with which a text begins, as many as there are, and what stands behind them.
+// The bytes of a bare word with which a text begins, as many as there are, and what stands behind
+// them.
 fn split_bare(text: &[u8]) -> (&[u8], &[u8])
     ensures split { text.now ≡ result.0.now ++ result.1.now }
     ensures bare { All IsBareByte result.0.now }

@@ -7,6 +7,7 @@ use Rattle.std.proofs.lemmas.Bool.{cases_lt}
 use Rattle.std.proofs.lemmas.Grind.{flat_map-append}
 use Rattle.std.proofs.lemmas.List.{append-nil, get_or_append_left, length-map, map_push, take-append-drop}
 use Rattle.std.proofs.lemmas.List.Elements.{All-append, All-cons, All-head, All-nil, All-tail}
+use Rattle.kb_geometry.proofs.Lists.{All-before}
 use Rattle.kb_edges.specs.Files.{File, HasFile, HasPath, content_of}
 use Rattle.game_tree.specs.Tree.{IsTree, Tree}
 use Rattle.node_position.specs.Games.{Game}
@@ -96,14 +97,10 @@ read-trees-all all path before _ _ (AreRead.read {files} {unread} name bytes out
 read-trees-all all path before _ _ (AreRead.not_read {files} {unread} name so_far) =
     files-push files (import_file name FileOutcome.Unread []) (read-trees-all all path before files unread so_far) (All-nil HasTree)
 
--- what holds of all holds of the first ones
-all-before : {X : Type 0} (P : X → Type 0) (xs ys : List X) → All P (xs ++ ys) → All P xs
-all-before P xs ys h k d lt = subst P (get_or_append_left xs ys d k lt) (h k d (omega (arith, length-append xs ys)))
-
 -- the games of the first files
 first-trees : (files : List ImportFile) (n : ℕ) → All HasTree (games_of_files files) → All HasTree (games_of_files (take n files))
 first-trees files n are =
-    all-before HasTree (games_of_files (take n files)) (games_of_files (drop n files))
+    All-before HasTree (games_of_files (take n files)) (games_of_files (drop n files))
     (subst (All HasTree)
     (ap games_of_files (sym (take-append-drop n files)) ∙ flat_map-append (λ (g : ImportFile). g.games) (take n files) (drop n files))
     are)

@@ -4,7 +4,7 @@ use Rattle.std.proofs.lemmas.Bool.{false≢true}
 use Rattle.std.proofs.lemmas.List.{length-map, map_push}
 use Rattle.kb_edges.specs.Files.{File, HasPath}
 use Rattle.game_tree.specs.Tree.{Tree}
-use Rattle.session_core.proofs.LastItems.{push_not_nil, push_same}
+use Rattle.kb_geometry.proofs.Lists.{push_not_nil, push_same}
 use Rattle.search_run.specs.Course.{AreRead, Files, Finding, FindsFiles, HasTooMany, ImportFile, IsContent, IsImported, IsUnlisted, TooMany, Unlisted, games_of_files, import_file, nothing_lost, trees_in}
 use Rattle.search_run.specs.Outcome.{IsOutcome, with_games}
 use Rattle.search_run.specs.Reads.{names_of}

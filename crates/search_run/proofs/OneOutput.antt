@@ -8,7 +8,7 @@ use Rattle.query_script.specs.declared.statement.Statement.{Statement}
 use Rattle.query_script.specs.declared.statement.Statement.TheVariants as statement
 use Rattle.query_script.specs.Texts.{until_text}
 use Rattle.session_core.specs.Answers.{IsAnswer, IsSearchText}
-use Rattle.session_core.proofs.LastItems.{push_not_nil, push_same}
+use Rattle.kb_geometry.proofs.Lists.{push_not_nil, push_same}
 use Rattle.session_core.proofs.OneAnswer.{answer-unique, search-one}
 use Rattle.search_run.specs.Course.{ImportCourse, IsImported, losses_of, nothing_lost, trees_in}
 use Rattle.search_run.specs.Lawful.{AreSearchTexts, HasPrinted, IsLawful, IsNamed, IsPassed, Rules, State, after_import, last_of, view_at, waiting_text, with_floor}

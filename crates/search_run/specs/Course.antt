@@ -84,7 +84,8 @@ import_file name outcome trees = record {
 -- What became of the files of an import, one after another, in a base with these counts before it,
 -- and the names of the files that were not read. Each file is judged by its bytes and by the counts
 -- of the base with the games of the files before it.
-pub data AreRead (all : List File) (path : List ℕ) (before : Counts) : List ImportFile → List (List ℕ) → Type 0 where
+pub data AreRead (all : List File) (path : List ℕ) (before : Counts) : List ImportFile →
+    List (List ℕ) → Type 0 where
   nothing : AreRead all path before [] []
   read : {files : List ImportFile} {unread : List (List ℕ)}
       (name bytes : List ℕ) (outcome : FileOutcome) (trees : List Tree) →
@@ -104,7 +105,8 @@ IsUnlisted all path entry =
     ⊎ ((entry.unlisted ≡ false) × (¬ HasPath all path))) × (entry.unread ≡ [])
 
 -- the import of this path has these names, 100,000 at most, and found these files under them
-pub record FindsFiles (all : List File) (path : List ℕ) (before : Counts) (entry : ImportCourse) (files : List ImportFile) : Type 0 where
+pub record FindsFiles (all : List File) (path : List ℕ) (before : Counts) (entry : ImportCourse)
+    (files : List ImportFile) : Type 0 where
   pub path_there : HasPath all path
   pub names : AreNames all path (map (λ (f : ImportFile). f.report.name) files)
   pub few : length files ≤ 100000

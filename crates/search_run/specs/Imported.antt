@@ -15,7 +15,8 @@ abbrev pub file_reports : List ImportedFile → List FileReport
 file_reports files = map file_report files
 
 -- files are told by what the report says of each, and by all their games in one list
-pub record AreKeptFiles (files : List ImportFile) (reports : List FileReport) (games : List Game) : Type 0 where
+pub record AreKeptFiles (files : List ImportFile) (reports : List FileReport)
+    (games : List Game) : Type 0 where
   pub reports_are : reports_of files ≡ reports
   pub games_are : games_of_files files ≡ games
 

@@ -89,7 +89,8 @@ AreSearchTexts rules s (p ∷ ps) greatest text =
 -- A statement at a line prints this text and leads to the next state, by these entries of the
 -- course. An import and a wait print a report that waits first. A statement that is answered from
 -- the games of a version names it in its text.
-abbrev pub IsPassed : List File → Rules → State → ℕ → Statement → List ImportCourse → List ℕ → State → Type 0
+abbrev pub IsPassed : List File → Rules → State → ℕ → Statement → List ImportCourse → List ℕ →
+    State → Type 0
 IsPassed files rules s line (statement.Import path) used text next =
     (entry : ImportCourse) × (finding : Finding) × (used ≡ entry ∷ [])
     × IsImported files path (counts_of (trees_in (games_in s.log))) entry finding
@@ -108,7 +109,8 @@ IsPassed files rules s line answered used text next =
 
 -- After these statements, by this course, the session stands in this state and has printed this
 -- text.
-pub data HasPrinted (files : List File) (rules : Rules) : List ImportCourse → List Placed → State → List ℕ → Type 0 where
+pub data HasPrinted (files : List File) (rules : Rules) : List ImportCourse → List Placed → State →
+    List ℕ → Type 0 where
   nothing : HasPrinted files rules [] [] at_start []
   one_more : {course : List ImportCourse} {placed : List Placed} {s : State} {out : List ℕ}
       (used : List ImportCourse) (p : Placed) (next : State) (text : List ℕ) →
@@ -140,7 +142,8 @@ IsNextPrefix files rules s (p ∷ ps) more =
 
 -- The text is begun: the texts of the first of these statements, by this course, and a prefix of
 -- what comes next.
-pub record IsBegun (files : List File) (rules : Rules) (course : List ImportCourse) (placed : List Placed) (out : List ℕ) : Type 0 where
+pub record IsBegun (files : List File) (rules : Rules) (course : List ImportCourse)
+    (placed : List Placed) (out : List ℕ) : Type 0 where
   pub passed : List Placed
   pub left : List Placed
   pub state : State

@@ -14,7 +14,9 @@ names_of files = map (λ (f : ImportFile). f.report.name) files
 
 -- One more file was read: whatever files were read before, these are read now, and a file that was
 -- not read cost a fault.
-pub record IsOneMore (all : List File) (path name : List ℕ) (base : Counts) (before now : ℕ) (files : List ImportFile) (unread : List (List ℕ)) (reports : List FileReport) (games : List Game) : Type 0 where
+pub record IsOneMore (all : List File) (path name : List ℕ) (base : Counts) (before now : ℕ)
+    (files : List ImportFile) (unread : List (List ℕ)) (reports : List FileReport)
+    (games : List Game) : Type 0 where
   pub more : List ImportFile
   pub lost : List (List ℕ)
   pub kept : AreKeptFiles more reports games
@@ -23,7 +25,8 @@ pub record IsOneMore (all : List File) (path name : List ℕ) (base : Counts) (b
   pub named : names_of more ≡ names_of files ++ name ∷ []
 
 -- the same in a base with these counts, from what is kept of the files before to what is kept then
-abbrev pub IsOneMoreRead : List File → List ℕ → List ℕ → ℕ → ℕ → Counts → List FileReport → List Game → List FileReport → List Game → Type 0
+abbrev pub IsOneMoreRead : List File → List ℕ → List ℕ → ℕ → ℕ → Counts → List FileReport →
+    List Game → List FileReport → List Game → Type 0
 IsOneMoreRead all path name before now counts reports games more_reports more_games =
     (base : Counts) (files : List ImportFile) (unread : List (List ℕ)) →
     AreKeptFiles files reports games → counts ≡ with_games base (trees_in games) →
@@ -32,7 +35,8 @@ IsOneMoreRead all path name before now counts reports games more_reports more_ga
 
 -- the files of these names are read, in a base with these counts before them, and each that was not
 -- cost a fault
-pub record HasReadAll (all : List File) (path : List ℕ) (base : Counts) (names : List (List ℕ)) (before now : ℕ) (reports : List FileReport) (games : List Game) : Type 0 where
+pub record HasReadAll (all : List File) (path : List ℕ) (base : Counts) (names : List (List ℕ))
+    (before now : ℕ) (reports : List FileReport) (games : List Game) : Type 0 where
   pub files : List ImportFile
   pub kept : AreKeptFiles files reports games
   pub unread : List (List ℕ)

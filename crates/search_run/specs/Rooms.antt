@@ -10,7 +10,8 @@ use Rattle.search_run.specs.Outcome.{HasRoom, games_after, nodes_after, with_gam
 
 -- Of these games all are added where there is room for them, else none.
 pub data IsAddedBy (before : Counts) (games : List Tree) : FileOutcome → List Tree → Type 0 where
-  full : ¬ HasRoom before games → IsAddedBy before games (file.Full (games_after before games) (nodes_after before games)) []
+  full : ¬ HasRoom before games →
+      IsAddedBy before games (file.Full (games_after before games) (nodes_after before games)) []
   accepted : HasRoom before games → IsAddedBy before games (file.Accepted (length games)) games
 
 -- Games are added only by an accepted file: so many, and there is room for them.

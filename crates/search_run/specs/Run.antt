@@ -14,7 +14,8 @@ serial_rules = record { batch = 64; serial = true }
 
 -- The text so far is what these statements print, by a course whose losses are at most the rise of
 -- the folder's count, and this is what is kept of the state there.
-pub record HasRun (files : List File) (placed : List Placed) (kept : Kept) (before : List ℕ) (written : Option (List ℕ)) (faults_before faults_now : ℕ) : Type 0 where
+pub record HasRun (files : List File) (placed : List Placed) (kept : Kept) (before : List ℕ)
+    (written : Option (List ℕ)) (faults_before faults_now : ℕ) : Type 0 where
   pub state : State
   pub is_kept : IsKept state kept
   pub course : List ImportCourse
@@ -25,7 +26,8 @@ pub record HasRun (files : List File) (placed : List Placed) (kept : Kept) (befo
 
 -- A lawful output of these statements was written, by a course whose losses are at most the rise of
 -- the folder's count.
-pub record WritesLawful (files : List File) (placed : List Placed) (before : List ℕ) (written : Option (List ℕ)) (faults_before faults_now : ℕ) : Type 0 where
+pub record WritesLawful (files : List File) (placed : List Placed) (before : List ℕ)
+    (written : Option (List ℕ)) (faults_before faults_now : ℕ) : Type 0 where
   pub course : List ImportCourse
   pub text : List ℕ
   pub lawful : IsLawful files serial_rules course placed text
@@ -34,7 +36,8 @@ pub record WritesLawful (files : List File) (placed : List Placed) (before : Lis
 
 -- A prefix of a lawful output of these statements was written, and the losses of its course are at
 -- most the rise of the folder's count.
-pub record WritesPrefix (files : List File) (placed : List Placed) (before : List ℕ) (written : Option (List ℕ)) (faults_before faults_now : ℕ) : Type 0 where
+pub record WritesPrefix (files : List File) (placed : List Placed) (before : List ℕ)
+    (written : Option (List ℕ)) (faults_before faults_now : ℕ) : Type 0 where
   pub course : List ImportCourse
   pub whole : List ℕ
   pub lawful : IsLawful files serial_rules course placed whole

@@ -9,15 +9,18 @@ use Rattle.query_script.specs.declared.statement.Placed.{Placed}
 use Rattle.search_run.specs.declared.status.Status.{Status}
 use Rattle.search_run.specs.declared.status.Status.TheVariants as status
 
--- A lawful output for the script's statements was written, by a course whose losses are at most the rise of the folder's count.
-pub record Prints (script : List ℕ) (files : List File) (before : List ℕ) (written : Option (List ℕ)) (faults_before faults_now : ℕ) : Type 0 where
+-- A lawful output for the script's statements was written, by a course whose losses are at most the
+-- rise of the folder's count.
+pub record Prints (script : List ℕ) (files : List File) (before : List ℕ)
+    (written : Option (List ℕ)) (faults_before faults_now : ℕ) : Type 0 where
   pub placed : List Placed
   pub spelled : IsScript script placed
   pub lawful : WritesLawful files placed before written faults_before faults_now
 
--- A lawful output for the script's statements was written, by a course by which nothing was lost: no import is unlisted and no
--- file unread by a fault of the folder.
-pub record PrintsAll (script : List ℕ) (files : List File) (before : List ℕ) (written : Option (List ℕ)) : Type 0 where
+-- A lawful output for the script's statements was written, by a course by which nothing was lost:
+-- no import is unlisted and no file unread by a fault of the folder.
+pub record PrintsAll (script : List ℕ) (files : List File) (before : List ℕ)
+    (written : Option (List ℕ)) : Type 0 where
   pub placed : List Placed
   pub spelled : IsScript script placed
   pub course : List ImportCourse
@@ -26,9 +29,10 @@ pub record PrintsAll (script : List ℕ) (files : List File) (before : List ℕ)
   pub written_is : written ≡ Some (before ++ text)
   pub nothing_lost : losses_of course ≡ 0
 
--- A prefix of a lawful output for the script's statements was written, and the losses of its course are at most the rise of the
--- folder's count.
-pub record PrintsPrefix (script : List ℕ) (files : List File) (before : List ℕ) (written : Option (List ℕ)) (faults_before faults_now : ℕ) : Type 0 where
+-- A prefix of a lawful output for the script's statements was written, and the losses of its course
+-- are at most the rise of the folder's count.
+pub record PrintsPrefix (script : List ℕ) (files : List File) (before : List ℕ)
+    (written : Option (List ℕ)) (faults_before faults_now : ℕ) : Type 0 where
   pub placed : List Placed
   pub spelled : IsScript script placed
   pub begun : WritesPrefix files placed before written faults_before faults_now

@@ -61,14 +61,17 @@ LeadsOn files rules kept line own text after faults_before faults_now =
     × RoseBy (losses_of used) faults_before faults_now
 
 -- the text of the statement is written, and it leads on
-pub record PassesStatement (files : List File) (rules : Rules) (kept : Kept) (p : Placed) (after : Kept) (before : List ℕ) (written : Option (List ℕ)) (faults_before faults_now : ℕ) : Type 0 where
+pub record PassesStatement (files : List File) (rules : Rules) (kept : Kept) (p : Placed)
+    (after : Kept) (before : List ℕ) (written : Option (List ℕ))
+    (faults_before faults_now : ℕ) : Type 0 where
   pub text : List ℕ
   pub text_is : IsTextByKept rules kept p.line p.statement text
   pub written_is : written ≡ Some (before ++ text)
   pub leads : LeadsOn files rules kept p.line p.statement text after faults_before faults_now
 
 -- a prefix of the text of the statement is written, or nothing
-pub record StopsInStatement (rules : Rules) (kept : Kept) (p : Placed) (before : List ℕ) (written : Option (List ℕ)) : Type 0 where
+pub record StopsInStatement (rules : Rules) (kept : Kept) (p : Placed) (before : List ℕ)
+    (written : Option (List ℕ)) : Type 0 where
   pub more : List ℕ
   pub prefix : (more ≡ [])
       ⊎ ((text : List ℕ) × IsTextByKept rules kept p.line p.statement text × IsPrefix more text)

@@ -25,11 +25,13 @@ kind_word kind.TwoMoves = codes "TwoMoves"
 
 -- `refused KIND AT NAME`
 abbrev pub refused_text : List ℕ → ℕ → List ℕ → List ℕ
-refused_text word at name = line_text (codes "refused " ∷ word ∷ codes " " ∷ decimal at ∷ codes " " ∷ name ∷ [])
+refused_text word at name = line_text (codes "refused " ∷ word ∷ codes " " ∷ decimal at ∷ codes " "
+    ∷ name ∷ [])
 
 -- `full GAMES NODES NAME`
 abbrev pub full_text : ℕ → ℕ → List ℕ → List ℕ
-full_text games nodes name = line_text (codes "full " ∷ decimal games ∷ codes " " ∷ decimal nodes ∷ codes " " ∷ name ∷ [])
+full_text games nodes name = line_text (codes "full " ∷ decimal games ∷ codes " " ∷ decimal nodes
+    ∷ codes " " ∷ name ∷ [])
 
 -- `unread NAME`
 abbrev pub unread_text : List ℕ → List ℕ
@@ -111,7 +113,8 @@ unlisted_text line = line_text (decimal line ∷ codes " imported unlisted" ∷ 
 
 -- `LINE imported too many files N`
 abbrev pub too_many_text : ℕ → ℕ → List ℕ
-too_many_text line names = line_text (decimal line ∷ codes " imported too many files " ∷ decimal names ∷ [])
+too_many_text line names = line_text (decimal line ∷ codes " imported too many files "
+    ∷ decimal names ∷ [])
 
 -- the report of an import: what was found, and the version after it
 abbrev pub report_text : ℕ → Finding → ℕ → List ℕ

@@ -1,11 +1,16 @@
 // The import of a folder: which files it has, and what becomes of each.
-ghost use Rattle.std.specs.Prelude.{◌≡◌, ◌≢◌, ◌⊎◌, ◌↔◌, ◌+◌, ◌<◌, ◌≤◌, ◌∷◌, ◌++◌, [], length, map, vec_len, All, IfOk, IsTrue, OnOk, Some, string_bytes, List, ℕ};
+ghost use Rattle.std.specs.Prelude.{
+    ◌≡◌, ◌≢◌, ◌⊎◌, ◌↔◌, ◌+◌, ◌<◌, ◌≤◌, ◌∷◌, ◌++◌, [], length, map, vec_len, All, IfOk, IsTrue,
+    OnOk, Some, string_bytes, List, ℕ,
+};
 ghost use Rattle.kb_edges.specs.Faults.{Rose, RoseBy};
 ghost use Rattle.kb_edges.specs.Files.{File, HasFile};
 ghost use Rattle.kb_edges.specs.Told.{IfTold};
 ghost use Rattle.node_position.specs.Games.{AreNodeChanges};
 ghost use Rattle.search_run.specs.declared.outcome.FileOutcome.TheVariants.{Unread};
-ghost use Rattle.search_run.specs.Course.{Finding, ImportCourse, IsContent, IsImported, games_from, losses_of, trees_in};
+ghost use Rattle.search_run.specs.Course.{
+    Finding, ImportCourse, IsContent, IsImported, games_from, losses_of, trees_in,
+};
 ghost use Rattle.search_run.specs.Imported.{Tells, file_reports, games_kept};
 ghost use Rattle.search_run.specs.Log.{segments_of};
 ghost use Rattle.search_run.specs.Outcome.{IsOutcome};
@@ -30,7 +35,8 @@ pub(crate) const MAX_NAMES: usize = 100_000;
 /// How many files make one version.
 const BATCH: usize = 64;
 
-// While a file is imported this is held of each node, each value and each setup, beside its bytes and its trees' nodes.
+// While a file is imported this is held of each node, each value and each setup, beside its bytes
+// and its trees' nodes.
 const _: () = prove!(size_of::<RawNode>() == 32);
 
 const _: () = prove!(size_of::<Pair>() == 16);
@@ -114,8 +120,8 @@ fn are_too_many(names: &[String]) -> bool
     names.len() > MAX_NAMES
 }
 
-/// Imports the files of a path whose names end in `.sgf`, in a base with these counts. Hands back what was found,
-/// and the counts with the games that are to be added.
+/// Imports the files of a path whose names end in `.sgf`, in a base with these counts. Hands back
+/// what was found, and the counts with the games that are to be added.
 pub(crate) fn import<F: Folder>(
     alloc: Global,
     folder: &mut F,
@@ -159,9 +165,12 @@ pub fn import_one<F: Folder>(
     before: Counts,
 ) -> Result<(FileOutcome, Vec<GameTree>), NoMemory>
     ensures outcome { IfTold (F.files folder.old) (λ files. IfOk result (λ r. r.0 ≢ Unread →
-        (bytes : List ℕ) × IsContent files path.now name.now bytes × IsOutcome bytes before r.0 r.1.items)) }
-    ensures unread { IfOk result (λ r. r.0 ≡ Unread → Rose (F.faults folder.old) (F.faults folder.new)
-        ⊎ ((files : List File) × (F.files folder.old ≡ Some files) × (¬ HasFile files path.now name.now))) }
+        (bytes : List ℕ) × IsContent files path.now name.now bytes
+            × IsOutcome bytes before r.0 r.1.items)) }
+    ensures unread { IfOk result (λ r. r.0 ≡ Unread →
+        Rose (F.faults folder.old) (F.faults folder.new)
+        ⊎ ((files : List File) × (F.files folder.old ≡ Some files)
+            × (¬ HasFile files path.now name.now))) }
     ensures added { IfOk result (λ r. IsAdded before r.0 r.1.items) }
     ensures same { F.files folder.new ≡ F.files folder.old }
     ensures later { F.faults folder.old ≤ F.faults folder.new }
@@ -209,8 +218,10 @@ fn store(
     games: &mut Vec<Stored>,
 ) -> Result<(), NoMemory>
     requires { length trees.items ≤ 400000 }
-    ensures added { OnOk result (games_of games.new.items ≡ games_of games.old.items ++ games_from name.now 0 trees.items) }
-    ensures changes { All HasItsChanges games.old.items → OnOk result (All HasItsChanges games.new.items) }
+    ensures added { OnOk result (games_of games.new.items
+        ≡ games_of games.old.items ++ games_from name.now 0 trees.items) }
+    ensures changes { All HasItsChanges games.old.items →
+        OnOk result (All HasItsChanges games.new.items) }
 {
     let mut place = 0;
     for tree in trees {
@@ -241,9 +252,11 @@ fn read_next<F: Folder>(
     ensures found { IfTold (F.files folder.old) (λ all. HasFile all path.now name.now → OnOk result
         (IsOneMoreRead all path.now name.now (F.faults folder.old) (F.faults folder.new) counts.old
         (file_reports files.old.items) (games_of games.old.items) (file_reports files.new.items) (games_of games.new.items))) }
-    ensures added { OnOk result (AddsGames counts.old counts.new (games_of games.old.items) (games_of games.new.items)) }
+    ensures added { OnOk result (AddsGames counts.old counts.new (games_of games.old.items)
+        (games_of games.new.items)) }
     ensures room { HasFewGames counts.old → OnOk result (HasFewGames counts.new) }
-    ensures changes { All HasItsChanges games.old.items → OnOk result (All HasItsChanges games.new.items) }
+    ensures changes { All HasItsChanges games.old.items →
+        OnOk result (All HasItsChanges games.new.items) }
     ensures count { OnOk result (vec_len files.new ≡ vec_len files.old + 1) }
     ensures same { F.files folder.new ≡ F.files folder.old }
     ensures later { F.faults folder.old ≤ F.faults folder.new }
@@ -259,7 +272,8 @@ fn read_next<F: Folder>(
     Ok(())
 }
 
-// Imports the files of these names, in order. Hands back what became of them, the games, and the counts with these.
+// Imports the files of these names, in order. Hands back what became of them, the games, and the
+// counts with these.
 fn read_files<F: Folder>(
     alloc: Global,
     folder: &mut F,
@@ -267,10 +281,12 @@ fn read_files<F: Folder>(
     names: &[String],
     before: Counts,
 ) -> Result<(Vec<ImportedFile>, Vec<Stored>, Counts), NoMemory>
-    ensures found { IfTold (F.files folder.old) (λ all. All (HasFile all path.now) (map string_bytes names.now) →
+    ensures found { IfTold (F.files folder.old)
+        (λ all. All (HasFile all path.now) (map string_bytes names.now) →
         IfOk result (λ read. HasReadAll all path.now before (map string_bytes names.now)
         (F.faults folder.old) (F.faults folder.new) (file_reports read.0.items) (games_of read.1.items))) }
-    ensures added { IfOk result (λ read. AreAdded before read.2 (trees_in (games_of read.1.items))) }
+    ensures added { IfOk result
+        (λ read. AreAdded before read.2 (trees_in (games_of read.1.items))) }
     ensures room { HasFewGames before → IfOk result (λ read. HasFewGames read.2) }
     ensures changes { IfOk result (λ read. All HasItsChanges read.1.items) }
     ensures count { IfOk result (λ read. vec_len read.0 ≡ length names.now) }

@@ -1,8 +1,9 @@
 //! The top call: a script, a folder of games and a sink become a status and the printed answers.
 //!
-//! Stands on session_core, query_script, node_position, game_tree, sgf_reader, kb_edges, kb_geometry and the library bstr. In
-//! `specs/` are the script that is too long, the files of an import and their report, the course of imports, and the lawful
-//! outputs. The program uses that [`run_serial`] writes a lawful output, and tells each other end by its cause.
+//! Stands on session_core, query_script, node_position, game_tree, sgf_reader, kb_edges,
+//! kb_geometry and the library bstr. In `specs/` are the script that is too long, the files of an
+//! import and their report, the course of imports, and the lawful outputs. The program uses that
+//! [`run_serial`] writes a lawful output, and tells each other end by its cause.
 #![tactic(auto)]
 
 mod import;

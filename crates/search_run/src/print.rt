@@ -2,7 +2,11 @@
 ghost use Rattle.std.specs.Prelude.{◌≡◌, ◌++◌, OnOk, count_by, length, string_bytes};
 ghost use Rattle.search_run.specs.Course.{Finding};
 ghost use Rattle.search_run.specs.Imported.{Tells, file_report, file_reports};
-ghost use Rattle.search_run.specs.Texts.{counts_head, counts_tail, counts_text, file_text, full_text, is_accepted, is_full, is_refused, is_unread, kind_word, listed_text, refused_text, report_text, too_many_text, unlisted_text, unread_text};
+ghost use Rattle.search_run.specs.Texts.{
+    counts_head, counts_tail, counts_text, file_text, full_text, is_accepted, is_full, is_refused,
+    is_unread, kind_word, listed_text, refused_text, report_text, too_many_text, unlisted_text,
+    unread_text,
+};
 ghost use Rattle.std.specs.List.{flat_map};
 
 use crate::import::{Imported, ImportedFile};
@@ -62,7 +66,8 @@ fn kind_word(kind: FaultKind) -> &'static str
 
 // Prints the line of a file that was refused.
 fn print_refused(out: &mut String, word: &str, at: u32, name: &str) -> Result<(), NoMemory>
-    ensures { OnOk result (string_bytes out.new ≡ string_bytes out.old ++ refused_text word.now at name.now) }
+    ensures { OnOk result (string_bytes out.new
+        ≡ string_bytes out.old ++ refused_text word.now at name.now) }
 {
     writeln!(out, "refused {word} {at} {name}")?;
     Ok(())
@@ -70,7 +75,8 @@ fn print_refused(out: &mut String, word: &str, at: u32, name: &str) -> Result<()
 
 // Prints the line of a file for which there was no room.
 fn print_full(out: &mut String, games: u64, nodes: u64, name: &str) -> Result<(), NoMemory>
-    ensures { OnOk result (string_bytes out.new ≡ string_bytes out.old ++ full_text games nodes name.now) }
+    ensures { OnOk result (string_bytes out.new
+        ≡ string_bytes out.old ++ full_text games nodes name.now) }
 {
     writeln!(out, "full {games} {nodes} {name}")?;
     Ok(())
@@ -86,7 +92,8 @@ fn print_unread(out: &mut String, name: &str) -> Result<(), NoMemory>
 
 // Prints the line of a file that was not accepted.
 fn print_file(out: &mut String, file: &ImportedFile) -> Result<(), NoMemory>
-    ensures { OnOk result (string_bytes out.new ≡ string_bytes out.old ++ file_text (file_report file.now)) }
+    ensures { OnOk result (string_bytes out.new
+        ≡ string_bytes out.old ++ file_text (file_report file.now)) }
 {
     let name = file.name.as_str();
     match file.outcome {
@@ -100,7 +107,8 @@ fn print_file(out: &mut String, file: &ImportedFile) -> Result<(), NoMemory>
 
 // Prints the lines of the files that were not accepted, in order.
 fn print_files(out: &mut String, files: &[ImportedFile]) -> Result<(), NoMemory>
-    ensures { OnOk result (string_bytes out.new ≡ string_bytes out.old ++ flat_map file_text (file_reports files.now)) }
+    ensures { OnOk result (string_bytes out.new
+        ≡ string_bytes out.old ++ flat_map file_text (file_reports files.now)) }
 {
     for file in files {
         print_file(out, file)?;
@@ -192,7 +200,8 @@ fn print_unlisted(out: &mut String, line: u32) -> Result<(), NoMemory>
 
 // Prints the report of an import of too many names.
 fn print_too_many(out: &mut String, line: u32, names: usize) -> Result<(), NoMemory>
-    ensures { OnOk result (string_bytes out.new ≡ string_bytes out.old ++ too_many_text line names) }
+    ensures { OnOk result (string_bytes out.new
+        ≡ string_bytes out.old ++ too_many_text line names) }
 {
     writeln!(out, "{line} imported too many files {names}")?;
     Ok(())

@@ -1,5 +1,8 @@
 // Reading a script.
-ghost use Rattle.std.specs.Prelude.{◌≡◌, ◌≤◌, ◌<◌, ◌+◌, ◌++◌, ℕ, List, [], Some, IfOk, IsErrOf, OnErr, OnOk, length, take, drop, vec_len};
+ghost use Rattle.std.specs.Prelude.{
+    ◌≡◌, ◌≤◌, ◌<◌, ◌+◌, ◌++◌, ℕ, List, [], Some, IfOk, IsErrOf, OnErr, OnOk, length, take, drop,
+    vec_len,
+};
 ghost use Rattle.kb_edges.specs.Faults.{Rose};
 ghost use Rattle.kb_edges.specs.Told.{IfTold};
 ghost use Rattle.search_run.specs.declared.read.ReadScriptError.TheVariants.{NoMemory, Unread};
@@ -45,11 +48,14 @@ fn read_piece<S: Source>(
     requires { 0 < length piece.old }
     ensures bound { IfOk result (λ n. n ≤ length piece.old) }
     ensures len { IfOk result (λ n. vec_len text.new ≡ vec_len text.old + n) }
-    ensures added { IfTold (S.left script.old) (λ rest. IfOk result (λ n. text.new.items ≡ text.old.items ++ take n rest)) }
-    ensures taken { IfTold (S.left script.old) (λ rest. IfOk result (λ n. S.left script.new ≡ Some (drop n rest))) }
+    ensures added { IfTold (S.left script.old)
+        (λ rest. IfOk result (λ n. text.new.items ≡ text.old.items ++ take n rest)) }
+    ensures taken { IfTold (S.left script.old)
+        (λ rest. IfOk result (λ n. S.left script.new ≡ Some (drop n rest))) }
     ensures end { IfTold (S.left script.old) (λ rest. IfOk result (λ n. n ≡ 0 → rest ≡ [])) }
     ensures later { S.faults script.old ≤ S.faults script.new }
-    ensures unread { IsErrOf result ReadScriptError.Unread → Rose (S.faults script.old) (S.faults script.new) }
+    ensures unread { IsErrOf result ReadScriptError.Unread →
+        Rose (S.faults script.old) (S.faults script.new) }
 {
     let count = script.read(piece)?;
     text.extend_from_slice(&piece[..count])?;
@@ -61,11 +67,14 @@ pub(crate) fn read_text<S: Source>(
     alloc: Global,
     script: &mut S,
 ) -> Result<Vec<u8>, ReadScriptError>
-    ensures text { IfTold (S.left script.old) (λ bytes. IfOk result (λ text. text.items ≡ take 1048577 bytes)) }
-    ensures left { IfTold (S.left script.old) (λ bytes. OnOk result (S.left script.new ≡ Some (drop 1048577 bytes))) }
+    ensures text { IfTold (S.left script.old)
+        (λ bytes. IfOk result (λ text. text.items ≡ take 1048577 bytes)) }
+    ensures left { IfTold (S.left script.old)
+        (λ bytes. OnOk result (S.left script.new ≡ Some (drop 1048577 bytes))) }
     ensures most { IfOk result (λ text. vec_len text ≤ 1048577) }
     ensures later { S.faults script.old ≤ S.faults script.new }
-    ensures unread { IsErrOf result ReadScriptError.Unread → Rose (S.faults script.old) (S.faults script.new) }
+    ensures unread { IsErrOf result ReadScriptError.Unread →
+        Rose (S.faults script.old) (S.faults script.new) }
 {
     let mut text = Vec::new(alloc);
     let mut buffer = [0u8; PIECE];

@@ -53,11 +53,14 @@ pub(crate) fn run_statements<F: Folder, K: Sink>(
     out: &mut K,
 ) -> Result<(), Stopped>
     requires { length placed.now ≤ 1048576 }
-    ensures lawful { IfTold (F.files folder.old) (λ files. IfTold (K.written out.old) (λ before. OnOk result
+    ensures lawful { IfTold (F.files folder.old)
+        (λ files. IfTold (K.written out.old) (λ before. OnOk result
         (WritesLawful files placed.now before (K.written out.new) (F.faults folder.old) (F.faults folder.new)))) }
-    ensures begun { IfTold (F.files folder.old) (λ files. IfTold (K.written out.old) (λ before. OnErr result
+    ensures begun { IfTold (F.files folder.old)
+        (λ files. IfTold (K.written out.old) (λ before. OnErr result
         (WritesPrefix files placed.now before (K.written out.new) (F.faults folder.old) (F.faults folder.new)))) }
-    ensures sink_fault { IsErrOf result Stopped.SinkFault → Rose (K.faults out.old) (K.faults out.new) }
+    ensures sink_fault { IsErrOf result Stopped.SinkFault →
+        Rose (K.faults out.old) (K.faults out.new) }
     ensures same { F.files folder.new ≡ F.files folder.old }
     ensures later { F.faults folder.old ≤ F.faults folder.new }
     ensures sink_later { K.faults out.old ≤ K.faults out.new }
@@ -81,10 +84,14 @@ fn run_statement<F: Folder, K: Sink>(
     out: &mut K,
 ) -> Result<(), Stopped>
     requires { standing.old.version + 1563 < 2 ^ 64 }
-    ensures passed { IfTold (F.files folder.old) (λ files. IfTold (K.written out.old) (λ before. OnOk result
+    ensures passed { IfTold (F.files folder.old)
+        (λ files. IfTold (K.written out.old) (λ before. OnOk result
         (PassesStatement files serial_rules standing.old placed.now standing.new before (K.written out.new) (F.faults folder.old) (F.faults folder.new)))) }
-    ensures stopped { IfTold (K.written out.old) (λ before. OnErr result (StopsInStatement serial_rules standing.old placed.now before (K.written out.new))) }
-    ensures sink_fault { IsErrOf result Stopped.SinkFault → Rose (K.faults out.old) (K.faults out.new) }
+    ensures stopped { IfTold (K.written out.old)
+        (λ before. OnErr result (StopsInStatement serial_rules standing.old placed.now before
+        (K.written out.new))) }
+    ensures sink_fault { IsErrOf result Stopped.SinkFault →
+        Rose (K.faults out.old) (K.faults out.new) }
     ensures version { OnOk result (standing.new.version ≤ standing.old.version + 1563) }
     ensures same { F.files folder.new ≡ F.files folder.old }
     ensures later { F.faults folder.old ≤ F.faults folder.new }

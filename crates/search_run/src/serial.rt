@@ -14,11 +14,11 @@ use kb_edges::{Folder, Sink, Source};
 use query_script::ScriptError;
 use std::alloc::Global;
 
-/// Reads a script, imports its folders, and writes its answers, on one thread. How that ended is told
-/// by the [`Status`].
+/// Reads a script, imports its folders, and writes its answers, on one thread. How that ended is
+/// told by the [`Status`].
 ///
-/// The words are those of the command line without the program's name. In this stage the only lawful
-/// list of them is the empty one. The folder is handed back.
+/// The words are those of the command line without the program's name. In this stage the only
+/// lawful list of them is the empty one. The folder is handed back.
 pub fn run_serial<F: Folder, S: Source, K: Sink>(
     alloc: Global,
     words: &[String],
@@ -31,33 +31,58 @@ pub fn run_serial<F: Folder, S: Source, K: Sink>(
     ensures nothing_read { result.0 ≡ Status.BadWords → script.new ≡ script.old }
 
     // Then the script is read.
-    ensures script_unread { result.0 ≡ Status.ScriptUnread → Rose (S.faults script.old) (S.faults script.new) }
+    ensures script_unread { result.0 ≡ Status.ScriptUnread →
+        Rose (S.faults script.old) (S.faults script.new) }
 
-    // Then its grammar: where the source tells its bytes, a bad script is told by its bad line, and no
-    // other script is told so or run.
-    ensures bad_script { (bytes : List ℕ) → S.left script.old ≡ Some bytes → (k : ℕ) → result.0 ≡ Status.BadScript k → IsBad bytes k }
-    ensures in_grammar { (bytes : List ℕ) → S.left script.old ≡ Some bytes → (result.0 ≡ Status.Done) ⊎ (result.0 ≡ Status.SinkFault) → IsInGrammar bytes }
+    // Then its grammar: where the source tells its bytes, a bad script is told by its bad line, and
+    // no other script is told so or run.
+    ensures bad_script { (bytes : List ℕ) → S.left script.old ≡ Some bytes → (k : ℕ) →
+        result.0 ≡ Status.BadScript k → IsBad bytes k }
+    ensures in_grammar { (bytes : List ℕ) → S.left script.old ≡ Some bytes →
+        (result.0 ≡ Status.Done) ⊎ (result.0 ≡ Status.SinkFault) → IsInGrammar bytes }
 
-    // A script that was read to its end leaves nothing; of one that is too long no more than one byte past the limit is read.
-    ensures done_left { (bytes : List ℕ) → S.left script.old ≡ Some bytes → result.0 ≡ Status.Done → S.left script.new ≡ Some [] }
-    ensures bad_script_left { (bytes : List ℕ) → S.left script.old ≡ Some bytes → (k : ℕ) → result.0 ≡ Status.BadScript k → S.left script.new ≡ Some (drop 1048577 bytes) }
+    // A script that was read to its end leaves nothing; of one that is too long no more than one
+    // byte past the limit is read.
+    ensures done_left { (bytes : List ℕ) → S.left script.old ≡ Some bytes → result.0 ≡ Status.Done →
+        S.left script.new ≡ Some [] }
+    ensures bad_script_left {
+        (bytes : List ℕ) → S.left script.old ≡ Some bytes → (k : ℕ) →
+        result.0 ≡ Status.BadScript k → S.left script.new ≡ Some (drop 1048577 bytes) }
 
     // Then the statements. The sink fails only where its count rose.
     ensures sink_fault { result.0 ≡ Status.SinkFault → Rose (K.faults out.old) (K.faults out.new) }
 
     // What was written, where the source, the folder and the sink tell their contents.
-    ensures done { (bytes : List ℕ) (files : List File) (before : List ℕ) → S.left script.old ≡ Some bytes → F.files folder ≡ Some files → K.written out.old ≡ Some before →
-        result.0 ≡ Status.Done → Prints bytes files before (K.written out.new) (F.faults folder) (F.faults result.1) }
-    ensures stopped { (bytes : List ℕ) (files : List File) (before : List ℕ) → S.left script.old ≡ Some bytes → F.files folder ≡ Some files → K.written out.old ≡ Some before →
-        result.0 ≡ Status.SinkFault → PrintsPrefix bytes files before (K.written out.new) (F.faults folder) (F.faults result.1) }
-    ensures no_memory { (bytes : List ℕ) (files : List File) (before : List ℕ) → S.left script.old ≡ Some bytes → F.files folder ≡ Some files → K.written out.old ≡ Some before →
-        result.0 ≡ Status.NoMemory → (K.written out.new ≡ Some before) × (result.1 ≡ folder) ⊎ PrintsPrefix bytes files before (K.written out.new) (F.faults folder) (F.faults result.1) }
+    ensures done { (bytes : List ℕ) (files : List File) (before : List ℕ) →
+        S.left script.old ≡ Some bytes → F.files folder ≡ Some files →
+        K.written out.old ≡ Some before →
+        result.0 ≡ Status.Done →
+            Prints bytes files before (K.written out.new) (F.faults folder) (F.faults result.1) }
+    ensures stopped { (bytes : List ℕ) (files : List File) (before : List ℕ) →
+        S.left script.old ≡ Some bytes → F.files folder ≡ Some files →
+        K.written out.old ≡ Some before →
+        result.0 ≡ Status.SinkFault →
+            PrintsPrefix bytes files before (K.written out.new) (F.faults folder)
+            (F.faults result.1) }
+    ensures no_memory { (bytes : List ℕ) (files : List File) (before : List ℕ) →
+        S.left script.old ≡ Some bytes → F.files folder ≡ Some files →
+        K.written out.old ≡ Some before →
+        result.0 ≡ Status.NoMemory → (K.written out.new ≡ Some before) × (result.1 ≡ folder)
+            ⊎ PrintsPrefix bytes files before (K.written out.new) (F.faults folder)
+            (F.faults result.1) }
 
-    // Where nothing fails, the run is done, or memory was wanted. Where the folder doesn't fail, nothing is lost.
-    ensures complete { (bytes : List ℕ) → S.left script.old ≡ Some bytes → words.now ≡ [] → IsInGrammar bytes →
-        ¬ Rose (S.faults script.old) (S.faults script.new) → ¬ Rose (K.faults out.old) (K.faults out.new) → (result.0 ≡ Status.Done) ⊎ (result.0 ≡ Status.NoMemory) }
-    ensures no_loss { (bytes : List ℕ) (files : List File) (before : List ℕ) → S.left script.old ≡ Some bytes → F.files folder ≡ Some files → K.written out.old ≡ Some before →
-        result.0 ≡ Status.Done → ¬ Rose (F.faults folder) (F.faults result.1) → PrintsAll bytes files before (K.written out.new) }
+    // Where nothing fails, the run is done, or memory was wanted. Where the folder doesn't fail,
+    // nothing is lost.
+    ensures complete { (bytes : List ℕ) → S.left script.old ≡ Some bytes → words.now ≡ [] →
+        IsInGrammar bytes →
+        ¬ Rose (S.faults script.old) (S.faults script.new) →
+            ¬ Rose (K.faults out.old) (K.faults out.new) → (result.0 ≡ Status.Done)
+            ⊎ (result.0 ≡ Status.NoMemory) }
+    ensures no_loss { (bytes : List ℕ) (files : List File) (before : List ℕ) →
+        S.left script.old ≡ Some bytes → F.files folder ≡ Some files →
+        K.written out.old ≡ Some before →
+        result.0 ≡ Status.Done → ¬ Rose (F.faults folder) (F.faults result.1) →
+            PrintsAll bytes files before (K.written out.new) }
 
     // The folder's files stay, and no count of faults falls.
     ensures same { F.files result.1 ≡ F.files folder }

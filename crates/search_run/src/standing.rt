@@ -1,5 +1,7 @@
 // Where a run stands: what it has imported, and the text of each statement there.
-ghost use Rattle.std.specs.Prelude.{◌≡◌, ◌<◌, ◌≤◌, ◌+◌, ◌^◌, ◌++◌, ◌∷◌, [], List, None, ℕ, IfOk, OnErr, OnOk, All, length};
+ghost use Rattle.std.specs.Prelude.{
+    ◌≡◌, ◌<◌, ◌≤◌, ◌+◌, ◌^◌, ◌++◌, ◌∷◌, [], List, None, ℕ, IfOk, OnErr, OnOk, All, length,
+};
 ghost use Rattle.search_run.specs.Imported.{games_kept};
 ghost use Rattle.search_run.specs.Stores.{HaveTheirChanges, HasFewFiles};
 ghost use Rattle.session_core.specs.Games.{HasItsChanges, games_of};
@@ -51,7 +53,9 @@ impl Standing {
     ghost use Rattle.query_script.specs.Texts.{import_text, until_text, wait_text};
     ghost use Rattle.session_core.specs.Answers.{IsAnswer, IsAnswered};
     ghost use Rattle.search_run.specs.Run.{serial_rules};
-    ghost use Rattle.search_run.specs.Steps.{BlockTexts, IsTextByKept, LeadsOn, kept_report, nothing_kept, view_of};
+    ghost use Rattle.search_run.specs.Steps.{
+        BlockTexts, IsTextByKept, LeadsOn, kept_report, nothing_kept, view_of,
+    };
 
     /// The empty base.
     pub fn new(alloc: Global) -> Self
@@ -223,7 +227,8 @@ fn add_games(games: &mut Vec<Stored>, imported: Imported) -> Result<(), NoMemory
     requires { HaveTheirChanges imported }
     ensures added { OnOk result (games_of games.new.items
         ≡ games_of games.old.items ++ games_kept imported) }
-    ensures changes { All HasItsChanges games.old.items → OnOk result (All HasItsChanges games.new.items) }
+    ensures changes { All HasItsChanges games.old.items →
+        OnOk result (All HasItsChanges games.new.items) }
     ensures kept { OnErr result (games.new.items ≡ games.old.items) }
 {
     match imported {

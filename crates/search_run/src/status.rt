@@ -7,8 +7,8 @@ pub enum Status {
     Done,
     /// The script isn't in the grammar, or it is too long. Nothing was imported or written.
     BadScript {
-        /// The least bad line, from 1. In a script that is too long it is sought before the line that holds the byte past
-        /// the greatest length, and is that line where none is bad.
+        /// The least bad line, from 1. In a script that is too long it is sought before the line
+        /// that holds the byte past the greatest length, and is that line where none is bad.
         line: u32,
     },
     /// The words of the command line aren't lawful. Nothing was read, imported or written.

@@ -1,5 +1,5 @@
-// Whole runs over a source, a folder and a sink in memory. The expected texts were worked out by hand from the
-// grammar of the script, the printed texts and the rules of Go.
+// Whole runs over a source, a folder and a sink in memory. The expected texts were worked out by
+// hand from the grammar of the script, the printed texts and the rules of Go.
 use crate::{Status, run_serial};
 use kb_edges::{FileEntry, MemoryFolder, MemorySink, MemorySource};
 use std::alloc::Global;
@@ -27,7 +27,8 @@ const THREE_GAMES: [File; 3] = [
     ("d", "c.sgf", GAME),
 ];
 
-/// The calls that fail, numbered from 0. The first call of a folder is the list of an import, then come its reads.
+/// The calls that fail, numbered from 0. The first call of a folder is the list of an import, then
+/// come its reads.
 #[derive(Clone, Copy)]
 struct Faults<'a> {
     folder: &'a [u32],
@@ -41,8 +42,8 @@ const NO_FAULTS: Faults<'static> = Faults {
     sink: &[],
 };
 
-/// How a run ended: what was written, how many bytes of the script were left, and how many files the folder that
-/// was handed back has.
+/// How a run ended: what was written, how many bytes of the script were left, and how many files
+/// the folder that was handed back has.
 #[derive(Debug, Drop)]
 struct Ended {
     status: Status,
@@ -174,7 +175,8 @@ fn imports_waits_and_searches(rt: HostRuntime) -> Result<(), Fail> {
             "import \"d e/\u{e9}\"\nimport D\n",
             "1 import d e/\u{e9}\n1 imported unlisted\n2 import D\n2 imported unlisted\n",
         ),
-        // Lines that are empty, blank or a comment, blanks around words, and a carriage return before the end of a line
+        // Lines that are empty, blank or a comment, blanks around words, and a carriage return
+        // before the end of a line
         ("\n", ""),
         ("wait\n\n", "1 wait version 0\n"),
         ("wait\n\nwait\n", "1 wait version 0\n3 wait version 0\n"),
@@ -206,7 +208,8 @@ fn several_imports(rt: HostRuntime) -> Result<(), Fail> {
              4 search version 2 games 4 hits 4\n\
              hit 0 1 2 2 0 -\nhit 0 3 2 1 0 -\nhit 1 1 2 2 0 -\nhit 1 3 2 1 0 -\ntotal 4 0 0 0 0 4\n",
         ),
-        // The last report comes at the end, and that of an import without a listing is printed like others.
+        // The last report comes at the end, and that of an import without a listing is printed like
+        // others.
         (
             "import d\nimport f\nimport d\n",
             "1 import d\n\
@@ -268,8 +271,8 @@ fn games_in_order_of_their_names(rt: HostRuntime) -> Result<(), Fail> {
     expect_outputs(&rt, rt.alloc(), &files, &cases)
 }
 
-/// Files of the path `d` with the names `100000.sgf`, `100001.sgf` and so on, and notes. All are games but the one of
-/// the name `100063.sgf`.
+/// Files of the path `d` with the names `100000.sgf`, `100001.sgf` and so on, and notes. All are
+/// games but the one of the name `100063.sgf`.
 fn numbered_files(alloc: Global, count: u32) -> Result<Vec<FileEntry>, Fail> {
     let mut files = entries(alloc, &[("d", "notes.txt", "hello")])?;
     for number in 0..count {
@@ -325,17 +328,20 @@ fn stones_that_are_captured(rt: HostRuntime) -> Result<(), Fail> {
         // a white stone without liberties, which captures nothing
         (
             "(;GM[1]FF[4]SZ[2];B[aa];B[bb];W[ab])",
-            "3 search version 1 games 1 hits 2\nhit 0 1 0 0 0 -\nhit 0 2 1 1 0 -\ntotal 2 0 0 0 0 2\n",
+            "3 search version 1 games 1 hits 2\nhit 0 1 0 0 0 -\nhit 0 2 1 1 0 -\n\
+             total 2 0 0 0 0 2\n",
         ),
         // a white stone is captured
         (
             "(;GM[1]FF[4]SZ[2];W[aa];B[ba];B[ab])",
-            "3 search version 1 games 1 hits 2\nhit 0 2 1 0 0 -\nhit 0 3 0 1 0 -\ntotal 2 0 0 0 0 2\n",
+            "3 search version 1 games 1 hits 2\nhit 0 2 1 0 0 -\nhit 0 3 0 1 0 -\n\
+             total 2 0 0 0 0 2\n",
         ),
         // a black stone is captured
         (
             "(;GM[1]FF[4]SZ[3];B[aa];W[ba];W[ab];B[bb])",
-            "3 search version 1 games 1 hits 2\nhit 0 1 0 0 0 -\nhit 0 4 1 1 0 -\ntotal 2 0 0 0 0 2\n",
+            "3 search version 1 games 1 hits 2\nhit 0 1 0 0 0 -\nhit 0 4 1 1 0 -\n\
+             total 2 0 0 0 0 2\n",
         ),
         // a black stone without liberties, which captures nothing
         (
@@ -366,7 +372,9 @@ fn stones_that_are_captured(rt: HostRuntime) -> Result<(), Fail> {
     ];
     for (game, found) in cases {
         let written = format!(in alloc;
-            "1 import d\n1 imported files 1 accepted 1 refused 0 full 0 unread 0 games 1 version 1\n2 wait version 1\n{found}"
+            "1 import d\n\
+             1 imported files 1 accepted 1 refused 0 full 0 unread 0 games 1 version 1\n\
+             2 wait version 1\n{found}"
         )?;
         let ended = run(
             alloc,
@@ -427,8 +435,9 @@ fn faults_of_the_folder(rt: HostRuntime) -> Result<(), Fail> {
 
 #[test]
 fn faults_of_the_script_and_the_sink(rt: HostRuntime) -> Result<(), Fail> {
-    // The reads and the writes that fail, the status, how many bytes of the script are left, and what was written.
-    // The second read finds the end. The third write is that of the report at the end.
+    // The reads and the writes that fail, the status, how many bytes of the script are left, and
+    // what was written. The second read finds the end. The third write is that of the report at the
+    // end.
     let cases: [(&[u32], &[u32], Status, usize, &str); 6] = [
         (&[0], &[], Status::ScriptUnread, 28, ""),
         (&[1], &[], Status::ScriptUnread, 0, ""),
@@ -492,8 +501,8 @@ const COMMENT: &str = "# The longest script has 16,384 lines that are as long as
 
 #[test]
 fn long_scripts(rt: HostRuntime) -> Result<(), Fail> {
-    // A first line, how often another follows it, the status, and how many bytes are left. A script may have
-    // 1,048,576 bytes, and one more is read.
+    // A first line, how often another follows it, the status, and how many bytes are left. A script
+    // may have 1,048,576 bytes, and one more is read.
     let cases = [
         // 1,048,577 bytes, in lines that are skipped
         (

@@ -8,8 +8,11 @@ use kb_edges::{Sink, SinkError};
 
 /// Writes a text whole. After an error a prefix of it is written.
 pub(crate) fn write_all<K: Sink>(out: &mut K, text: &[u8]) -> Result<(), SinkError>
-    ensures whole { IfTold (K.written out.old) (λ before. OnOk result (K.written out.new ≡ Some (before ++ text.now))) }
-    ensures part { IfTold (K.written out.old) (λ before. OnErr result ((more : List ℕ) × IsPrefix more text.now × (K.written out.new ≡ Some (before ++ more)))) }
+    ensures whole { IfTold (K.written out.old)
+        (λ before. OnOk result (K.written out.new ≡ Some (before ++ text.now))) }
+    ensures part { IfTold (K.written out.old)
+        (λ before. OnErr result ((more : List ℕ) × IsPrefix more text.now
+        × (K.written out.new ≡ Some (before ++ more)))) }
     ensures later { K.faults out.old ≤ K.faults out.new }
     ensures failed { IsErrOf result SinkError.Failed → Rose (K.faults out.old) (K.faults out.new) }
 {

@@ -6,6 +6,5 @@ mod GamesSearched
 pub mod WhereFound
 mod HitParts
 mod HitsExist
-pub mod LastItems
 mod OneListOfHits
 pub mod OneAnswer

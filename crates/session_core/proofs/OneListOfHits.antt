@@ -20,7 +20,7 @@ use Rattle.pattern_images.proofs.OneList.{one_list}
 use Rattle.continuation_table.proofs.OneContinuation.{one_continuation}
 use Rattle.line_matcher.specs.declared.occurrence.Occurrence.{Occurrence}
 use Rattle.line_matcher.specs.Occurrences.{occurrences_in}
-use Rattle.session_core.proofs.LastItems.{push_not_nil, push_same}
+use Rattle.kb_geometry.proofs.Lists.{push_not_nil, push_same}
 use Rattle.session_core.specs.Hits.{AreGameHits, AreHitsFrom, AreHitsIn, AreHitsOf, GoesOn, IsHit, LooksAt}
 
 -- ---- the hit of an occurrence

@@ -6,6 +6,7 @@ use Rattle.std.specs.List.{flat_map, range_with_len}
 use Rattle.std.specs.Option.{option_map_or}
 use Rattle.std.proofs.lemmas.Bool.{and_parts}
 use Rattle.std.proofs.lemmas.List.Elements.{All-append, All-cons, All-filter, All-head, All-map, All-nil, All-tail, All-weaker, filter_passes}
+use Rattle.kb_geometry.proofs.Lists.{All-flat_map, all_less}
 use Rattle.capture_board.specs.Deltas.{Deltas, node_count, parent_of}
 use Rattle.pattern_images.specs.ImageList.{placement_at}
 use Rattle.pattern_images.specs.Placements.{Placement}
@@ -15,24 +16,6 @@ use Rattle.line_matcher.specs.Occurrences.{begins_at, holds_at, occurrences_at, 
 use Rattle.line_matcher.proofs.HoldsLaw.{holds-decides}
 use Rattle.capture_board.specs.Deltas.{position_at}
 
--- ---- lists
--- what holds of each element of each part holds of each element
-All-flat_map : {X Y : Type 0} (P : Y → Type 0) (f : X → List Y) (xs : List X) → All (λ x. All P (f x)) xs → All P (flat_map f xs)
-All-flat_map P f [] each = All-nil P
-All-flat_map P f (x ∷ xs) each =
-    All-append P (f x) (flat_map f xs) (All-head (λ y. All P (f y)) x xs each) (All-flat_map P f xs (All-tail (λ y. All P (f y)) x xs each))
-
-range_from : (a n : ℕ) → All (λ k. k < a + n) (range_with_len a n)
-range_from a zero = All-nil (λ k. k < a + 0)
-range_from a (suc n) =
-    All-cons (λ k. k < a + suc n) a (range_with_len (a + 1) n) (omega arith)
-    (All-weaker (λ k. k < a + 1 + n) (λ k. k < a + suc n) (λ k lt. omega arith) (range_with_len (a + 1) n) (range_from (a + 1) n))
-
--- the first n numbers are less than n
-all_less : (n : ℕ) → All (λ k. k < n) (range_with_len 0 n)
-all_less n = All-weaker (λ k. k < 0 + n) (λ k. k < n) (λ k lt. omega arith) (range_with_len 0 n) (range_from 0 n)
-
--- ---- occurrences
 module _ (changes : Deltas) (placements : List Placement) where
   -- the node and the placement are there, and the placement holds at the node
   pub record IsThere (o : Occurrence) : Type 0 where

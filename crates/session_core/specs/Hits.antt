@@ -1,5 +1,5 @@
--- The hits of a query in games: each game, node and placement where the placement holds and did not hold at the node's parent,
--- if the query looks at the node.
+-- The hits of a query in games: each game, node and placement where the placement holds and did not
+-- hold at the node's parent, if the query looks at the node.
 use Rattle.std.specs.Prelude.{◌≡◌, ℕ, ◌+◌, ◌≤◌, IsTrue, List, [], ◌∷◌, ◌++◌, length, Option, Some, None}
 use Rattle.game_tree.specs.Information.{Information}
 use Rattle.game_tree.specs.MainLine.{IsOnMainLine}
@@ -16,8 +16,8 @@ use Rattle.line_matcher.specs.Occurrences.{occurrences_in}
 use Rattle.continuation_table.specs.Continuation.{IsContinuation}
 use Rattle.node_position.specs.Games.{AreNodeChanges, Game}
 
--- The query looks at the node: the node is on the main line, if the query asks for that, and its move number is within the
--- query's bounds.
+-- The query looks at the node: the node is on the main line, if the query asks for that, and its
+-- move number is within the query's bounds.
 pub record LooksAt (query : Query) (tree : Tree) (n : ℕ) : Type 0 where
   pub main : IsTrue query.main → IsOnMainLine tree n
   pub from : query.from_move ≤ move_number_of tree n
@@ -26,10 +26,12 @@ pub record LooksAt (query : Query) (tree : Tree) (n : ℕ) : Type 0 where
 -- how the game goes on from a node where the placement holds, if it does
 abbrev pub GoesOn : Tree → Deltas → Placement → ℕ → Option Next → Type 0
 GoesOn tree changes placement n (Some next) = IsContinuation tree changes placement n next
-GoesOn tree changes placement n None = (next : Next) → ¬ IsContinuation tree changes placement n next
+GoesOn tree changes placement n None = (next : Next) →
+    ¬ IsContinuation tree changes placement n next
 
 -- the hit of an occurrence in the game with this number
-pub record IsHit (number : ℕ) (tree : Tree) (changes : Deltas) (placements : List Placement) (o : Occurrence) (hit : Hit) : Type 0 where
+pub record IsHit (number : ℕ) (tree : Tree) (changes : Deltas) (placements : List Placement)
+    (o : Occurrence) (hit : Hit) : Type 0 where
   pub game : hit.game ≡ number
   pub node : hit.node ≡ o.node
   pub place : IsPlaceOf (placement_at placements o.placement) hit.place
@@ -38,12 +40,17 @@ pub record IsHit (number : ℕ) (tree : Tree) (changes : Deltas) (placements : L
   pub next : GoesOn tree changes (placement_at placements o.placement) o.node hit.next
 
 -- The hits of occurrences in a game: one for each at whose node the query looks, in their order.
-pub data AreHitsOf (query : Query) (number : ℕ) (tree : Tree) (changes : Deltas) (placements : List Placement) : List Occurrence → List Hit → Type 0 where
+pub data AreHitsOf (query : Query) (number : ℕ) (tree : Tree) (changes : Deltas)
+    (placements : List Placement) : List Occurrence → List Hit → Type 0 where
   nothing : AreHitsOf query number tree changes placements [] []
-  hit : {occurrences : List Occurrence} {hits : List Hit} (o : Occurrence) (hit : Hit) → AreHitsOf query number tree changes placements occurrences hits →
-      LooksAt query tree o.node → IsHit number tree changes placements o hit → AreHitsOf query number tree changes placements (occurrences ++ o ∷ []) (hits ++ hit ∷ [])
-  left_out : {occurrences : List Occurrence} {hits : List Hit} (o : Occurrence) → AreHitsOf query number tree changes placements occurrences hits →
-      ¬ LooksAt query tree o.node → AreHitsOf query number tree changes placements (occurrences ++ o ∷ []) hits
+  hit : {occurrences : List Occurrence} {hits : List Hit} (o : Occurrence) (hit : Hit) →
+      AreHitsOf query number tree changes placements occurrences hits →
+      LooksAt query tree o.node → IsHit number tree changes placements o hit →
+          AreHitsOf query number tree changes placements (occurrences ++ o ∷ []) (hits ++ hit ∷ [])
+  left_out : {occurrences : List Occurrence} {hits : List Hit} (o : Occurrence) →
+      AreHitsOf query number tree changes placements occurrences hits →
+      ¬ LooksAt query tree o.node →
+          AreHitsOf query number tree changes placements (occurrences ++ o ∷ []) hits
 
 -- The hits in the game with this number, where it is asked for: those of the occurrences of the
 -- query's placements on the game's board, by node, and at one node in the order of the placements.
@@ -52,7 +59,8 @@ pub record AreHitsIn (query : Query) (number : ℕ) (tree : Tree) (hits : List H
   pub are_changes : AreNodeChanges tree changes
   pub placements : List Placement
   pub are_placements : ArePlacements query tree.shape placements
-  pub are_hits : AreHitsOf query number tree changes placements (occurrences_in changes placements) hits
+  pub are_hits : AreHitsOf query number tree changes placements (occurrences_in changes placements)
+      hits
 
 -- a search asks for games with this information: so far for all
 abbrev pub AsksFor : Query → Information → Type 0

@@ -14,8 +14,8 @@ pub fn a_base_has_at_most_400_000_games()
     ensures { MAX_BASE_GAMES ≡ 400000 }
 {}
 
-/// The hits of games in two parts are those of the first part, and then those of the second one, whose
-/// games are numbered on.
+/// The hits of games in two parts are those of the first part, and then those of the second one,
+/// whose games are numbered on.
 pub fn hits_of_two_parts_are_those_of_each()
     ensures { (first : ℕ) (query : Query) (games more : List Game) (hits others : List Hit) →
         AreHitsFrom first query games hits →

@@ -20,8 +20,8 @@ use std::alloc::Global;
 use std::marker::Brand;
 use std::sync::ledger::{Blank, Ledger};
 
-/// The hits of a query in games, which are numbered from 0. They stand by game, then by node, then in the order of the
-/// placements. The only error is `NoMemory`.
+/// The hits of a query in games, which are numbered from 0. They stand by game, then by node, then
+/// in the order of the placements. The only error is `NoMemory`.
 pub(crate) fn hits_of(alloc: Global, query: &Query, games: &[Stored]) -> Result<Vec<Hit>, NoMemory>
     requires most { length games.now ≤ 400000 }
     requires changes { All HasItsChanges games.now }
@@ -37,7 +37,8 @@ pub(crate) fn hits_of(alloc: Global, query: &Query, games: &[Stored]) -> Result<
     Ok(hits)
 }
 
-// Where the run of games ends that begins with this one: the games of a run have boards of one shape.
+// Where the run of games ends that begins with this one: the games of a run have boards of one
+// shape.
 fn run_end(games: &[Stored], from: usize) -> usize
     requires { from < length games.now }
     ensures some { from < result }
@@ -95,7 +96,8 @@ fn add_run(
     Ok(())
 }
 
-// Adds the hits of the game with this number. The matcher is that of the query's images on the game's board.
+// Adds the hits of the game with this number. The matcher is that of the query's images on the
+// game's board.
 fn add_game(
     alloc: Global,
     query: &Query,
@@ -107,8 +109,10 @@ fn add_game(
 ) -> Result<(), NoMemory>
     requires changes { HasItsChanges game.now }
     requires shape { matcher.now.images.now.shape ≡ game.now.deltas.shape }
-    requires placements { ArePlacements query.now game.now.tree.shape matcher.now.images.now.placements }
-    ensures { OnOk result (AreHitsAdded (AreHitsIn query.now number game.now.tree) hits.old.items hits.new.items) }
+    requires placements { ArePlacements query.now game.now.tree.shape
+        matcher.now.images.now.placements }
+    ensures { OnOk result (AreHitsAdded (AreHitsIn query.now number game.now.tree) hits.old.items
+        hits.new.items) }
 {
     if matcher.images.is_empty() {
         return Ok(());

@@ -1,8 +1,12 @@
 // The answers of statements.
-ghost use Rattle.std.specs.Prelude.{◌≡◌, ◌≤◌, ◌++◌, ◌∷◌, [], ℕ, All, List, OnErr, OnOk, length, string_bytes};
+ghost use Rattle.std.specs.Prelude.{
+    ◌≡◌, ◌≤◌, ◌++◌, ◌∷◌, [], ℕ, All, List, OnErr, OnOk, length, string_bytes,
+};
 ghost use Rattle.sgf_writer.specs.Written.{IsWritten};
 ghost use Rattle.query_script.specs.Texts.{game_head};
-ghost use Rattle.session_core.specs.Answers.{BeginWith, IsAnswer, IsAnswered, IsGameText, IsSearchText};
+ghost use Rattle.session_core.specs.Answers.{
+    BeginWith, IsAnswer, IsAnswered, IsGameText, IsSearchText,
+};
 ghost use Rattle.session_core.specs.Games.{HasItsChanges};
 ghost use Rattle.session_core.specs.Stores.{view_of};
 
@@ -15,7 +19,8 @@ use query_script::{Statement, print_game, print_hits, print_no_game};
 use sgf_writer::write;
 use std::alloc::Global;
 
-/// Answers statements over the games that each call is given. It keeps nothing from one to the next.
+/// Answers statements over the games that each call is given. It keeps nothing from one to the
+/// next.
 #[derive(Debug, Drop)]
 pub struct Session {}
 
@@ -25,10 +30,11 @@ impl Session {
         Session {}
     }
 
-    /// Appends the text of a search or of a game, whose line is this one, over the games of the version with this number.
+    /// Appends the text of a search or of a game, whose line is this one, over the games of the
+    /// version with this number.
     ///
-    /// There are at most [`MAX_BASE_GAMES`] games, each with the changes of its tree. The only error is `NoMemory`; then `out` begins
-    /// with what it held.
+    /// There are at most [`MAX_BASE_GAMES`] games, each with the changes of its tree. The only
+    /// error is `NoMemory`; then `out` begins with what it held.
     pub fn answer(
         &mut self,
         alloc: Global,
@@ -56,7 +62,8 @@ impl Session {
         }
     }
 
-    /// Appends the text of a search that stands in a block of searches. All else is as for [`answer`](Session::answer).
+    /// Appends the text of a search that stands in a block of searches. All else is as for
+    /// [`answer`](Session::answer).
     pub fn answer_search(
         &mut self,
         alloc: Global,
@@ -126,7 +133,9 @@ fn append_stored(
     out: &mut Vec<u8>,
 ) -> Result<(), NoMemory>
     ensures ok { OnOk result ((written : List ℕ) × IsWritten stored.now.tree written
-        × (out.new.items ≡ out.old.items ++ (game_head line game number stored.now.place (string_bytes stored.now.file) ++ (written ++ 10 ∷ [])))) }
+        × (out.new.items
+            ≡ out.old.items ++ (game_head line game number stored.now.place
+            (string_bytes stored.now.file) ++ (written ++ 10 ∷ [])))) }
     ensures refused { OnErr result (BeginWith out.new.items out.old.items) }
 {
     print_game(line, game, number, stored.place, &stored.file, out)?;

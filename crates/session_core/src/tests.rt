@@ -40,7 +40,8 @@ const WIDE_AND_HIGH: Files = &[
 
 const AS_PLAYERS_KEEP_IT: Files = &[(
     "a.sgf",
-    "(;GM[1]FF[4]SZ[19]HA[2]RE[W+Resign]AB[dp][pd]\n;W[qp]C[Hi [3d\\]: good game]\n;B[dd](;W[pq];B[po])(;W[fc];B[cf]))",
+    "(;GM[1]FF[4]SZ[19]HA[2]RE[W+Resign]AB[dp][pd]\n;W[qp]C[Hi [3d\\]: good game]\n\
+     ;B[dd](;W[pq];B[po])(;W[fc];B[cf]))",
 )];
 
 const CORNER_SHAPE: &str = "....../....../.....O/...X../....../..X...";
@@ -84,7 +85,8 @@ const OCCURRENCES: [(Files, Asked, &str); 15] = [
     (
         THREE_STONES,
         ANY,
-        "3 search version 1 games 1 hits 3\nhit 0 1 2 2 0 -\nhit 0 2 1 2 8 -\nhit 0 3 2 1 0 -\ntotal 3 0 0 0 0 3\n",
+        "3 search version 1 games 1 hits 3\nhit 0 1 2 2 0 -\nhit 0 2 1 2 8 -\n\
+         hit 0 3 2 1 0 -\ntotal 3 0 0 0 0 3\n",
     ),
     // Made by a capture.
     (
@@ -266,7 +268,8 @@ const CONTINUATIONS: [(Files, Asked, &str); 10] = [
     (
         &[("a.sgf", "(;SZ[3];B[bb];W[bb])")],
         SAME,
-        "3 search version 1 games 1 hits 1\nhit 0 1 1 1 0 W 0 0 now\nrow W 0 0 1 1 0 0 0 1\ntotal 1 1 0 0 0 1\n",
+        "3 search version 1 games 1 hits 1\nhit 0 1 1 1 0 W 0 0 now\n\
+         row W 0 0 1 1 0 0 0 1\ntotal 1 1 0 0 0 1\n",
     ),
     // A ko that is fought twice.
     (
@@ -279,7 +282,8 @@ const CONTINUATIONS: [(Files, Asked, &str); 10] = [
             at: Some((1, 1)),
             ..SAME_FIXED
         },
-        "3 search version 1 games 1 hits 2\nhit 0 1 1 1 0 W 0 0 now\nhit 0 3 1 1 0 W 0 0 now\nrow W 0 0 2 2 0 0 0 2\ntotal 2 2 0 0 0 2\n",
+        "3 search version 1 games 1 hits 2\nhit 0 1 1 1 0 W 0 0 now\n\
+         hit 0 3 1 1 0 W 0 0 now\nrow W 0 0 2 2 0 0 0 2\ntotal 2 2 0 0 0 2\n",
     ),
     // Wildcards alone.
     (
@@ -288,7 +292,8 @@ const CONTINUATIONS: [(Files, Asked, &str); 10] = [
             pattern: "*",
             ..ANY
         },
-        "3 search version 1 games 1 hits 4\nhit 0 0 0 0 0 B 0 0 now\nhit 0 0 1 0 0 -\nhit 0 0 0 1 0 -\nhit 0 0 1 1 0 -\nrow B 0 0 1 1 0 0 0 1\ntotal 4 1 0 0 0 4\n",
+        "3 search version 1 games 1 hits 4\nhit 0 0 0 0 0 B 0 0 now\nhit 0 0 1 0 0 -\n\
+         hit 0 0 0 1 0 -\nhit 0 0 1 1 0 -\nrow B 0 0 1 1 0 0 0 1\ntotal 4 1 0 0 0 4\n",
     ),
     // Passes between.
     (
@@ -298,7 +303,8 @@ const CONTINUATIONS: [(Files, Asked, &str); 10] = [
             at: CORNER,
             ..SAME_FIXED
         },
-        "3 search version 1 games 1 hits 1\nhit 0 1 0 0 0 W 1 0 later\nrow W 1 0 1 0 1 0 0 1\ntotal 1 0 1 0 0 1\n",
+        "3 search version 1 games 1 hits 1\nhit 0 1 0 0 0 W 1 0 later\n\
+         row W 1 0 1 0 1 0 0 1\ntotal 1 0 1 0 0 1\n",
     ),
     // A capture between: of the stone that was looked for, and of one beside it.
     (
@@ -317,7 +323,9 @@ const CONTINUATIONS: [(Files, Asked, &str); 10] = [
             at: CORNER,
             ..SAME_FIXED
         },
-        "3 search version 1 games 1 hits 2\nhit 0 1 0 0 0 W 1 0 now\nhit 0 5 0 0 0 B 1 0 now\nrow B 1 0 1 1 0 0 0 1\nrow W 1 0 1 1 0 0 0 1\ntotal 2 2 0 0 0 2\n",
+        "3 search version 1 games 1 hits 2\nhit 0 1 0 0 0 W 1 0 now\n\
+         hit 0 5 0 0 0 B 1 0 now\nrow B 1 0 1 1 0 0 0 1\nrow W 1 0 1 1 0 0 0 1\n\
+         total 2 2 0 0 0 2\n",
     ),
     // Turned back and exchanged back.
     (
@@ -327,7 +335,8 @@ const CONTINUATIONS: [(Files, Asked, &str); 10] = [
             at: CORNER,
             ..ANY
         },
-        "3 search version 1 games 1 hits 2\nhit 0 1 0 0 8 -\nhit 0 1 0 0 12 W 1 0 now\nrow W 1 0 1 1 0 1 0 0\ntotal 2 1 0 2 0 0\n",
+        "3 search version 1 games 1 hits 2\nhit 0 1 0 0 8 -\nhit 0 1 0 0 12 W 1 0 now\n\
+         row W 1 0 1 1 0 1 0 0\ntotal 2 1 0 2 0 0\n",
     ),
     // Exchanged alone.
     (
@@ -338,7 +347,8 @@ const CONTINUATIONS: [(Files, Asked, &str); 10] = [
             fixed: true,
             ..ANY
         },
-        "3 search version 1 games 1 hits 1\nhit 0 1 0 0 8 W 1 0 now\nrow W 1 0 1 1 0 0 1 0\ntotal 1 1 0 0 1 0\n",
+        "3 search version 1 games 1 hits 1\nhit 0 1 0 0 8 W 1 0 now\n\
+         row W 1 0 1 1 0 0 1 0\ntotal 1 1 0 0 1 0\n",
     ),
     // Two games that ended otherwise.
     (
@@ -351,7 +361,9 @@ const CONTINUATIONS: [(Files, Asked, &str); 10] = [
             at: CORNER,
             ..SAME_FIXED
         },
-        "3 search version 1 games 2 hits 2\nhit 0 1 0 0 0 W 1 0 now\nhit 1 1 0 0 0 B 1 0 now\nrow B 1 0 1 1 0 0 1 0\nrow W 1 0 1 1 0 1 0 0\ntotal 2 2 0 1 1 0\n",
+        "3 search version 1 games 2 hits 2\nhit 0 1 0 0 0 W 1 0 now\n\
+         hit 1 1 0 0 0 B 1 0 now\nrow B 1 0 1 1 0 0 1 0\nrow W 1 0 1 1 0 1 0 0\n\
+         total 2 2 0 1 1 0\n",
     ),
 ];
 
@@ -480,7 +492,8 @@ const MANY_GAMES: [(Files, Asked, &str); 5] = [
     (
         MANY,
         Asked { at: CORNER, ..SAME },
-        "3 search version 1 games 6 hits 5\nhit 0 1 0 0 0 -\nhit 1 1 2 2 3 -\nhit 2 1 0 0 0 -\nhit 4 1 4 2 3 -\nhit 5 2 3 0 1 -\ntotal 5 0 0 0 0 5\n",
+        "3 search version 1 games 6 hits 5\nhit 0 1 0 0 0 -\nhit 1 1 2 2 3 -\n\
+         hit 2 1 0 0 0 -\nhit 4 1 4 2 3 -\nhit 5 2 3 0 1 -\ntotal 5 0 0 0 0 5\n",
     ),
     (
         MANY,
@@ -488,7 +501,8 @@ const MANY_GAMES: [(Files, Asked, &str); 5] = [
             board: Some((3, 3)),
             ..SAME_FIXED
         },
-        "3 search version 1 games 6 hits 3\nhit 0 1 0 0 0 -\nhit 1 1 2 2 0 -\nhit 3 1 1 1 0 -\ntotal 3 0 0 0 0 3\n",
+        "3 search version 1 games 6 hits 3\nhit 0 1 0 0 0 -\nhit 1 1 2 2 0 -\n\
+         hit 3 1 1 1 0 -\ntotal 3 0 0 0 0 3\n",
     ),
     (
         MANY,
@@ -526,7 +540,8 @@ fn games_as_texts(rt: HostRuntime) -> Result<(), Fail> {
         (
             GONE_AT_THE_END,
             0,
-            "3 game 0 version 1 place 0 file a.sgf\n(;GM[1]FF[4]SZ[3];B[bb](;B[cc])(;W[aa];AE[aa]))\n",
+            "3 game 0 version 1 place 0 file a.sgf\n\
+             (;GM[1]FF[4]SZ[3];B[bb](;B[cc])(;W[aa];AE[aa]))\n",
         ),
         (GONE_AT_THE_END, 1, "3 game 1 version 1 none\n"),
         (
@@ -560,7 +575,8 @@ fn each_text_stands_behind_the_last_one(rt: HostRuntime) -> Result<(), Fail> {
     let text = two_texts(&rt, rt.alloc(), BLACK_AND_WHITE, 0, SAME_FIXED)?;
     assert_eq!(rt;
         text.as_str(),
-        "3 game 0 version 1 place 0 file a.sgf\n(;GM[1]FF[4]SZ[2];B[aa];W[ba])\n3 search version 1 games 1 hits 1\nhit 0 1 0 0 0 -\ntotal 1 0 0 0 0 1\n"
+        "3 game 0 version 1 place 0 file a.sgf\n(;GM[1]FF[4]SZ[2];B[aa];W[ba])\n\
+         3 search version 1 games 1 hits 1\nhit 0 1 0 0 0 -\ntotal 1 0 0 0 0 1\n"
     );
     Ok(())
 }

@@ -22,7 +22,8 @@ GoesOnAs text count games =
 -- the element stands in the list behind so many others
 abbrev pub StandsAt : {A : Type 0} → List A → ℕ → A → Type 0
 StandsAt {A} items count item =
-    (before : List A) × (after : List A) × (items ≡ before ++ item ∷ after) × (length before ≡ count)
+    (before : List A) × (after : List A) × (items ≡ before ++ item ∷ after)
+        × (length before ≡ count)
 
 -- The byte at this offset is a bracket `(` that would be the first past the limit of open ones.
 pub record IsTooDeep (text : List ℕ) (at : ℕ) : Type 0 where
@@ -45,7 +46,8 @@ pub record IsNodeTooMany (text : List ℕ) (at : ℕ) : Type 0 where
   pub past : StandsAt game.nodes most_nodes node
   pub here : node.at ≡ at
 
--- The byte at this offset is the bracket `(` of the first game past the limit; the text goes on to the `;` behind it.
+-- The byte at this offset is the bracket `(` of the first game past the limit; the text goes on to
+-- the `;` behind it.
 pub record IsGameTooMany (text : List ℕ) (at : ℕ) : Type 0 where
   pub games : List SpelledGame
   pub game : SpelledGame
@@ -75,7 +77,8 @@ pub data HasFault (text : List ℕ) : FaultKind → ℕ → Type 0 where
   too_many_nodes : {at : ℕ} → IsNodeTooMany text at → HasFault text kind.TooManyNodes at
   too_many_games : {at : ℕ} → IsGameTooMany text at → HasFault text kind.TooManyGames at
 
--- Of the faults of the text this is the one of least offset. At one offset TooLong comes before the others.
+-- Of the faults of the text this is the one of least offset. At one offset TooLong comes before the
+-- others.
 pub record IsFirstFault (text : List ℕ) (of : FaultKind) (at : ℕ) : Type 0 where
   pub there : HasFault text of at
   pub first : (other : FaultKind) (offset : ℕ) →
@@ -89,7 +92,8 @@ pub record HasRead (text : List ℕ) (games : List SpelledGame) : Type 0 where
 
 -- The text has no fault, and this is the collection that it spells.
 abbrev pub IsRead : List ℕ → Collection → Type 0
-IsRead text collection = (games : List SpelledGame) × HasRead text games × (collection ≡ collection_of games)
+IsRead text collection = (games : List SpelledGame) × HasRead text games
+    × (collection ≡ collection_of games)
 
 -- The games are within the limits.
 pub record AreWithinLimits (games : List SpelledGame) : Type 0 where

@@ -1,4 +1,5 @@
--- The grammar of SGF FF[4] for whole texts: which text spells which games. Offsets count bytes from the text's start.
+-- The grammar of SGF FF[4] for whole texts: which text spells which games. Offsets count bytes from
+-- the text's start.
 use Rattle.std.specs.Prelude.{◌≡◌, ◌≢◌, ◌⊎◌, ℕ, ◌+◌, ◌-◌, ◌≤◌, List, [], ◌∷◌, ◌++◌, length, map, Option, Some, None, All, Any}
 use Rattle.sgf_reader.specs.Bytes.{backslash, capital_a, capital_z, round_close, round_open, semicolon, small_a, small_z, space, square_close, square_open}
 use Rattle.sgf_reader.specs.declared.collection.Span.{Span}
@@ -35,8 +36,8 @@ pub data IsValue : List ℕ → Type 0 where
 abbrev pub span_of : ℕ → List ℕ → Span
 span_of at text = record { from = at; to = at + length text }
 
--- The text, which begins at this offset, is any number of values, each in brackets `[` and `]` with white
--- space before it. They belong to the identifier with this span.
+-- The text, which begins at this offset, is any number of values, each in brackets `[` and `]` with
+-- white space before it. They belong to the identifier with this span.
 pub data AreValues (name : Span) : ℕ → List ℕ → List Pair → Type 0 where
   none : {at : ℕ} → AreValues name at [] []
   one_more : {at : ℕ} (white value rest : List ℕ) {pairs : List Pair} →
@@ -46,7 +47,8 @@ pub data AreValues (name : Span) : ℕ → List ℕ → List Pair → Type 0 whe
       AreValues name at (white ++ square_open ∷ value ++ square_close ∷ rest)
       (record { name = name; value = span_of (at + length white + 1) value } ∷ pairs)
 
--- The text is any number of properties, each an identifier and one value or more, with white space before it.
+-- The text is any number of properties, each an identifier and one value or more, with white space
+-- before it.
 pub data AreProperties : ℕ → List ℕ → List Pair → Type 0 where
   none : {at : ℕ} → AreProperties at [] []
   one_more : {at : ℕ} (white name values rest : List ℕ) (pairs more : List Pair) →
@@ -57,9 +59,9 @@ pub data AreProperties : ℕ → List ℕ → List Pair → Type 0 where
       AreProperties (at + length (white ++ name ++ values)) rest more →
       AreProperties at (white ++ name ++ values ++ rest) (pairs ++ more)
 
--- A node as it is spelled: the offset of the bracket before it, where it is the first of its tree; the
--- offset of its `;`; how many brackets are open there; the number of its parent; its values in order of
--- the text.
+-- A node as it is spelled: the offset of the bracket before it, where it is the first of its tree;
+-- the offset of its `;`; how many brackets are open there; the number of its parent; its values in
+-- order of the text.
 pub record SpelledNode : Type 0 where
   pub opened : Option ℕ
   pub at : ℕ
@@ -67,9 +69,9 @@ pub record SpelledNode : Type 0 where
   pub parent : Option ℕ
   pub pairs : List Pair
 
--- The text is any number of nodes, each a `;` and properties, with white space before it. So many brackets
--- are open there. The first has this number, this bracket before it and this parent; each other is the
--- child of the node before it.
+-- The text is any number of nodes, each a `;` and properties, with white space before it. So many
+-- brackets are open there. The first has this number, this bracket before it and this parent; each
+-- other is the child of the node before it.
 pub data AreNodes (depth : ℕ) :
     (opened : Option ℕ) → (parent : Option ℕ) → (number : ℕ) → (at : ℕ) →
     List ℕ → List SpelledNode → Type 0 where
@@ -78,7 +80,8 @@ pub data AreNodes (depth : ℕ) :
       {pairs : List Pair} {nodes : List SpelledNode} →
       IsWhite white →
       AreProperties (at + length white + 1) properties pairs →
-      AreNodes depth None (Some number) (number + 1) (at + length (white ++ semicolon ∷ properties)) rest nodes →
+      AreNodes depth None (Some number) (number + 1)
+          (at + length (white ++ semicolon ∷ properties)) rest nodes →
       AreNodes depth opened parent number at (white ++ semicolon ∷ properties ++ rest)
       (record {
         opened =
@@ -90,9 +93,10 @@ pub data AreNodes (depth : ℕ) :
       } ∷ nodes)
 
 mutual
-  -- The text is a tree: `(`, one or more nodes, any number of trees, `)`, with white space before each but the
-  -- first. So many brackets are open before it. The first node has this number and this parent. The trees inside are
-  -- children of the last of its own nodes. The tree's nodes are its own and then those of the trees inside.
+  -- The text is a tree: `(`, one or more nodes, any number of trees, `)`, with white space before
+  -- each but the first. So many brackets are open before it. The first node has this number and
+  -- this parent. The trees inside are children of the last of its own nodes. The tree's nodes are
+  -- its own and then those of the trees inside.
   pub data IsTreeText : (depth : ℕ) → (parent : Option ℕ) → (number : ℕ) → (at : ℕ) →
       List ℕ → List SpelledNode → Type 0 where
     in_brackets : {depth : ℕ} {parent : Option ℕ} {number at : ℕ}
@@ -102,13 +106,15 @@ mutual
         AreTreeTexts (depth + 1) (Some (number + length nodes - 1)) (number + length nodes)
         (at + length (round_open ∷ sequence)) inner inside →
         IsWhite white →
-        IsTreeText depth parent number at (round_open ∷ sequence ++ inner ++ white ++ round_close ∷ [])
+        IsTreeText depth parent number at (round_open ∷ sequence ++ inner ++ white
+            ++ round_close ∷ [])
         (nodes ++ inside)
 
   -- The text is any number of trees with white space before each, all with this parent.
   pub data AreTreeTexts : (depth : ℕ) → (parent : Option ℕ) → (number : ℕ) → (at : ℕ) →
       List ℕ → List SpelledNode → Type 0 where
-    none : {depth : ℕ} {parent : Option ℕ} {number at : ℕ} → AreTreeTexts depth parent number at [] []
+    none : {depth : ℕ} {parent : Option ℕ} {number at : ℕ} →
+        AreTreeTexts depth parent number at [] []
     one_more : {depth : ℕ} {parent : Option ℕ} {number at : ℕ}
         (white text rest : List ℕ) (nodes more : List SpelledNode) →
         IsWhite white →
@@ -126,7 +132,8 @@ pub record SpelledGame : Type 0 where
   pub at : ℕ
   pub nodes : List SpelledNode
 
--- The text, which begins at this offset, has these games. Outside trees each byte is skipped at which no tree starts.
+-- The text, which begins at this offset, has these games. Outside trees each byte is skipped at
+-- which no tree starts.
 pub data HasGames : ℕ → List ℕ → List SpelledGame → Type 0 where
   end : {at : ℕ} → HasGames at [] []
   skipped : {at b : ℕ} {rest : List ℕ} {games : List SpelledGame} →

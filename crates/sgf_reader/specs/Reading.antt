@@ -14,8 +14,9 @@ use Rattle.sgf_reader.specs.Grammar.{raw_node, raw_game}
 use Rattle.sgf_reader.specs.Scan.{Inside, Place, Outside, Before, Within, Scan, step, within, with_node, with_bracket, begun}
 use Rattle.sgf_reader.specs.Turn.{phase_of, is_in_node}
 
--- What was read so far: the games that have ended; the nodes of the game that has not; whether more values of the last
--- one may follow; for each open bracket the parent of its first node, the innermost first; the parent of the next node.
+-- What was read so far: the games that have ended; the nodes of the game that has not; whether more
+-- values of the last one may follow; for each open bracket the parent of its first node, the
+-- innermost first; the parent of the next node.
 pub record View : Type 0 where
   pub games : List RawGame
   pub nodes : List RawNode
@@ -31,7 +32,8 @@ all_nodes nodes is_reading parent pairs =
 -- the last of these nodes has one more value
 abbrev pub with_raw_pair : List RawNode → Pair → List RawNode
 with_raw_pair [] pair = []
-with_raw_pair (node ∷ []) pair = record { parent = node.parent; pairs = node.pairs ++ pair ∷ [] } ∷ []
+with_raw_pair (node ∷ []) pair = record { parent = node.parent; pairs = node.pairs ++ pair ∷ [] }
+    ∷ []
 with_raw_pair (node ∷ other ∷ nodes) pair = node ∷ with_raw_pair (other ∷ nodes) pair
 
 -- one node more, without values so far
@@ -90,7 +92,8 @@ pub record ShowsInside (v : View) (now : phases.Phase) (s : Inside) : Type 0 whe
 
 -- the reader stands where the scan does
 pub data ShowsPlace (v : View) : places.Place → Place → Type 0 where
-  none_open : v.nodes ≡ [] → v.parents ≡ [] → v.is_reading ≡ false → ShowsPlace v stands.Outside Outside
+  none_open : v.nodes ≡ [] → v.parents ≡ [] → v.is_reading ≡ false →
+      ShowsPlace v stands.Outside Outside
   may_begin : {from : ℕ} →
       v.nodes ≡ [] →
       v.parents ≡ [] →
@@ -143,7 +146,8 @@ pub data Fails (s : Scan) (offset byte : ℕ) : SgfFault → Type 0 where
 -- From here this byte leads each scan that the reader shows on, to what was then read.
 abbrev pub StepsOn : View → places.Place → ℕ → ℕ → View → places.Place → Type 0
 StepsOn v now offset byte read next =
-    (s : Scan) → Shows v now s → IsWithinLimits (length s.games) s.place → Leads s offset byte read next
+    (s : Scan) → Shows v now s → IsWithinLimits (length s.games) s.place →
+        Leads s offset byte read next
 
 -- From here this byte is a fault of each scan that the reader shows.
 abbrev pub StepFails : View → places.Place → ℕ → ℕ → SgfFault → Type 0

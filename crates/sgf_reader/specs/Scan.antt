@@ -1,5 +1,5 @@
--- For the reader's private functions: where a reader stands in a text, and how each byte leads it on. What a text spells
--- is said by the grammar alone; that the two agree is proved.
+-- For the reader's private functions: where a reader stands in a text, and how each byte leads it
+-- on. What a text spells is said by the grammar alone; that the two agree is proved.
 use Rattle.std.specs.Prelude.{ℕ, ◌+◌, List, [], ◌∷◌, ◌++◌, length, Option, Some, None, Bool, ◌||◌, ◌&&◌, nat_le, ◌==◌, option_and_then, if◌then◌else◌}
 use Rattle.sgf_reader.specs.Bytes.{backslash, capital_a, capital_z, round_close, round_open, semicolon, small_a, small_z, space, square_close, square_open}
 use Rattle.sgf_reader.specs.declared.collection.Span.{Span}
@@ -25,8 +25,8 @@ pub data Phase : Type 0 where
   -- behind a `)` and white space
   AfterTree : Phase
 
--- A reader inside a tree: the offset of the tree's `(`; for each open bracket the parent of its first node, the
--- innermost first; the node read last; the nodes so far; what it is at.
+-- A reader inside a tree: the offset of the tree's `(`; for each open bracket the parent of its
+-- first node, the innermost first; the node read last; the nodes so far; what it is at.
 pub record Inside : Type 0 where
   pub at : ℕ
   pub parents : List (Option ℕ)
@@ -34,7 +34,8 @@ pub record Inside : Type 0 where
   pub nodes : List SpelledNode
   pub phase : Phase
 
--- where a reader stands: outside trees; behind a `(`, with this offset, and white space; inside a tree
+-- where a reader stands: outside trees; behind a `(`, with this offset, and white space; inside a
+-- tree
 pub data Place : Type 0 where
   Outside : Place
   Before : ℕ → Place
@@ -59,12 +60,15 @@ is_letter b = is_upper b || (nat_le small_a b && nat_le b small_z)
 
 -- the phase is another one
 abbrev pub at_phase : Inside → Phase → Inside
-at_phase s phase = record { at = s.at; parents = s.parents; last = s.last; nodes = s.nodes; phase = phase }
+at_phase s phase = record {
+    at = s.at; parents = s.parents; last = s.last; nodes = s.nodes; phase = phase }
 
 -- the last of these nodes has one more value
 abbrev pub with_pair : List SpelledNode → Pair → List SpelledNode
 with_pair [] pair = []
-with_pair (node ∷ []) pair = record { opened = node.opened; at = node.at; depth = node.depth; parent = node.parent; pairs = node.pairs ++ pair ∷ [] } ∷ []
+with_pair (node ∷ []) pair = record {
+    opened = node.opened; at = node.at; depth = node.depth; parent = node.parent; pairs = node.pairs
+    ++ pair ∷ [] } ∷ []
 with_pair (node ∷ other ∷ nodes) pair = node ∷ with_pair (other ∷ nodes) pair
 
 -- a node begins at this offset
@@ -73,7 +77,8 @@ with_node s opened at = record {
   at = s.at;
   parents = s.parents;
   last = Some (length s.nodes);
-  nodes = s.nodes ++ record { opened = opened; at = at; depth = length s.parents; parent = s.last; pairs = [] } ∷ [];
+  nodes = s.nodes ++ record { opened = opened; at = at; depth = length s.parents; parent = s.last;
+      pairs = [] } ∷ [];
   phase = InNode;
 }
 
@@ -94,7 +99,8 @@ closed games s (parent ∷ []) =
     record { games = games ++ record { at = s.at; nodes = s.nodes } ∷ []; place = Outside }
 closed games s (parent ∷ other ∷ parents) = record {
   games = games;
-  place = Within (record { at = s.at; parents = other ∷ parents; last = parent; nodes = s.nodes; phase = AfterTree });
+  place = Within (record {
+      at = s.at; parents = other ∷ parents; last = parent; nodes = s.nodes; phase = AfterTree });
 }
 
 -- the reader goes on within the tree
@@ -138,7 +144,10 @@ step_within games s (AfterName name) at b =
     else if b == square_open then within games (at_phase s (InValue name (at + 1)))
     else None
 step_within games s (InValue name from) at b =
-    if b == square_close then within games (record { at = s.at; parents = s.parents; last = s.last; nodes = with_pair s.nodes (record { name = name; value = record { from = from; to = at } }); phase = AfterValue name })
+    if b == square_close then within games (record {
+        at = s.at; parents = s.parents; last = s.last;
+        nodes = with_pair s.nodes (record { name = name; value = record { from = from; to = at } });
+        phase = AfterValue name })
     else if b == backslash then within games (at_phase s (Escaped name from))
     else within games s
 step_within games s (Escaped name from) at b = within games (at_phase s (InValue name from))
@@ -146,11 +155,13 @@ step_within games s (AfterValue name) at b =
     if is_white b then within games s
     else if b == square_open then within games (at_phase s (InValue name (at + 1)))
     else step_node games s at b
-step_within games s AfterTree at b = if is_white b then within games s else step_between games s at b
+step_within games s AfterTree at b = if is_white b then within games s else step_between games s at
+    b
 
 -- a game begins: the bracket at the first offset, the root's `;` at the second
 abbrev pub begun : ℕ → ℕ → Inside
-begun from at = with_node (record { at = from; parents = None ∷ []; last = None; nodes = []; phase = Opened from }) (Some from) at
+begun from at = with_node (record {
+    at = from; parents = None ∷ []; last = None; nodes = []; phase = Opened from }) (Some from) at
 
 -- One byte leads a reader on.
 abbrev pub step : List SpelledGame → Place → ℕ → ℕ → Option Scan

@@ -1,4 +1,5 @@
--- For the reader's private functions: bytes that leave a reader where it stands, and how far it has read.
+-- For the reader's private functions: bytes that leave a reader where it stands, and how far it has
+-- read.
 use Rattle.std.specs.Prelude.{◌≡◌, ◌≢◌, ℕ, ◌<◌, ◌≤◌, List, [], length, take, slice_index, Some, None, false}
 use Rattle.sgf_reader.specs.declared.fault.FaultKind.TheVariants as kind
 use Rattle.sgf_reader.specs.declared.fault.ReadError.{ReadError}
@@ -66,13 +67,15 @@ pub record IsNodeNext (text : List ℕ) (from : ℕ) : Type 0 where
   pub here : slice_index text semicolon ≡ node_start
 
 -- the fault of a text that goes on at this offset, past its greatest length
-pub data IsPastEnd (v : View) (now : places.Place) (text : List ℕ) (end : ℕ) : ReadError → Type 0 where
+pub data IsPastEnd (v : View) (now : places.Place) (text : List ℕ) (end : ℕ) : ReadError →
+    Type 0 where
   too_many_games : (from : ℕ) →
       now ≡ stands.Before from →
       most_games ≤ length v.games →
       IsNodeNext text end →
       IsPastEnd v now text end (Fault (record { kind = kind.TooManyGames; at = from }))
-  too_long : ((from : ℕ) → now ≡ stands.Before from → most_games ≤ length v.games → ¬ IsNodeNext text end) →
+  too_long : ((from : ℕ) → now ≡ stands.Before from → most_games ≤ length v.games →
+      ¬ IsNodeNext text end) →
       IsPastEnd v now text end (Fault (record { kind = kind.TooLong; at = most_bytes }))
 
 -- nothing was read so far

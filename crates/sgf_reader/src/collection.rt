@@ -10,8 +10,8 @@ pub struct Span {
     pub to: u32,
 }
 
-/// One value of one property. The name covers all letters of the identifier, and the value is what stands
-/// between its brackets.
+/// One value of one property. The name covers all letters of the identifier, and the value is what
+/// stands between its brackets.
 #[derive(Clone, Copy, Debug, PartialEq, Eq)]
 pub struct Pair {
     pub name: Span,

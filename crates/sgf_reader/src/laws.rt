@@ -7,7 +7,8 @@ ghost use Rattle.sgf_reader.specs.Limits.{most_bytes};
 
 /// A text spells one list of games only.
 pub fn a_text_spells_one_collection()
-    ensures { (text : List ℕ) (a b : List SpelledGame) → SpellsGames a text → SpellsGames b text → a ≡ b }
+    ensures { (text : List ℕ) (a b : List SpelledGame) → SpellsGames a text → SpellsGames b text →
+        a ≡ b }
 {}
 
 /// A text spells games and has no fault just where it spells them, and it and they are within the

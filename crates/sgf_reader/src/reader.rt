@@ -35,8 +35,9 @@ fn read_bytes(reading: &mut Reading, text: &[u8], end: usize) -> Result<Place, R
     Ok(place)
 }
 
-// The fault of a text that goes on at this offset, past its greatest length. Of two that are possible here the
-// one of a game past the limit comes first: its `(` was read, and only white space and its `;` are left.
+// The fault of a text that goes on at this offset, past its greatest length. Of two that are
+// possible here the one of a game past the limit comes first: its `(` was read, and only white
+// space and its `;` are left.
 fn fault_past_end(reading: &Reading, place: Place, text: &[u8], end: usize) -> ReadError
     requires { end ≤ length text.now }
     ensures { IsPastEnd reading.now place text.now end result }
@@ -55,12 +56,13 @@ fn fault_past_end(reading: &Reading, place: Place, text: &[u8], end: usize) -> R
 
 /// Reads a text: the collection that it spells, or its first fault.
 ///
-/// The grammar is that of SGF FF[4] for collections of game trees, where lower-case letters in identifiers are
-/// ignored and bytes outside trees are skipped. The faults are of the kinds up to `TooManyGames`; that of
-/// least offset is answered, and at one offset `TooLong` comes before the others. Offsets count bytes from 0.
+/// The grammar is that of SGF FF[4] for collections of game trees, where lower-case letters in
+/// identifiers are ignored and bytes outside trees are skipped. The faults are of the kinds up to
+/// `TooManyGames`; that of least offset is answered, and at one offset `TooLong` comes before the
+/// others. Offsets count bytes from 0.
 ///
-/// The text is read once from front to end, without recursion, and isn't copied: names and values are spans of
-/// it. `NoMemory` is answered where an allocation was refused.
+/// The text is read once from front to end, without recursion, and isn't copied: names and values
+/// are spans of it. `NoMemory` is answered where an allocation was refused.
 pub fn read(alloc: Global, text: &[u8]) -> Result<Collection, ReadError>
     ensures ok { IfOk result (λ collection. IsRead text.now collection) }
     ensures fault { (f : SgfFault) → result ≡ Err (Fault f) → IsFirstFault text.now f.kind f.at }

@@ -1,10 +1,15 @@
 // What was read so far of a text.
-ghost use Rattle.std.specs.Prelude.{◌≡◌, ◌+◌, ◌<◌, ◌≤◌, ◌⊎◌, ℕ, Some, [], ◌∷◌, true, false, length, IfOk, Err};
+ghost use Rattle.std.specs.Prelude.{
+    ◌≡◌, ◌+◌, ◌<◌, ◌≤◌, ◌⊎◌, ℕ, Some, [], ◌∷◌, true, false, length, IfOk, Err,
+};
 ghost use Rattle.sgf_reader.specs.declared.fault.ReadError.TheVariants.{Fault};
 ghost use Rattle.sgf_reader.specs.declared.fault.SgfFault.{SgfFault};
 ghost use Rattle.sgf_reader.specs.declared.fault.FaultKind.TheVariants as kind;
 ghost use Rattle.sgf_reader.specs.Limits.{most_games, most_nodes, most_open};
-ghost use Rattle.sgf_reader.specs.Reading.{with_raw_pair, with_raw_node, with_raw_bracket, closed_view, closed_place, IsPlaceOutside, IsEndFault};
+ghost use Rattle.sgf_reader.specs.Reading.{
+    with_raw_pair, with_raw_node, with_raw_bracket, closed_view, closed_place, IsPlaceOutside,
+    IsEndFault,
+};
 
 use crate::limits::{MAX_GAMES, MAX_NODES, MAX_OPEN};
 use crate::place::{Phase, Place};
@@ -16,8 +21,9 @@ use std::alloc::Global;
 use std::marker::Model;
 use std::mem;
 
-// The games that have ended, and of the game that has not its nodes and its open brackets. The values of
-// the node that is being read stand aside, in a vector that serves one node after another.
+// The games that have ended, and of the game that has not its nodes and its open brackets. The
+// values of the node that is being read stand aside, in a vector that serves one node after
+// another.
 #[derive(Drop)]
 pub(crate) struct Reading {
     alloc: Global,
@@ -62,7 +68,8 @@ impl Reading {
 
     // Nothing so far.
     pub(crate) fn new(alloc: Global) -> Self
-        ensures { result ≡ record { games = []; nodes = []; is_reading = false; parents = []; last = None } }
+        ensures { result ≡ record { games = []; nodes = []; is_reading = false; parents = [];
+            last = None } }
     {
         Reading {
             alloc,
@@ -109,7 +116,8 @@ impl Reading {
         ensures ok { IfOk result (λ _.
             (self.new ≡ with_raw_node self.old) × (length self.old.nodes < most_nodes)) }
         ensures fault { (f : SgfFault) → result ≡ Err (Fault f) →
-            (f ≡ record { kind = kind.TooManyNodes; at = at }) × (most_nodes ≤ length self.old.nodes) }
+            (f ≡ record { kind = kind.TooManyNodes; at = at })
+                × (most_nodes ≤ length self.old.nodes) }
     {
         self.finish_node()?;
         let number = self.nodes.len();
@@ -183,8 +191,8 @@ impl Reading {
         self.begin_node(at)
     }
 
-    // The text ends at this offset. The games are its collection where it ends outside trees, behind one
-    // or more.
+    // The text ends at this offset. The games are its collection where it ends outside trees,
+    // behind one or more.
     pub(crate) fn finish(self, place: Place, at: u32) -> Result<Collection, ReadError>
         ensures ok { IfOk result (λ collection.
             (collection ≡ record { games = self.games }) × (1 ≤ length self.games)

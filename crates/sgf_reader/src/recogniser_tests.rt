@@ -1,5 +1,5 @@
-// The reader against a slow recogniser on all short texts. The recogniser is written from the words of the
-// grammar: each part of a text is cut off from its front.
+// The reader against a slow recogniser on all short texts. The recogniser is written from the words
+// of the grammar: each part of a text is cut off from its front.
 use crate::{FaultKind, ReadError, SgfFault, read};
 use std::alloc::Global;
 
@@ -139,7 +139,8 @@ fn has_tree_start(text: &[u8]) -> bool {
     false
 }
 
-// What a text can lack: the rest of a value, of a property, of a node, and the brackets of its trees.
+// What a text can lack: the rest of a value, of a property, of a node, and the brackets of its
+// trees.
 const ENDINGS: [&str; 25] = [
     "(;)", ";)", ")", "))", ")))", "))))", ";))", ";)))", ";))))", "])", "]))", "])))", "]))))",
     "[])", "[]))", "[])))", "[]))))", "A[])", "A[]))", "A[])))", "A[]))))", "a])", "a]))", "a])))",

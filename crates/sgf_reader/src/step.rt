@@ -24,7 +24,8 @@ fn outside(at: u32, byte: u8) -> Place
 // One byte, at this offset, behind the `(` at the first offset and white space.
 fn step_before(reading: &mut Reading, from: u32, at: u32, byte: u8) -> Result<Place, ReadError>
     ensures ok { IfOk result (StepsOn reading.old (Place.Before from) at byte reading.new) }
-    ensures fault { (f : SgfFault) → result ≡ Err (Fault f) → StepFails reading.old (Place.Before from) at byte f }
+    ensures fault { (f : SgfFault) → result ≡ Err (Fault f) →
+        StepFails reading.old (Place.Before from) at byte f }
 {
     if byte <= 32 {
         return Ok(Place::Before(from));
@@ -40,7 +41,8 @@ fn step_before(reading: &mut Reading, from: u32, at: u32, byte: u8) -> Result<Pl
 fn step_within(reading: &mut Reading, phase: Phase, at: u32, byte: u8) -> Result<Place, ReadError>
     requires { at < 2 ^ 24 }
     ensures ok { IfOk result (StepsOn reading.old (Place.Within phase) at byte reading.new) }
-    ensures fault { (f : SgfFault) → result ≡ Err (Fault f) → StepFails reading.old (Place.Within phase) at byte f }
+    ensures fault { (f : SgfFault) → result ≡ Err (Fault f) →
+        StepFails reading.old (Place.Within phase) at byte f }
 {
     match turn_at(phase, at, byte) {
         Turn::Stay => Ok(Place::Within(phase)),
@@ -72,7 +74,8 @@ pub(crate) fn step(
 ) -> Result<Place, ReadError>
     requires { at < 2 ^ 24 }
     ensures ok { IfOk result (StepsOn reading.old place at byte reading.new) }
-    ensures fault { (f : SgfFault) → result ≡ Err (Fault f) → StepFails reading.old place at byte f }
+    ensures fault { (f : SgfFault) → result ≡ Err (Fault f) →
+        StepFails reading.old place at byte f }
 {
     match place {
         Place::Outside => Ok(outside(at, byte)),

@@ -166,7 +166,8 @@ fn longest_texts(rt: HostRuntime) -> Result<(), Fail> {
     Ok(())
 }
 
-// Behind the greatest number of games a `(`, and then white space up to the greatest length and past it.
+// Behind the greatest number of games a `(`, and then white space up to the greatest length and
+// past it.
 fn with_games_and_bracket(alloc: Global, end: &[u8]) -> Result<Vec<u8>, AllocError> {
     let white = repeated(alloc, b" ", 16_777_216 - 196_609 + 5, end)?;
     let last = repeated(alloc, b"(", 1, &white)?;
@@ -195,7 +196,9 @@ fn a_game_past_the_limit_across_the_greatest_length(rt: HostRuntime) -> Result<(
 }
 
 const HANDICAP_GAME: &str =
-    "(;GM[1]FF[4]CA[UTF-8]AP[CGoban:3]ST[2]\nRU[Japanese]SZ[19]HA[2]KM[0.50]\nPW[Ito]PB[Sato]WR[5d]BR[3d]DT[2003-04-12]PC[The Kiseido Go Server]RE[W+Resign]AB[dp][pd]\n;W[qp]C[Hi [3d\\]: good game]\n;B[dd](;W[pq];B[po])(;W[fc];B[cf]))";
+    "(;GM[1]FF[4]CA[UTF-8]AP[CGoban:3]ST[2]\nRU[Japanese]SZ[19]HA[2]KM[0.50]\n\
+     PW[Ito]PB[Sato]WR[5d]BR[3d]DT[2003-04-12]PC[The Kiseido Go Server]RE[W+Resign]AB[dp][pd]\n\
+     ;W[qp]C[Hi [3d\\]: good game]\n;B[dd](;W[pq];B[po])(;W[fc];B[cf]))";
 
 #[test]
 fn beginnings_of_a_game(rt: HostRuntime) {
@@ -214,7 +217,8 @@ fn beginnings_of_a_game(rt: HostRuntime) {
     assert_eq!(rt; game_count(rt.alloc(), text), Ok(1));
 }
 
-// The parent of the node of this number, and how many values it has. There is none behind the last node.
+// The parent of the node of this number, and how many values it has. There is none behind the last
+// node.
 fn parent_and_count(nodes: &[RawNode], number: usize) -> (Option<u32>, usize) {
     if number < nodes.len() {
         (nodes[number].parent, nodes[number].pairs.as_slice().len())

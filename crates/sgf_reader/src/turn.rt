@@ -1,7 +1,9 @@
 // What one byte means to a reader inside a tree.
 ghost use Rattle.std.specs.Prelude.{◌≡◌, ◌<◌, ◌^◌, ◌+◌, List, ℕ, Bool, true, false};
 ghost use Rattle.sgf_reader.specs.Grammar.{SpelledGame};
-ghost use Rattle.sgf_reader.specs.Scan.{Inside, step_within, step_node, step_between, is_white, is_upper, is_letter};
+ghost use Rattle.sgf_reader.specs.Scan.{
+    Inside, step_within, step_node, step_between, is_white, is_upper, is_letter,
+};
 ghost use Rattle.sgf_reader.specs.Turn.{phase_of, apply_turn, is_in_node, StaysInNode};
 
 use crate::Span;
@@ -30,7 +32,8 @@ fn is_white_space(byte: u8) -> bool
 
 // Behind all values of a node's properties.
 fn turn_between(byte: u8) -> Turn
-    ensures scans { (games : List SpelledGame) (s : Inside) (at : ℕ) → step_between games s at byte ≡ apply_turn games s at result }
+    ensures scans { (games : List SpelledGame) (s : Inside) (at : ℕ) →
+        step_between games s at byte ≡ apply_turn games s at result }
     ensures stays { (in_node : Bool) → StaysInNode in_node result }
 {
     match byte {
@@ -42,7 +45,8 @@ fn turn_between(byte: u8) -> Turn
 
 // Behind a node.
 fn turn_node(at: u32, byte: u8) -> Turn
-    ensures scans { (games : List SpelledGame) (s : Inside) → step_node games s at byte ≡ apply_turn games s at result }
+    ensures scans { (games : List SpelledGame) (s : Inside) →
+        step_node games s at byte ≡ apply_turn games s at result }
     ensures stays { StaysInNode true result }
 {
     if byte == b';' {
@@ -60,7 +64,9 @@ fn turn_node(at: u32, byte: u8) -> Turn
 // In an identifier.
 fn turn_name(from: u32, has_upper: bool, at: u32, byte: u8) -> Turn
     requires { at < 2 ^ 24 }
-    ensures scans { (games : List SpelledGame) (s : Inside) → step_within games s (phase_of (Phase.InName from has_upper)) at byte ≡ apply_turn games s at result }
+    ensures scans { (games : List SpelledGame) (s : Inside) →
+        step_within games s (phase_of (Phase.InName from has_upper)) at byte
+        ≡ apply_turn games s at result }
     ensures stays { StaysInNode true result }
 {
     if byte.is_ascii_alphabetic() {
@@ -84,7 +90,9 @@ fn turn_name(from: u32, has_upper: bool, at: u32, byte: u8) -> Turn
 
 // In a value.
 fn turn_value(name: Span, from: u32, byte: u8) -> Turn
-    ensures scans { (games : List SpelledGame) (s : Inside) (at : ℕ) → step_within games s (phase_of (Phase.InValue name from)) at byte ≡ apply_turn games s at result }
+    ensures scans { (games : List SpelledGame) (s : Inside) (at : ℕ) →
+        step_within games s (phase_of (Phase.InValue name from)) at byte
+        ≡ apply_turn games s at result }
     ensures stays { StaysInNode true result }
 {
     match byte {
@@ -97,8 +105,12 @@ fn turn_value(name: Span, from: u32, byte: u8) -> Turn
 // Where a value may begin, of the identifier with this span: its first one or another.
 fn turn_behind(name: Span, is_first: bool, at: u32, byte: u8) -> Turn
     requires { at < 2 ^ 24 }
-    ensures first { is_first ≡ true → (games : List SpelledGame) (s : Inside) → step_within games s (phase_of (Phase.AfterName name)) at byte ≡ apply_turn games s at result }
-    ensures other { is_first ≡ false → (games : List SpelledGame) (s : Inside) → step_within games s (phase_of (Phase.AfterValue name)) at byte ≡ apply_turn games s at result }
+    ensures first { is_first ≡ true → (games : List SpelledGame) (s : Inside) →
+        step_within games s (phase_of (Phase.AfterName name)) at byte
+        ≡ apply_turn games s at result }
+    ensures other { is_first ≡ false → (games : List SpelledGame) (s : Inside) →
+        step_within games s (phase_of (Phase.AfterValue name)) at byte
+        ≡ apply_turn games s at result }
     ensures stays { StaysInNode true result }
 {
     if is_white_space(byte) {
@@ -116,7 +128,8 @@ fn turn_behind(name: Span, is_first: bool, at: u32, byte: u8) -> Turn
 // What this byte, at this offset, means in this phase.
 pub(crate) fn turn_at(phase: Phase, at: u32, byte: u8) -> Turn
     requires { at < 2 ^ 24 }
-    ensures scans { (games : List SpelledGame) (s : Inside) → step_within games s (phase_of phase) at byte ≡ apply_turn games s at result }
+    ensures scans { (games : List SpelledGame) (s : Inside) →
+        step_within games s (phase_of phase) at byte ≡ apply_turn games s at result }
     ensures stays { StaysInNode (is_in_node phase) result }
 {
     match phase {
@@ -133,7 +146,8 @@ pub(crate) fn turn_at(phase: Phase, at: u32, byte: u8) -> Turn
 
 // Behind a `(`.
 fn turn_opened(from: u32, byte: u8) -> Turn
-    ensures scans { (games : List SpelledGame) (s : Inside) (at : ℕ) → step_within games s (phase_of (Phase.Opened from)) at byte ≡ apply_turn games s at result }
+    ensures scans { (games : List SpelledGame) (s : Inside) (at : ℕ) →
+        step_within games s (phase_of (Phase.Opened from)) at byte ≡ apply_turn games s at result }
     ensures stays { StaysInNode false result }
 {
     if is_white_space(byte) {
@@ -147,7 +161,8 @@ fn turn_opened(from: u32, byte: u8) -> Turn
 
 // Behind a `;`.
 fn turn_in_node(at: u32, byte: u8) -> Turn
-    ensures scans { (games : List SpelledGame) (s : Inside) → step_within games s (phase_of Phase.InNode) at byte ≡ apply_turn games s at result }
+    ensures scans { (games : List SpelledGame) (s : Inside) →
+        step_within games s (phase_of Phase.InNode) at byte ≡ apply_turn games s at result }
     ensures stays { StaysInNode true result }
 {
     if is_white_space(byte) {
@@ -158,7 +173,8 @@ fn turn_in_node(at: u32, byte: u8) -> Turn
 
 // Behind a `)`.
 fn turn_after_tree(byte: u8) -> Turn
-    ensures scans { (games : List SpelledGame) (s : Inside) (at : ℕ) → step_within games s (phase_of Phase.AfterTree) at byte ≡ apply_turn games s at result }
+    ensures scans { (games : List SpelledGame) (s : Inside) (at : ℕ) →
+        step_within games s (phase_of Phase.AfterTree) at byte ≡ apply_turn games s at result }
     ensures stays { StaysInNode false result }
 {
     if is_white_space(byte) {

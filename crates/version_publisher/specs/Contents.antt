@@ -1,4 +1,5 @@
--- What is published, what a publisher and a searcher are seen as, and the rule of the published value.
+-- What is published, what a publisher and a searcher are seen as, and the rule of the published
+-- value.
 use Rattle.std.specs.Prelude.{ℕ, ◌≡◌, ◌≢◌, ◌⊎◌, ◌≤◌, ◌<◌, Bool, true, false, List, [], ◌∷◌, ◌++◌, length, nat_lt, if◌then◌else◌}
 use mathlib.Core.Option.{some}
 use mathlib.Core.List.{IsPrefix}
@@ -24,8 +25,10 @@ abbrev pub content : {A : Type 0} → ℕ → List (List A) → List (List A) �
 content n parts log b = record { number = n; parts = parts; log = log; opening = opening_of b }
 
 -- the content with these parts behind its own, the log then being this one
-abbrev pub extended : {A : Type 0} → Content A → ℕ → List (List A) → List (List A) → Book → Content A
-extended c n parts log b = record { number = n; parts = c.parts ++ parts; log = log; opening = opening_of b }
+abbrev pub extended : {A : Type 0} → Content A → ℕ → List (List A) → List (List A) → Book →
+    Content A
+extended c n parts log b = record {
+    number = n; parts = c.parts ++ parts; log = log; opening = opening_of b }
 
 -- the list with this element in the place of its last two; a list of fewer stays
 abbrev pub merged_last : {B : Type 0} → List B → B → List B
@@ -45,9 +48,11 @@ last_two_joined (a ∷ b ∷ c ∷ xs) = last_two_joined (b ∷ c ∷ xs)
 abbrev pub merged_content : {A : Type 0} → Content A → List A → Content A
 merged_content c part = record c { parts = merged_last c.parts part }
 
--- the number is the length of the log, and the parts hold the log's items, of which there are not too many
+-- the number is the length of the log, and the parts hold the log's items, of which there are not
+-- too many
 abbrev pub IsConsistent : {A : Type 0} → ℕ → Content A → Type 0
-IsConsistent most c = (c.number ≡ length c.log) × (items_in c.parts ≡ items_in c.log) × (length (items_in c.log) ≤ most)
+IsConsistent most c = (c.number ≡ length c.log) × (items_in c.parts ≡ items_in c.log)
+    × (length (items_in c.log) ≤ most)
 
 -- no opening but this one is known
 abbrev pub KnowsOnly : Opening → List Opening → Type 0
@@ -73,27 +78,37 @@ abbrev pub ArePrefixes : {B : Type 0} → List (List B) → List B → Type 0
 ArePrefixes [] log = Unit {0}
 ArePrefixes (x ∷ xs) log = IsPrefix x log × ArePrefixes xs log
 
--- What one seat may know, where the publisher's seat is this and these logs were published, in order: no opening but this one, it has read none but published logs, and the publisher alone has published
-abbrev pub IsLawfulSeat : {A : Type 0} → ℕ → List (List (List A)) → Opening → ℕ → Knowledge A → Type 0
+-- What one seat may know, where the publisher's seat is this and these logs were published, in
+-- order: no opening but this one, it has read none but published logs, and the publisher alone has
+-- published
+abbrev pub IsLawfulSeat : {A : Type 0} → ℕ → List (List (List A)) → Opening → ℕ → Knowledge A →
+    Type 0
 IsLawfulSeat publisher history opening seat v =
-    KnowsOnly opening v.openings × IsEmptyOrAmong v.read history × (seat ≡ publisher → v.published ≡ history) × (seat ≢ publisher → AreEmpty v.published)
+    KnowsOnly opening v.openings × IsEmptyOrAmong v.read history
+        × (seat ≡ publisher → v.published ≡ history) × (seat ≢ publisher → AreEmpty v.published)
 
--- The rule of the published value: it is consistent, its log was published, all logs that were published are prefixes of it, and each seat knows what it may
-pub record IsLawfulContent {A : Type 0} (most : ℕ) (c : Content A) (views : List (Knowledge A)) : Type 0 where
+-- The rule of the published value: it is consistent, its log was published, all logs that were
+-- published are prefixes of it, and each seat knows what it may
+pub record IsLawfulContent {A : Type 0} (most : ℕ) (c : Content A)
+    (views : List (Knowledge A)) : Type 0 where
   pub publisher : ℕ
   pub history : List (List (List A))
   pub consistent : IsConsistent most c
   pub is_seat : publisher < length views
   pub is_published : IsEmptyOrAmong c.log history
   pub rises : ArePrefixes history c.log
-  pub each_seat : (seat : ℕ) (v : Knowledge A) → get_elem? views seat ≡ some v → IsLawfulSeat publisher history c.opening seat v
+  pub each_seat : (seat : ℕ) (v : Knowledge A) → get_elem? views seat ≡ some v →
+      IsLawfulSeat publisher history c.opening seat v
 
--- Under the rule, whoever has published what is published has published each log that anyone has read
+-- Under the rule, whoever has published what is published has published each log that anyone has
+-- read
 abbrev pub ReadsArePublished : Type 0 → ℕ → Type 0
 ReadsArePublished A most =
     (c : Content A) (views : List (Knowledge A)) → IsLawfulContent most c views
-    → (seat : ℕ) (v : Knowledge A) → get_elem? views seat ≡ some v → IsEmptyOrAmong c.log v.published
-    → (other : ℕ) (u : Knowledge A) → get_elem? views other ≡ some u → IsEmptyOrAmong u.read v.published
+    → (seat : ℕ) (v : Knowledge A) → get_elem? views seat ≡ some v →
+        IsEmptyOrAmong c.log v.published
+    → (other : ℕ) (u : Knowledge A) → get_elem? views other ≡ some u →
+        IsEmptyOrAmong u.read v.published
 
 -- A content to which a publish of that one may go
 abbrev pub MayFollow : {A : Type 0} → ℕ → Content A → Content A → Type 0
@@ -113,14 +128,17 @@ after_publish v c = record v { openings = c.opening ∷ []; published = v.publis
 
 -- What a look at the content y tells a reader that knew v and then knows w
 abbrev pub LookTells : {A : Type 0} → ℕ → Knowledge A → Content A → Knowledge A → Type 0
-LookTells most v y w = KnowsOnly y.opening v.openings × IsConsistent most y × IsPrefix v.read y.log × (w ≡ after_look v y)
+LookTells most v y w = KnowsOnly y.opening v.openings × IsConsistent most y × IsPrefix v.read y.log
+    × (w ≡ after_look v y)
 
 -- What a publish of the content y tells the writer that knew v and then knows w
 abbrev pub PublishTells : {A : Type 0} → Knowledge A → Content A → Knowledge A → Type 0
 PublishTells v y w = (w ≡ after_publish v y) × IsEmptyOrAmong y.log w.published
 
--- What holds between two calls of a publisher: of what is published, of what it is once the queued changes are made, of the parts that wait behind them, and of the whole log
-pub record IsReady {A : Type 0} (most : ℕ) (published next : Content A) (waiting whole : List (List A)) (b : Book) : Type 0 where
+-- What holds between two calls of a publisher: of what is published, of what it is once the queued
+-- changes are made, of the parts that wait behind them, and of the whole log
+pub record IsReady {A : Type 0} (most : ℕ) (published next : Content A)
+    (waiting whole : List (List A)) (b : Book) : Type 0 where
   pub published_consistent : IsConsistent most published
   pub next_consistent : IsConsistent most next
   pub published_opening : published.opening ≡ opening_of b

@@ -10,11 +10,13 @@ use Rattle.version_publisher.specs.Contents.{content, extended, merged_content}
 module _ {P A : Type 0} (items : P → List A) where
   -- what a copy has in common with the other copy
   abbrev pub content_of : Replica P A → Content A
-  content_of b = content b.number (map (λ a. items (arc_value a)) b.parts.items) b.token.log b.token.book
+  content_of b = content b.number (map (λ a. items (arc_value a)) b.parts.items) b.token.log
+      b.token.book
 
   -- the content after a change
   abbrev pub changed : Content A → Change P A → Content A
-  changed c (Append parts n token) = extended c n (map (λ a. items (arc_value a)) parts.items) token.log token.book
+  changed c (Append parts n token) = extended c n (map (λ a. items (arc_value a)) parts.items)
+      token.log token.book
   changed c (MergeLast part) = merged_content c (items (arc_value part))
 
   -- the content of a copy after these changes, made in order

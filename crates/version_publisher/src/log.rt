@@ -94,7 +94,9 @@ impl<P: Part> LogEnd<P> {
     pub fn append(&mut self, part: &P) -> bool
         requires { length self.old.token.log + 1 < 2 ^ 64 }
         ensures book { self.new.token.book ≡ self.old.token.book }
-        ensures log { MatchBool result (self.new.token.log ≡ self.old.token.log ++ P.items part.now ∷ []) (self.new.token.log ≡ self.old.token.log) }
+        ensures log { MatchBool result (self.new.token.log
+            ≡ self.old.token.log ++ P.items part.now ∷ [])
+            (self.new.token.log ≡ self.old.token.log) }
     {
         let mut after = self.token.again();
         let mut offer: Offer<LinkedList<P::Item>, u64, LogRule<P>, NoGain> = after.plain::<

@@ -63,7 +63,10 @@ fn new_writer<P: Part, R: Wait>(
 ) -> Result<ReplicaWriter<P>, NoMemory>
     requires places { (1 ≤ places) × (places ≤ 64) }
     requires empty { token.now.log ≡ [] }
-    ensures { IfOk result (λ w. ((seat_view w.desk.place).openings ≡ opening_of token.now.book ∷ []) × ((seat_view w.desk.place).published ≡ [] ∷ []) × (content_of P.items w.desk.shown.value ≡ content 0 [] [] token.now.book) × (drop w.behind w.log.items ≡ [])) }
+    ensures { IfOk result (λ w. ((seat_view w.desk.place).openings ≡ opening_of token.now.book ∷ [])
+        × ((seat_view w.desk.place).published ≡ [] ∷ [])
+        × (content_of P.items w.desk.shown.value ≡ content 0 [] [] token.now.book)
+        × (drop w.behind w.log.items ≡ [])) }
 {
     let first: Replica<P> = empty_replica(alloc, token);
     let second: Replica<P> = empty_replica(alloc, token);
@@ -85,8 +88,11 @@ fn new_searchers<P: Part>(
 ) -> Result<Vec<Searcher<P>>, OpenError>
     requires opening { (seat_view writer.old.desk.place).openings ≡ empty.now.opening ∷ [] }
     requires empty { empty.now.log ≡ [] }
-    ensures same { (writer.new.desk.shown ≡ writer.old.desk.shown) × (writer.new.log ≡ writer.old.log) × (writer.new.behind ≡ writer.old.behind) × (seat_view writer.new.desk.place ≡ seat_view writer.old.desk.place) }
-    ensures searchers { IfOk result (λ v. (length v.items ≡ places) × All (IsNewSearcher empty.now.opening) v.items) }
+    ensures same { (writer.new.desk.shown ≡ writer.old.desk.shown)
+        × (writer.new.log ≡ writer.old.log) × (writer.new.behind ≡ writer.old.behind)
+        × (seat_view writer.new.desk.place ≡ seat_view writer.old.desk.place) }
+    ensures searchers { IfOk result (λ v. (length v.items ≡ places)
+        × All (IsNewSearcher empty.now.opening) v.items) }
 {
     let mut searchers = Vec::new(alloc);
     for i in 0..places {
@@ -100,16 +106,19 @@ fn new_searchers<P: Part>(
     Ok(searchers)
 }
 
-/// A publisher whose log is empty, and so many searchers, 1 to 64, that have seen nothing. It may wait
-/// where a refusal makes it end what it has made.
+/// A publisher whose log is empty, and so many searchers, 1 to 64, that have seen nothing. It may
+/// wait where a refusal makes it end what it has made.
 pub fn open<P: Part, R: Wait>(
     alloc: Global,
     rt: &R,
     places: u32,
 ) -> Result<(Publisher<P>, Vec<Searcher<P>>), OpenError>
     requires places { (1 ≤ places) × (places ≤ 64) }
-    ensures publisher { IfOk result (λ t. (t.0.log ≡ []) × (t.0.published ≡ [] ∷ []) × (t.0.pending ≡ []) × (t.0.parts ≡ []) × (t.0.next_parts ≡ []) × (t.0.has_pending ≡ false)) }
-    ensures searchers { IfOk result (λ t. (length t.1.items ≡ places) × All (IsNewSearcher t.0.opening) t.1.items) }
+    ensures publisher { IfOk result (λ t. (t.0.log ≡ []) × (t.0.published ≡ [] ∷ [])
+        × (t.0.pending ≡ []) × (t.0.parts ≡ []) × (t.0.next_parts ≡ [])
+        × (t.0.has_pending ≡ false)) }
+    ensures searchers { IfOk result (λ t. (length t.1.items ≡ places)
+        × All (IsNewSearcher t.0.opening) t.1.items) }
 {
     let end = LogEnd::new();
     let empty = Receipt::new(end.count(), &end.token);

@@ -20,7 +20,9 @@ fn version_of<P: Part>(
     alloc: Global,
 ) -> Result<(Version<P>, Receipt<P>), LookError>
     requires consistent { IsConsistent P.MOST (content_of P.items replica.now) }
-    ensures { IfOk result (λ t. (t.1.opening ≡ opening_of replica.now.token.book) × (t.1.log ≡ replica.now.token.log) × (t.0.number ≡ length t.1.log) × (items_in t.0.parts ≡ items_in t.1.log)) }
+    ensures { IfOk result (λ t. (t.1.opening ≡ opening_of replica.now.token.book)
+        × (t.1.log ≡ replica.now.token.log) × (t.0.number ≡ length t.1.log)
+        × (items_in t.0.parts ≡ items_in t.1.log)) }
 {
     let version = Version::of(alloc, replica.number, replica.parts.as_slice())?;
     Ok((version, Receipt::new(replica.number, &replica.token)))
@@ -35,8 +37,13 @@ fn enter<P: Part>(
     Result<(Version<P>, Receipt<P>), LookError>,
 )
     requires one { KnowsOne (view reader.place).openings }
-    ensures reader { ((view result.0.place).openings ≡ (view reader.place).openings) × IsPrefix (view reader.place).read (view result.0.place).read }
-    ensures read { IfOk result.1 (λ t. ((view reader.place).openings ≡ t.1.opening ∷ []) × (t.1.log ≡ (view result.0.place).read) × (t.0.number ≡ length t.1.log) × (items_in t.0.parts ≡ items_in t.1.log) × ((log : List (List P.Item)) → IsPrefix log (view reader.place).read → IsPrefix log t.1.log)) }
+    ensures reader { ((view result.0.place).openings ≡ (view reader.place).openings)
+        × IsPrefix (view reader.place).read (view result.0.place).read }
+    ensures read { IfOk result.1 (λ t. ((view reader.place).openings ≡ t.1.opening ∷ [])
+        × (t.1.log ≡ (view result.0.place).read) × (t.0.number ≡ length t.1.log)
+        × (items_in t.0.parts ≡ items_in t.1.log)
+        × ((log : List (List P.Item)) → IsPrefix log (view reader.place).read →
+        IsPrefix log t.1.log)) }
 {
     let reading = match reader.enter_as::<Look>() {
         Ok(reading) => reading,
@@ -52,8 +59,13 @@ pub fn read<P: Part>(
     alloc: Global,
 ) -> Result<(Version<P>, Receipt<P>), LookError>
     requires one { KnowsOne (view reader.old.place).openings }
-    ensures reader { ((view reader.new.place).openings ≡ (view reader.old.place).openings) × IsPrefix (view reader.old.place).read (view reader.new.place).read }
-    ensures read { IfOk result (λ t. ((view reader.old.place).openings ≡ t.1.opening ∷ []) × (t.1.log ≡ (view reader.new.place).read) × (t.0.number ≡ length t.1.log) × (items_in t.0.parts ≡ items_in t.1.log) × ((log : List (List P.Item)) → IsPrefix log (view reader.old.place).read → IsPrefix log t.1.log)) }
+    ensures reader { ((view reader.new.place).openings ≡ (view reader.old.place).openings)
+        × IsPrefix (view reader.old.place).read (view reader.new.place).read }
+    ensures read { IfOk result (λ t. ((view reader.old.place).openings ≡ t.1.opening ∷ [])
+        × (t.1.log ≡ (view reader.new.place).read) × (t.0.number ≡ length t.1.log)
+        × (items_in t.0.parts ≡ items_in t.1.log)
+        × ((log : List (List P.Item)) → IsPrefix log (view reader.old.place).read →
+        IsPrefix log t.1.log)) }
 {
     replace_with(
         reader,
@@ -70,8 +82,10 @@ fn enter_for_receipt<P: Part>(
     (): (),
 ) -> (ReplicaReader<P>, Option<Receipt<P>>)
     requires one { KnowsOne (view reader.place).openings }
-    ensures reader { ((view result.0.place).openings ≡ (view reader.place).openings) × IsPrefix (view reader.place).read (view result.0.place).read }
-    ensures read { IfSome result.1 (λ r. ((view reader.place).openings ≡ r.opening ∷ []) × (r.log ≡ (view result.0.place).read)) }
+    ensures reader { ((view result.0.place).openings ≡ (view reader.place).openings)
+        × IsPrefix (view reader.place).read (view result.0.place).read }
+    ensures read { IfSome result.1 (λ r. ((view reader.place).openings ≡ r.opening ∷ [])
+        × (r.log ≡ (view result.0.place).read)) }
 {
     let reading = match reader.enter_as::<Look>() {
         Ok(reading) => reading,
@@ -85,8 +99,10 @@ fn enter_for_receipt<P: Part>(
 /// A receipt of what is published. It takes no memory.
 pub fn read_receipt<P: Part>(reader: &mut ReplicaReader<P>) -> Option<Receipt<P>>
     requires one { KnowsOne (view reader.old.place).openings }
-    ensures reader { ((view reader.new.place).openings ≡ (view reader.old.place).openings) × IsPrefix (view reader.old.place).read (view reader.new.place).read }
-    ensures read { IfSome result (λ r. ((view reader.old.place).openings ≡ r.opening ∷ []) × (r.log ≡ (view reader.new.place).read)) }
+    ensures reader { ((view reader.new.place).openings ≡ (view reader.old.place).openings)
+        × IsPrefix (view reader.old.place).read (view reader.new.place).read }
+    ensures read { IfSome result (λ r. ((view reader.old.place).openings ≡ r.opening ∷ [])
+        × (r.log ≡ (view reader.new.place).read)) }
 {
     replace_with(
         reader,

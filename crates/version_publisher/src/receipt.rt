@@ -55,8 +55,8 @@ impl<P: Part> Receipt<P> {
         }
     }
 
-    /// A law: of two receipts of one opening, the shorter log is a prefix of the longer. `self` must be
-    /// the one whose log isn't longer.
+    /// A law: of two receipts of one opening, the shorter log is a prefix of the longer. `self`
+    /// must be the one whose log isn't longer.
     pub fn begins(&self, longer: &Receipt<P>)
         requires opening { self.now.opening ≡ longer.now.opening }
         requires shorter { length self.now.log ≤ length longer.now.log }

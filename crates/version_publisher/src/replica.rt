@@ -61,7 +61,8 @@ impl<P: Part> Absorb<Change<P>> for Replica<P> {
 // with `Send` isn't covered inside a trait's method.
 fn merge_last<T: Drop>(parts: &mut Vec<Arc<T>>, part: &Arc<T>) -> Result<(), AllocError>
     ensures { MatchResult result
-        (λ _. map arc_value parts.new.items ≡ merged_last (map arc_value parts.old.items) (arc_value part.now))
+        (λ _. map arc_value parts.new.items
+            ≡ merged_last (map arc_value parts.old.items) (arc_value part.now))
         (λ _. parts.new.items ≡ parts.old.items) }
 {
     let part = Arc::try_clone(part)?;
@@ -73,9 +74,9 @@ fn merge_last<T: Drop>(parts: &mut Vec<Arc<T>>, part: &Arc<T>) -> Result<(), All
     Ok(())
 }
 
-/// The rule of the published value: it is consistent, all who know an opening know its own, and each
-/// log that is published, or that a reader has found, is one that the one publisher knows to have
-/// published.
+/// The rule of the published value: it is consistent, all who know an opening know its own, and
+/// each log that is published, or that a reader has found, is one that the one publisher knows to
+/// have published.
 pub struct ReplicaRule<P> {
     of: PhantomData<P>,
 }

@@ -60,17 +60,24 @@ impl<P: Part> Model for Searcher<P> {
 
     ghost Value = { SearcherState P.Item };
 
-    ghost view = { λ s. record { opening = s.seen.opening; read = (seat_view s.reader.place).read; seen = s.seen.log; learned = s.learned.log } };
+    ghost view = { λ s. record {
+        opening = s.seen.opening; read = (seat_view s.reader.place).read; seen = s.seen.log;
+        learned = s.learned.log } };
 
-    ghost invariant = { λ s. ((seat_view s.reader.place).openings ≡ s.seen.opening ∷ []) × (s.learned.opening ≡ s.seen.opening) × IsPrefix s.seen.log (seat_view s.reader.place).read };
+    ghost invariant = { λ s. ((seat_view s.reader.place).openings ≡ s.seen.opening ∷ [])
+        × (s.learned.opening ≡ s.seen.opening)
+        × IsPrefix s.seen.log (seat_view s.reader.place).read };
 }
 
 // Waits until what is published has this number.
 fn await_number<P: Part, R: Wait>(rt: &R, reader: &mut ReplicaReader<P>, number: u64) -> Receipt<P>
     requires one { KnowsOne (seat_view reader.old.place).openings }
-    ensures reader { ((seat_view reader.new.place).openings ≡ (seat_view reader.old.place).openings) × IsPrefix (seat_view reader.old.place).read (seat_view reader.new.place).read }
-    ensures read { ((seat_view reader.old.place).openings ≡ result.opening ∷ []) × (result.log ≡ (seat_view reader.new.place).read) × (length result.log ≡ number) }
-    ensures kept { (log : List (List P.Item)) → IsPrefix log (seat_view reader.old.place).read → IsPrefix log result.log }
+    ensures reader { ((seat_view reader.new.place).openings ≡ (seat_view reader.old.place).openings)
+        × IsPrefix (seat_view reader.old.place).read (seat_view reader.new.place).read }
+    ensures read { ((seat_view reader.old.place).openings ≡ result.opening ∷ [])
+        × (result.log ≡ (seat_view reader.new.place).read) × (length result.log ≡ number) }
+    ensures kept { (log : List (List P.Item)) → IsPrefix log (seat_view reader.old.place).read →
+        IsPrefix log result.log }
 {
     for _ in rt.forever() {
         if let Some(found) = read_receipt(reader) {
@@ -96,13 +103,17 @@ impl<P: Part> Searcher<P> {
         }
     }
 
-    /// A published version, which holds all that this searcher has seen or learned; that it is the last
-    /// one isn't promised. It doesn't wait. After a refusal all is as it was, but for what was read.
+    /// A published version, which holds all that this searcher has seen or learned; that it is the
+    /// last one isn't promised. It doesn't wait. After a refusal all is as it was, but for what was
+    /// read.
     pub fn look(&mut self, alloc: Global) -> Result<Version<P>, LookError>
-        ensures same { (self.new.opening ≡ self.old.opening) × (self.new.learned ≡ self.old.learned) }
+        ensures same { (self.new.opening ≡ self.old.opening)
+            × (self.new.learned ≡ self.old.learned) }
         ensures read { IsPrefix self.old.read self.new.read }
         ensures answer { MatchResult result
-            (λ v. (self.new.seen ≡ self.new.read) × (v.number ≡ length self.new.seen) × (items_in v.parts ≡ items_in self.new.seen) × IsPrefix self.old.seen self.new.seen × IsPrefix self.old.learned self.new.seen)
+            (λ v. (self.new.seen ≡ self.new.read) × (v.number ≡ length self.new.seen)
+                × (items_in v.parts ≡ items_in self.new.seen) × IsPrefix self.old.seen self.new.seen
+                × IsPrefix self.old.learned self.new.seen)
             (λ _. self.new ≡ record self.old { read = self.new.read }) }
     {
         let (version, found) = read(&mut self.reader, alloc)?;
@@ -117,9 +128,11 @@ impl<P: Part> Searcher<P> {
     /// Takes a receipt of the same opening. From now on a look holds the log up to its number.
     pub fn learn(&mut self, receipt: Receipt<P>)
         requires { receipt.opening ≡ self.old.opening }
-        ensures same { (self.new.opening ≡ self.old.opening) × (self.new.read ≡ self.old.read) × (self.new.seen ≡ self.old.seen) }
+        ensures same { (self.new.opening ≡ self.old.opening) × (self.new.read ≡ self.old.read)
+            × (self.new.seen ≡ self.old.seen) }
         ensures learned { self.new.learned ≡ longer self.old.learned receipt.log }
-        ensures kept { IsPrefix self.old.learned self.new.learned × IsPrefix receipt.log self.new.learned }
+        ensures kept { IsPrefix self.old.learned self.new.learned
+            × IsPrefix receipt.log self.new.learned }
     {
         if receipt.number() < self.learned.number() {
             receipt.begins(&self.learned);
@@ -132,7 +145,8 @@ impl<P: Part> Searcher<P> {
     /// Waits until it has found the whole log of a publisher of the same opening.
     pub fn meet<R: Wait>(&mut self, rt: &R, publisher: &Publisher<P>)
         requires { self.old.opening ≡ publisher.now.opening }
-        ensures same { (self.new.opening ≡ self.old.opening) × (self.new.learned ≡ self.old.learned) }
+        ensures same { (self.new.opening ≡ self.old.opening)
+            × (self.new.learned ≡ self.old.learned) }
         ensures read { (self.new.read ≡ publisher.now.log) × IsPrefix self.old.read self.new.read }
         ensures seen { (self.new.seen ≡ publisher.now.log) × IsPrefix self.old.seen self.new.seen }
     {
@@ -150,10 +164,13 @@ impl<P: Part> Searcher<P> {
         publisher: &Publisher<P>,
     ) -> Result<Version<P>, LookError>
         requires { self.old.opening ≡ publisher.now.opening }
-        ensures same { (self.new.opening ≡ self.old.opening) × (self.new.learned ≡ self.old.learned) }
+        ensures same { (self.new.opening ≡ self.old.opening)
+            × (self.new.learned ≡ self.old.learned) }
         ensures read { IsPrefix self.old.read self.new.read }
         ensures answer { MatchResult result
-            (λ v. (self.new.seen ≡ publisher.now.log) × (self.new.seen ≡ self.new.read) × (v.number ≡ length self.new.seen) × (items_in v.parts ≡ items_in self.new.seen) × IsPrefix self.old.seen self.new.seen)
+            (λ v. (self.new.seen ≡ publisher.now.log) × (self.new.seen ≡ self.new.read)
+                × (v.number ≡ length self.new.seen) × (items_in v.parts ≡ items_in self.new.seen)
+                × IsPrefix self.old.seen self.new.seen)
             (λ _. self.new ≡ record self.old { read = self.new.read }) }
     {
         let (version, found) = read(&mut self.reader, alloc)?;

@@ -8,8 +8,8 @@ pub type Parts<T> = LinkedList<LinkedList<T>>;
 /// A list of logs.
 pub type Logs<T> = LinkedList<Parts<T>>;
 
-/// What a reader or the writer of the published value knows: openings, the log that it found when it
-/// entered last, and the logs that it published, in order.
+/// What a reader or the writer of the published value knows: openings, the log that it found when
+/// it entered last, and the logs that it published, in order.
 pub struct Knowledge<T> {
     pub openings: LinkedList<(u64, u64, u64)>,
     pub read: Parts<T>,
@@ -37,8 +37,9 @@ pub struct ReceiptState<T> {
     pub log: Parts<T>,
 }
 
-/// A publisher: the opening, the log, each log that was ever published, in order, the pending parts,
-/// the published parts and those that the next publish shows, and whether a part or a merge is pending.
+/// A publisher: the opening, the log, each log that was ever published, in order, the pending
+/// parts, the published parts and those that the next publish shows, and whether a part or a merge
+/// is pending.
 pub struct PublisherState<T> {
     pub opening: (u64, u64, u64),
     pub log: Parts<T>,
@@ -49,8 +50,8 @@ pub struct PublisherState<T> {
     pub has_pending: bool,
 }
 
-/// A searcher: the opening, the log that was published when it entered last, the log as far as it has
-/// seen it, and as far as it has learned of it.
+/// A searcher: the opening, the log that was published when it entered last, the log as far as it
+/// has seen it, and as far as it has learned of it.
 pub struct SearcherState<T> {
     pub opening: (u64, u64, u64),
     pub read: Parts<T>,

@@ -46,7 +46,8 @@ fn part_of(alloc: Global, numbers: &[u64]) -> Result<Arc<Numbers>, AllocError>
 // The part with the numbers of both.
 fn merge(alloc: Global, one: &Numbers, other: &Numbers) -> Result<Arc<Numbers>, AllocError>
     requires { length one.now.all.items + length other.now.all.items ≤ 1000 }
-    ensures { IfOk result (λ part. (arc_value part).all.items ≡ one.now.all.items ++ other.now.all.items) }
+    ensures { IfOk result (λ part. (arc_value part).all.items
+        ≡ one.now.all.items ++ other.now.all.items) }
 {
     let mut all = Vec::new(alloc);
     all.extend_from_slice(one.all.as_slice())?;
@@ -218,10 +219,12 @@ fn look_often(alloc: Global, searcher: Searcher<Numbers>) -> Looks {
 
 // Appends a copy of a part.
 fn append_copy(publisher: &mut Publisher<Numbers>, part: &Arc<Numbers>) -> bool
-    requires room { length (items_in (publisher.old.log ++ publisher.old.pending)) + length (arc_value part.now).all.items ≤ 1000 }
+    requires room { length (items_in (publisher.old.log
+        ++ publisher.old.pending)) + length (arc_value part.now).all.items ≤ 1000 }
     requires number { length (publisher.old.log ++ publisher.old.pending) + 1 < 2 ^ 64 }
     ensures same { publisher.new.opening ≡ publisher.old.opening }
-    ensures log { OnTrue result (publisher.new.log ++ publisher.new.pending ≡ (publisher.old.log ++ publisher.old.pending) ++ (arc_value part.now).all.items ∷ []) }
+    ensures log { OnTrue result (publisher.new.log ++ publisher.new.pending
+        ≡ (publisher.old.log ++ publisher.old.pending) ++ (arc_value part.now).all.items ∷ []) }
 {
     let Ok(part) = Arc::try_clone(part) else {
         return false;
@@ -229,8 +232,8 @@ fn append_copy(publisher: &mut Publisher<Numbers>, part: &Arc<Numbers>) -> bool
     publisher.append(part).is_ok()
 }
 
-// Publishes what is pending where that makes an even number of parts, and a searcher that learns of it looks. Answers
-// whether all went well and the look found exactly that number.
+// Publishes what is pending where that makes an even number of parts, and a searcher that learns of
+// it looks. Answers whether all went well and the look found exactly that number.
 fn publish_even<R: Wait>(
     rt: &R,
     alloc: Global,
@@ -239,8 +242,10 @@ fn publish_even<R: Wait>(
     number: u32,
 ) -> bool
     requires opening { searcher.old.opening ≡ publisher.old.opening }
-    ensures same { (publisher.new.opening ≡ publisher.old.opening) × (searcher.new.opening ≡ searcher.old.opening) }
-    ensures log { publisher.new.log ++ publisher.new.pending ≡ publisher.old.log ++ publisher.old.pending }
+    ensures same { (publisher.new.opening ≡ publisher.old.opening)
+        × (searcher.new.opening ≡ searcher.old.opening) }
+    ensures log { publisher.new.log ++ publisher.new.pending
+        ≡ publisher.old.log ++ publisher.old.pending }
 {
     if number % 2 == 1 {
         return true;
@@ -253,7 +258,8 @@ fn publish_even<R: Wait>(
     found == Ok(u64::from(number))
 }
 
-// Appends a part of one number so many times, and publishes two at a time. Answers how often it went well.
+// Appends a part of one number so many times, and publishes two at a time. Answers how often it
+// went well.
 fn publish_often<R: Wait>(
     rt: &R,
     alloc: Global,
@@ -266,7 +272,8 @@ fn publish_often<R: Wait>(
     requires one { length (arc_value part.now).all.items ≡ 1 }
     requires empty { (publisher.old.log ≡ []) × (publisher.old.pending ≡ []) }
     requires opening { searcher.old.opening ≡ publisher.old.opening }
-    ensures same { (publisher.new.opening ≡ publisher.old.opening) × (searcher.new.opening ≡ searcher.old.opening) }
+    ensures same { (publisher.new.opening ≡ publisher.old.opening)
+        × (searcher.new.opening ≡ searcher.old.opening) }
 {
     for i in 0..times {
         if !append_copy(publisher, part) {

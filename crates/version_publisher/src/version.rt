@@ -1,5 +1,7 @@
 // What a look gives.
-ghost use Rattle.std.specs.Prelude.{◌≡◌, ◌+◌, ◌≤◌, ◌<◌, ◌^◌, ◌++◌, ◌∷◌, [], map, length, IfOk, MatchResult};
+ghost use Rattle.std.specs.Prelude.{
+    ◌≡◌, ◌+◌, ◌≤◌, ◌<◌, ◌^◌, ◌++◌, ◌∷◌, [], map, length, IfOk, MatchResult,
+};
 ghost use Rattle.std.specs.Arc.{arc_value};
 ghost use Rattle.version_publisher.specs.Contents.{items_in};
 
@@ -9,7 +11,8 @@ use std::alloc::Global;
 use std::marker::Model;
 use std::sync::Arc;
 
-/// Parts that have at most [`Part::MOST`] items together, and how many parts were appended for them.
+/// Parts that have at most [`Part::MOST`] items together, and how many parts were appended for
+/// them.
 #[derive(Drop)]
 pub struct Version<P: Part> {
     number: u64,
@@ -24,9 +27,11 @@ impl<P: Part> Model for Version<P> {
 
     ghost Value = { VersionState P.Item };
 
-    ghost view = { λ v. record { number = v.number; parts = map (λ a. P.items (arc_value a)) v.parts.items } };
+    ghost view = { λ v. record {
+        number = v.number; parts = map (λ a. P.items (arc_value a)) v.parts.items } };
 
-    ghost invariant = { λ v. length (items_in (map (λ a. P.items (arc_value a)) v.parts.items)) ≤ P.MOST };
+    ghost invariant = { λ v. length
+        (items_in (map (λ a. P.items (arc_value a)) v.parts.items)) ≤ P.MOST };
 }
 
 impl<P: Part> Version<P> {
@@ -43,7 +48,8 @@ impl<P: Part> Version<P> {
     // Copies of these parts under this number.
     pub(crate) fn of(alloc: Global, number: u64, parts: &[Arc<P>]) -> Result<Version<P>, NoMemory>
         requires fits { length (items_in (map (λ a. P.items (arc_value a)) parts.now)) ≤ P.MOST }
-        ensures { IfOk result (λ v. (v.number ≡ number) × (v.parts ≡ map (λ a. P.items (arc_value a)) parts.now)) }
+        ensures { IfOk result (λ v. (v.number ≡ number)
+            × (v.parts ≡ map (λ a. P.items (arc_value a)) parts.now)) }
     {
         let parts = Vec::from_clones(alloc, parts)?;
         Ok(Version { number, parts })
@@ -66,13 +72,15 @@ impl<P: Part> Version<P> {
 
     /// Adds one part. It comes back, with the version as it was, where memory is refused.
     ///
-    /// The items of the version and the part must together be at most [`Part::MOST`], and the number
-    /// below 2^64 - 1.
+    /// The items of the version and the part must together be at most [`Part::MOST`], and the
+    /// number below 2^64 - 1.
     pub fn push(&mut self, part: Arc<P>) -> Result<(), (Arc<P>, NoMemory)>
-        requires room { length (items_in self.old.parts) + length (P.items (arc_value part)) ≤ P.MOST }
+        requires room { length (items_in self.old.parts) + length
+            (P.items (arc_value part)) ≤ P.MOST }
         requires number { self.old.number + 1 < 2 ^ 64 }
         ensures { MatchResult result
-            (λ _. (self.new.number ≡ self.old.number + 1) × (self.new.parts ≡ self.old.parts ++ P.items (arc_value part) ∷ []))
+            (λ _. (self.new.number ≡ self.old.number + 1)
+                × (self.new.parts ≡ self.old.parts ++ P.items (arc_value part) ∷ []))
             (λ e. (e.0 ≡ part) × (self.new ≡ self.old)) }
     {
         if let Err(failed) = self.parts.push(part) {

@@ -58,7 +58,11 @@ fn lines_of_statements_are_printed(rt: HostRuntime) -> Result<(), Fail> {
     print_game(12, 4294967295, 13, 65535, "c", &mut out)?;
     print_no_game(14, 15, 16, &mut out)?;
     let wanted =
-        "before\n1 import my games\n4294967295 import \u{e9}\n2 wait version 0\n3 wait version 18446744073709551615\n4 until 5 version 6\n7 until 4294967295 version 10000000000\n8 game 9 version 10 place 11 file a b.sgf\n12 game 4294967295 version 13 place 65535 file c\n14 game 15 version 16 none\n";
+        "before\n1 import my games\n4294967295 import \u{e9}\n2 wait version 0\n\
+         3 wait version 18446744073709551615\n4 until 5 version 6\n\
+         7 until 4294967295 version 10000000000\n\
+         8 game 9 version 10 place 11 file a b.sgf\n\
+         12 game 4294967295 version 13 place 65535 file c\n14 game 15 version 16 none\n";
     assert_eq!(rt; out.as_slice(), wanted.as_bytes());
     Ok(())
 }
@@ -114,7 +118,11 @@ fn a_search_with_hits_is_printed(rt: HostRuntime) -> Result<(), Fail> {
         &mut out,
     )?;
     let wanted =
-        "before\n4294967295 search version 18446744073709551615 games 4294967295 hits 5\nhit 0 0 0 0 0 -\nhit 1 7 3 4 12 B 1 0 now\nhit 2 10 18 0 15 W 18 2 later\nhit 4294967295 65535 5 18 1 B 1 0 later\nhit 4294967295 65535 6 18 8 -\nrow B 1 0 2 1 1 2 0 0\nrow W 18 2 1 0 1 0 0 1\ntotal 5 1 2 3 1 1\n";
+        "before\n\
+         4294967295 search version 18446744073709551615 games 4294967295 hits 5\n\
+         hit 0 0 0 0 0 -\nhit 1 7 3 4 12 B 1 0 now\nhit 2 10 18 0 15 W 18 2 later\n\
+         hit 4294967295 65535 5 18 1 B 1 0 later\nhit 4294967295 65535 6 18 8 -\n\
+         row B 1 0 2 1 1 2 0 0\nrow W 18 2 1 0 1 0 0 1\ntotal 5 1 2 3 1 1\n";
     assert_eq!(rt; out.as_slice(), wanted.as_bytes());
     Ok(())
 }

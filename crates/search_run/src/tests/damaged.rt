@@ -1,4 +1,5 @@
-// Damaged texts, and texts at the limits: what becomes of a file with these bytes. The offsets were counted by hand.
+// Damaged texts, and texts at the limits: what becomes of a file with these bytes. The offsets were
+// counted by hand.
 use crate::outcome::outcome_of;
 use crate::{Counts, FileOutcome};
 use game_tree::GameTree;

@@ -105,7 +105,8 @@ fn accepted_texts(rt: HostRuntime) -> Result<(), Fail> {
         ),
         // a mail, with lines that end in CR LF
         (
-            "From: Ito (Kyoto)\r\nSubject: [go] 5d;\r\n\r\n(;GM[1]FF[4]SZ[19:19]\r\n;B[pd]\r\n;W[dp])\r\n",
+            "From: Ito (Kyoto)\r\nSubject: [go] 5d;\r\n\r\n(;GM[1]FF[4]SZ[19:19]\r\n\
+             ;B[pd]\r\n;W[dp])\r\n",
             1,
         ),
         // brackets behind a game that open and close nothing
@@ -131,7 +132,8 @@ fn accepted_texts(rt: HostRuntime) -> Result<(), Fail> {
     Ok(())
 }
 
-/// Files of the path `d` with the names `0.sgf`, `1.sgf` and so on, each of so many games of one node.
+/// Files of the path `d` with the names `0.sgf`, `1.sgf` and so on, each of so many games of one
+/// node.
 fn files_of_games(alloc: Global, counts: &[u32]) -> Result<Vec<FileEntry>, Fail> {
     let mut files = Vec::new(alloc);
     for count in counts {
@@ -174,7 +176,8 @@ fn files_that_fill_the_base(rt: HostRuntime) -> Result<(), Fail> {
 
 #[test]
 fn searches_of_several_games(rt: HostRuntime) -> Result<(), Fail> {
-    // A pass, a node without a move and a board that isn't square: the points have their columns and rows.
+    // A pass, a node without a move and a board that isn't square: the points have their columns
+    // and rows.
     let files: [File; 2] = [
         ("d", "a.sgf", "(;SZ[5];B[aa])(;SZ[5:3];W[];;B[ec])"),
         ("d", "b.sgf", "(;SZ[3];W[aa];B[bb])"),

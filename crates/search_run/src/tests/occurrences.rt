@@ -1,4 +1,5 @@
-// Where patterns occur in games, from the texts of both. The nodes and the places were worked out by hand.
+// Where patterns occur in games, from the texts of both. The nodes and the places were worked out
+// by hand.
 ghost use Rattle.std.specs.Prelude.{◌≡◌, ◌<◌};
 
 use capture_board::{NodeDeltas, Steps};
@@ -15,7 +16,8 @@ use std::marker::Brand;
 use std::sync::ledger::{Blank, Ledger};
 use std::test::Fail;
 
-/// A search: whether the colours stay, whether the pattern isn't turned, the one base place, the board, the pattern.
+/// A search: whether the colours stay, whether the pattern isn't turned, the one base place, the
+/// board, the pattern.
 type Asked = (bool, bool, Option<(u8, u8)>, Option<(u8, u8)>, &'static str);
 
 /// The one point as a rectangle.
@@ -95,7 +97,8 @@ const WIDE: &str = "(;SZ[5:3]AB[aa][ba])";
 const HIGH: &str = "(;SZ[3:5]AB[aa][ba])";
 
 const HANDICAP: &str =
-    "(;GM[1]FF[4]SZ[19]HA[2]AB[dp][pd]\n;W[qp]C[Hi [3d\\]: good game]\n;B[dd](;W[pq];B[po])(;W[fc];B[cf]))";
+    "(;GM[1]FF[4]SZ[19]HA[2]AB[dp][pd]\n;W[qp]C[Hi [3d\\]: good game]\n\
+     ;B[dd](;W[pq];B[po])(;W[fc];B[cf]))";
 
 const CORNER: &str = "....../....../.....O/...X../....../..X...";
 

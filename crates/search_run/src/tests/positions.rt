@@ -1,4 +1,5 @@
-// What the nodes of games change, from the text to the changes. Worked out by hand from the rules of Go.
+// What the nodes of games change, from the text to the changes. Worked out by hand from the rules
+// of Go.
 use game_tree::build;
 use kb_geometry::Cell;
 use node_position::deltas;
@@ -16,7 +17,8 @@ fn sign_of(cell: Cell) -> char {
     }
 }
 
-/// The changes of a node of the first game of a text: each as its point's number, the cell before and the cell after.
+/// The changes of a node of the first game of a text: each as its point's number, the cell before
+/// and the cell after.
 fn changes_at(alloc: Global, text: &[u8], node: u32) -> Result<String, Fail> {
     let collection = read(alloc, text)?;
     let trees = build(alloc, text, &collection)?;

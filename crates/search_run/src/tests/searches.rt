@@ -5,8 +5,8 @@ use kb_edges::FileEntry;
 use std::alloc::Global;
 use std::test::Fail;
 
-/// The texts of the files `a.sgf`, `b.sgf` and so on, the script behind its first two lines, and what is printed from its
-/// third line on.
+/// The texts of the files `a.sgf`, `b.sgf` and so on, the script behind its first two lines, and
+/// what is printed from its third line on.
 type Case = (&'static [&'static str], &'static str, &'static str);
 
 /// The files of these texts, in the folder `d`.
@@ -55,44 +55,140 @@ const CASES: [Case; 28] = [
     (&[GAME], "search same fixed X\n", ONE_STONE_TWICE),
     (&[GAME], "search same X\n", ONE_STONE_TWICE),
     // the colours exchanged
-    (&[GAME], "search X\n", "3 search version 1 games 1 hits 3\nhit 0 1 2 2 0 -\nhit 0 2 1 2 8 -\nhit 0 3 2 1 0 -\ntotal 3 0 0 0 0 3\n"),
+    (
+        &[GAME],
+        "search X\n",
+        "3 search version 1 games 1 hits 3\nhit 0 1 2 2 0 -\nhit 0 2 1 2 8 -\n\
+         hit 0 3 2 1 0 -\ntotal 3 0 0 0 0 3\n",
+    ),
     // made by a capture
-    (&[CAPTURE], "search same .X/X.", "3 search version 1 games 1 hits 1\nhit 0 4 0 0 0 -\ntotal 1 0 0 0 0 1\n"),
-    (&[CAPTURE], "search same at 0 0 O", "3 search version 1 games 1 hits 2\nhit 0 1 0 0 0 -\nhit 0 3 2 2 3 -\ntotal 2 0 0 0 0 2\n"),
-    (&[CAPTURE], "search same fixed at 0 0 O", "3 search version 1 games 1 hits 1\nhit 0 1 0 0 0 -\ntotal 1 0 0 0 0 1\n"),
+    (
+        &[CAPTURE],
+        "search same .X/X.",
+        "3 search version 1 games 1 hits 1\nhit 0 4 0 0 0 -\ntotal 1 0 0 0 0 1\n",
+    ),
+    (
+        &[CAPTURE],
+        "search same at 0 0 O",
+        "3 search version 1 games 1 hits 2\nhit 0 1 0 0 0 -\nhit 0 3 2 2 3 -\ntotal 2 0 0 0 0 2\n",
+    ),
+    (
+        &[CAPTURE],
+        "search same fixed at 0 0 O",
+        "3 search version 1 games 1 hits 1\nhit 0 1 0 0 0 -\ntotal 1 0 0 0 0 1\n",
+    ),
     // a suicide
     (&["(;SZ[2];B[aa];B[bb];W[ab])"], "search same O\n", NOTHING_FOUND),
-    (&[MOVE_ON_A_STONE], "search same O\n", "3 search version 1 games 1 hits 1\nhit 0 2 1 1 0 -\ntotal 1 0 0 0 0 1\n"),
-    (&[MOVE_ON_A_STONE], "search same X\n", "3 search version 1 games 1 hits 1\nhit 0 1 1 1 0 W 0 0 now\nrow W 0 0 1 1 0 0 0 1\ntotal 1 1 0 0 0 1\n"),
+    (
+        &[MOVE_ON_A_STONE],
+        "search same O\n",
+        "3 search version 1 games 1 hits 1\nhit 0 2 1 1 0 -\ntotal 1 0 0 0 0 1\n",
+    ),
+    (
+        &[MOVE_ON_A_STONE],
+        "search same X\n",
+        "3 search version 1 games 1 hits 1\nhit 0 1 1 1 0 W 0 0 now\n\
+         row W 0 0 1 1 0 0 0 1\ntotal 1 1 0 0 0 1\n",
+    ),
     // a stone that stands in no last position, off the main line
-    (&[VARIATIONS], "search same O\n", "3 search version 1 games 1 hits 1\nhit 0 3 0 0 0 -\ntotal 1 0 0 0 0 1\n"),
+    (
+        &[VARIATIONS],
+        "search same O\n",
+        "3 search version 1 games 1 hits 1\nhit 0 3 0 0 0 -\ntotal 1 0 0 0 0 1\n",
+    ),
     (&[VARIATIONS], "search same main O\n", NOTHING_FOUND),
-    (&[VARIATIONS], "game 0\n", "3 game 0 version 1 place 0 file a.sgf\n(;GM[1]FF[4]SZ[3];B[bb](;B[cc])(;W[aa];AE[aa]))\n"),
-    (&[VARIATIONS, "(;SZ[3];B[bb])"], "search same O\n", "3 search version 1 games 2 hits 1\nhit 0 3 0 0 0 -\ntotal 1 0 0 0 0 1\n"),
-    (&[KO_TWICE], "search same fixed at 1 1 .X\n", "3 search version 1 games 1 hits 2\nhit 0 1 1 1 0 W 0 0 now\nhit 0 3 1 1 0 W 0 0 now\nrow W 0 0 2 2 0 0 0 2\ntotal 2 2 0 0 0 2\n"),
+    (
+        &[VARIATIONS],
+        "game 0\n",
+        "3 game 0 version 1 place 0 file a.sgf\n(;GM[1]FF[4]SZ[3];B[bb](;B[cc])(;W[aa];AE[aa]))\n",
+    ),
+    (
+        &[VARIATIONS, "(;SZ[3];B[bb])"],
+        "search same O\n",
+        "3 search version 1 games 2 hits 1\nhit 0 3 0 0 0 -\ntotal 1 0 0 0 0 1\n",
+    ),
+    (
+        &[KO_TWICE],
+        "search same fixed at 1 1 .X\n",
+        "3 search version 1 games 1 hits 2\nhit 0 1 1 1 0 W 0 0 now\n\
+         hit 0 3 1 1 0 W 0 0 now\nrow W 0 0 2 2 0 0 0 2\ntotal 2 2 0 0 0 2\n",
+    ),
     // no place twice
-    (&["(;SZ[2];B[aa];W[ba])"], "search XO\n", "3 search version 1 games 1 hits 1\nhit 0 2 0 0 0 -\ntotal 1 0 0 0 0 1\n"),
-    (&["(;SZ[2];B[aa];W[ba])"], "search at 0 0 XO\n", "3 search version 1 games 1 hits 1\nhit 0 2 0 0 0 -\ntotal 1 0 0 0 0 1\n"),
+    (
+        &["(;SZ[2];B[aa];W[ba])"],
+        "search XO\n",
+        "3 search version 1 games 1 hits 1\nhit 0 2 0 0 0 -\ntotal 1 0 0 0 0 1\n",
+    ),
+    (
+        &["(;SZ[2];B[aa];W[ba])"],
+        "search at 0 0 XO\n",
+        "3 search version 1 games 1 hits 1\nhit 0 2 0 0 0 -\ntotal 1 0 0 0 0 1\n",
+    ),
     // the least board
-    (&["(;SZ[1])"], "search same .\n", "3 search version 1 games 1 hits 1\nhit 0 0 0 0 0 -\ntotal 1 0 0 0 0 1\n"),
+    (
+        &["(;SZ[1])"],
+        "search same .\n",
+        "3 search version 1 games 1 hits 1\nhit 0 0 0 0 0 -\ntotal 1 0 0 0 0 1\n",
+    ),
     // wildcards alone
-    (&["(;SZ[2];B[aa])"], "search *\n", "3 search version 1 games 1 hits 4\nhit 0 0 0 0 0 B 0 0 now\nhit 0 0 1 0 0 -\nhit 0 0 0 1 0 -\nhit 0 0 1 1 0 -\nrow B 0 0 1 1 0 0 0 1\ntotal 4 1 0 0 0 4\n"),
+    (
+        &["(;SZ[2];B[aa])"],
+        "search *\n",
+        "3 search version 1 games 1 hits 4\nhit 0 0 0 0 0 B 0 0 now\nhit 0 0 1 0 0 -\n\
+         hit 0 0 0 1 0 -\nhit 0 0 1 1 0 -\nrow B 0 0 1 1 0 0 0 1\ntotal 4 1 0 0 0 4\n",
+    ),
     // boards that aren't square
-    (&[WIDE, HIGH], "search same board 5 3 XX\n", "3 search version 1 games 2 hits 1\nhit 0 0 0 0 0 -\ntotal 1 0 0 0 0 1\n"),
-    (&[WIDE, HIGH], "search same XX\n", "3 search version 1 games 2 hits 2\nhit 0 0 0 0 0 -\nhit 1 0 0 0 0 -\ntotal 2 0 0 0 0 2\n"),
+    (
+        &[WIDE, HIGH],
+        "search same board 5 3 XX\n",
+        "3 search version 1 games 2 hits 1\nhit 0 0 0 0 0 -\ntotal 1 0 0 0 0 1\n",
+    ),
+    (
+        &[WIDE, HIGH],
+        "search same XX\n",
+        "3 search version 1 games 2 hits 2\nhit 0 0 0 0 0 -\nhit 1 0 0 0 0 -\ntotal 2 0 0 0 0 2\n",
+    ),
     (&[WIDE, HIGH], "search same X/X\n", "3 search version 1 games 2 hits 0\ntotal 0 0 0 0 0 0\n"),
     // passes between
-    (&[PLAYED_LATER], "search same fixed at 0 0 X.\n", "3 search version 1 games 1 hits 1\nhit 0 1 0 0 0 W 1 0 later\nrow W 1 0 1 0 1 0 0 1\ntotal 1 0 1 0 0 1\n"),
+    (
+        &[PLAYED_LATER],
+        "search same fixed at 0 0 X.\n",
+        "3 search version 1 games 1 hits 1\nhit 0 1 0 0 0 W 1 0 later\n\
+         row W 1 0 1 0 1 0 0 1\ntotal 1 0 1 0 0 1\n",
+    ),
     // turned back and exchanged back
-    (&["(;SZ[3]RE[W+R];W[aa];B[ab])"], "search at 0 0 X.\n", "3 search version 1 games 1 hits 2\nhit 0 1 0 0 8 -\nhit 0 1 0 0 12 W 1 0 now\nrow W 1 0 1 1 0 1 0 0\ntotal 2 1 0 2 0 0\n"),
+    (
+        &["(;SZ[3]RE[W+R];W[aa];B[ab])"],
+        "search at 0 0 X.\n",
+        "3 search version 1 games 1 hits 2\nhit 0 1 0 0 8 -\nhit 0 1 0 0 12 W 1 0 now\n\
+         row W 1 0 1 1 0 1 0 0\ntotal 2 1 0 2 0 0\n",
+    ),
     // within bounds of the number of moves
-    (&[GAME], "search moves 2 3 X\n", "3 search version 1 games 1 hits 2\nhit 0 2 1 2 8 -\nhit 0 3 2 1 0 -\ntotal 2 0 0 0 0 2\n"),
+    (
+        &[GAME],
+        "search moves 2 3 X\n",
+        "3 search version 1 games 1 hits 2\nhit 0 2 1 2 8 -\nhit 0 3 2 1 0 -\ntotal 2 0 0 0 0 2\n",
+    ),
     // a block of searches
-    (&[GAME], "together\nsearch same X\nsearch same O\nend\n", "4 search version 1 games 1 hits 2\nhit 0 1 2 2 0 -\nhit 0 3 2 1 0 -\ntotal 2 0 0 0 0 2\n5 search version 1 games 1 hits 1\nhit 0 2 1 2 0 -\ntotal 1 0 0 0 0 1\n"),
+    (
+        &[GAME],
+        "together\nsearch same X\nsearch same O\nend\n",
+        "4 search version 1 games 1 hits 2\nhit 0 1 2 2 0 -\nhit 0 3 2 1 0 -\n\
+         total 2 0 0 0 0 2\n5 search version 1 games 1 hits 1\nhit 0 2 1 2 0 -\n\
+         total 1 0 0 0 0 1\n",
+    ),
     // a block with a comment in it, and a statement behind it
-    (&[GAME], "together\n# black\n\nsearch same fixed XX\nend\ngame 1\n", "6 search version 1 games 1 hits 0\ntotal 0 0 0 0 0 0\n8 game 1 version 1 none\n"),
+    (
+        &[GAME],
+        "together\n# black\n\nsearch same fixed XX\nend\ngame 1\n",
+        "6 search version 1 games 1 hits 0\ntotal 0 0 0 0 0 0\n8 game 1 version 1 none\n",
+    ),
     (&[GAME], "until 9\n", "3 until 9 version 1\n"),
-    (&[GAME, GAME], "game 1\n", "3 game 1 version 1 place 0 file b.sgf\n(;GM[1]FF[4]SZ[5];B[cc];W[bc];B[cb])\n"),
+    (
+        &[GAME, GAME],
+        "game 1\n",
+        "3 game 1 version 1 place 0 file b.sgf\n(;GM[1]FF[4]SZ[5];B[cc];W[bc];B[cb])\n",
+    ),
 ];
 
 #[test]

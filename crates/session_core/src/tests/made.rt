@@ -128,7 +128,8 @@ pub(crate) fn game_text(
     Ok(String::from_utf8(out)?)
 }
 
-/// The text of the game with a number, and behind it that of a search in a block, over the games of files.
+/// The text of the game with a number, and behind it that of a search in a block, over the games of
+/// files.
 pub(crate) fn two_texts(
     rt: &impl Abort,
     alloc: Global,

@@ -1,7 +1,7 @@
 use Rattle.std.specs.Prelude.{string_bytes}
 use Rattle.search_run.specs.Imported.{file_reports}
 use Rattle.search_run.specs.Texts.{counts_head, counts_tail}
-use Rattle.search_run.proofs.PrintLemmas.{appended_twice}
+use Rattle.kb_geometry.proofs.Lists.{appended_twice}
 use Rattle.search_run.proofs.print.print_counts.Goals as goal
 
 pub returns : goal.returns

@@ -2,7 +2,7 @@ use Rattle.std.specs.List.{flat_map}
 use Rattle.std.specs.Prelude.{string_bytes}
 use Rattle.search_run.specs.Imported.{file_reports}
 use Rattle.search_run.specs.Texts.{counts_text, file_text}
-use Rattle.search_run.proofs.PrintLemmas.{appended_twice}
+use Rattle.kb_geometry.proofs.Lists.{appended_twice}
 use Rattle.search_run.proofs.print.print_listed.Goals as goal
 
 pub returns : goal.returns

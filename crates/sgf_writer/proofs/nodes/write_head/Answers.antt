@@ -1,4 +1,4 @@
-use Rattle.sgf_writer.proofs.Appends.{appended_thrice}
+use Rattle.kb_geometry.proofs.Lists.{appended_thrice}
 use Rattle.sgf_writer.proofs.nodes.write_head.Goals as goal
 
 pub returns : goal.returns

@@ -1,7 +1,8 @@
 use Rattle.std.proofs.Common.{◌∙◌, ◌++◌, ap, codes}
 use Rattle.sgf_writer.specs.Parts.{head_text, information_text}
 use Rattle.sgf_writer.specs.Written.{text_property}
-use Rattle.sgf_writer.proofs.Appends.{appended_twice, seven_regrouped}
+use Rattle.kb_geometry.proofs.Lists.{appended_twice}
+use Rattle.sgf_writer.proofs.Appends.{seven_regrouped}
 use Rattle.sgf_writer.proofs.nodes.write_root.Goals as goal
 
 pub returns : goal.returns
