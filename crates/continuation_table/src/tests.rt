@@ -3,7 +3,7 @@ ghost use Rattle.std.specs.Prelude.{◌≡◌, ◌<◌, length};
 
 use crate::{Row, Table, Tally, next_of};
 use game_tree::{GameTree, build};
-use kb_geometry::{Colour, Label, Outcome, Rect};
+use kb_geometry::{Colour, Label, Outcome, Point, Rect};
 use node_position::deltas;
 use pattern_images::{Found, Hit, Images, Next, Pattern, PatternCell, Place, Query, images};
 use sgf_reader::read;
@@ -49,21 +49,11 @@ fn query_of(rt: &impl Abort, alloc: Global, asked: Asked) -> Result<Query, Fail>
     for byte in text.as_bytes() {
         cells.push(cell_of(*byte))?;
     }
-    Ok(Query {
-        pattern: Pattern::new(cols, rows, cells).expect(rt, "a pattern"),
-        same,
-        fixed,
-        main: false,
-        board: None,
-        from_move: 0,
-        to_move: 65_536,
-        at: corner.map(|(x, y)| Rect {
-            x0: x,
-            y0: y,
-            x1: x,
-            y1: y,
-        }),
-    })
+    let mut query = Query::new(Pattern::new(cols, rows, cells).expect(rt, "a pattern"));
+    query.same = same;
+    query.fixed = fixed;
+    query.at = corner.map(|(x, y)| Rect::of_point(Point { x, y }));
+    Ok(query)
 }
 
 // The last tree of a text.

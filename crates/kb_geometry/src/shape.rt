@@ -31,6 +31,18 @@ const STANDARD_SIDE: u8 = 19;
 impl Rect {
     ghost use Rattle.kb_geometry.specs.Board.{IsInside};
 
+    /// The rectangle that holds this point alone.
+    pub const fn of_point(p: Point) -> Rect
+        ensures { result ≡ record { x0 = p.x; y0 = p.y; x1 = p.x; y1 = p.y } }
+    {
+        Rect {
+            x0: p.x,
+            y0: p.y,
+            x1: p.x,
+            y1: p.y,
+        }
+    }
+
     /// Whether the point lies in the rectangle.
     pub fn contains(&self, p: Point) -> bool
         ensures { IsTrue result ↔ IsInside self.now p }

@@ -4,7 +4,7 @@ ghost use Rattle.std.specs.Prelude.{◌≡◌, ◌<◌};
 use crate::{Matcher, Occurrence, match_along, match_game};
 use capture_board::{NodeDeltas, Steps, Walker};
 use games::{Row, game_of};
-use kb_geometry::{Rect, Shape};
+use kb_geometry::{Point, Rect, Shape};
 use pattern_images::{Found, Pattern, PatternCell, Query, images};
 use std::alloc::Global;
 use std::fmt::Write;
@@ -24,12 +24,7 @@ type Asked = ((u8, u8, &'static str), bool, bool, Option<Rect>);
 const ANYWHERE: Option<Rect> = None;
 
 const fn at(x: u8, y: u8) -> Option<Rect> {
-    Some(Rect {
-        x0: x,
-        y0: y,
-        x1: x,
-        y1: y,
-    })
+    Some(Rect::of_point(Point { x, y }))
 }
 
 fn pattern_cell(byte: u8) -> PatternCell {
@@ -49,16 +44,11 @@ fn query_of(rt: &impl Abort, alloc: Global, asked: Asked) -> Result<Query, Fail>
     for byte in text.as_bytes() {
         cells.push(pattern_cell(*byte))?;
     }
-    Ok(Query {
-        pattern: Pattern::new(cols, rows, cells).expect(rt, "a pattern"),
-        same,
-        fixed,
-        main: false,
-        board: None,
-        from_move: 0,
-        to_move: 65_536,
-        at,
-    })
+    let mut query = Query::new(Pattern::new(cols, rows, cells).expect(rt, "a pattern"));
+    query.same = same;
+    query.fixed = fixed;
+    query.at = at;
+    Ok(query)
 }
 
 // What was found, as node, column, row and label of each.

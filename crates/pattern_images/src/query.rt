@@ -1,5 +1,5 @@
 // Queries: a pattern, and where it is looked for.
-ghost use Rattle.std.specs.Prelude.{◌≡◌, ◌↔◌, IsTrue, IfOk};
+ghost use Rattle.std.specs.Prelude.{◌≡◌, ◌↔◌, false, IsTrue, IfOk, None};
 
 use crate::Pattern;
 use kb_geometry::{Label, NoMemory, Rect, Shape};
@@ -29,6 +29,32 @@ pub struct Query {
 impl Query {
     ghost use Rattle.kb_geometry.specs.Symmetry.{number_of_label};
     ghost use Rattle.pattern_images.specs.Query.{IsForBoard, IsLabelOf};
+
+    /// The query that looks for this pattern everywhere: at all nodes of games on all boards, turned
+    /// and mirrored, and with the colours exchanged.
+    pub fn new(pattern: Pattern) -> Query
+        ensures { result ≡ record {
+            pattern = pattern;
+            same = false;
+            fixed = false;
+            main = false;
+            board = None;
+            from_move = 0;
+            to_move = 65536;
+            at = None;
+        } }
+    {
+        Query {
+            pattern,
+            same: false,
+            fixed: false,
+            main: false,
+            board: None,
+            from_move: 0,
+            to_move: 65_536,
+            at: None,
+        }
+    }
 
     // Whether the query looks on boards of this shape.
     pub(crate) fn is_for(&self, shape: Shape) -> bool

@@ -53,16 +53,11 @@ fn cells_of(alloc: Global, text: &str) -> Result<Vec<PatternCell>, Fail> {
 fn query_of(rt: &impl Abort, alloc: Global, asked: Asked) -> Result<Query, Fail> {
     let ((cols, rows, cells), same, fixed, at) = asked;
     let pattern = Pattern::new(cols, rows, cells_of(alloc, cells)?);
-    Ok(Query {
-        pattern: pattern.expect(rt, "a pattern"),
-        same,
-        fixed,
-        main: false,
-        board: None,
-        from_move: 0,
-        to_move: 65_536,
-        at,
-    })
+    let mut query = Query::new(pattern.expect(rt, "a pattern"));
+    query.same = same;
+    query.fixed = fixed;
+    query.at = at;
+    Ok(query)
 }
 
 // The cells of a class, one sign for each.

@@ -9,7 +9,7 @@ use Rattle.kb_edges.specs.Files.{File}
 use Rattle.query_script.specs.declared.statement.Placed.{Placed}
 use Rattle.search_run.specs.Course.{losses_of}
 use Rattle.search_run.specs.Lawful.{IsNextPrefix, State, at_start, nothing, one_more, waiting_text}
-use Rattle.search_run.specs.Run.{HasRun, WritesLawful, WritesPrefix, serial_rules}
+use Rattle.search_run.specs.Run.{WritesLawful, WritesPrefix, serial_rules}
 use Rattle.search_run.specs.Script.{IsScript}
 use Rattle.search_run.specs.Serial.{PrintsAll}
 use Rattle.search_run.specs.Steps.{IsKept, IsTextByKept, Kept, PassesStatement, kept_report, nothing_kept}

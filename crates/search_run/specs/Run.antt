@@ -5,24 +5,11 @@ use Rattle.kb_edges.specs.Faults.{RoseBy}
 use Rattle.kb_edges.specs.Files.{File}
 use Rattle.query_script.specs.declared.statement.Placed.{Placed}
 use Rattle.search_run.specs.Course.{ImportCourse, losses_of}
-use Rattle.search_run.specs.Lawful.{HasPrinted, IsLawful, Rules, State}
-use Rattle.search_run.specs.Steps.{IsKept, Kept}
+use Rattle.search_run.specs.Lawful.{IsLawful, Rules}
 
 -- how a run on one thread names versions: 64 files make one
 abbrev pub serial_rules : Rules
 serial_rules = record { batch = 64; serial = true }
-
--- The text so far is what these statements print, by a course whose losses are at most the rise of
--- the folder's count, and this is what is kept of the state there.
-pub record HasRun (files : List File) (placed : List Placed) (kept : Kept) (before : List ℕ)
-    (written : Option (List ℕ)) (faults_before faults_now : ℕ) : Type 0 where
-  pub state : State
-  pub is_kept : IsKept state kept
-  pub course : List ImportCourse
-  pub text : List ℕ
-  pub printed : HasPrinted files serial_rules course placed state text
-  pub written_is : written ≡ Some (before ++ text)
-  pub paid : RoseBy (losses_of course) faults_before faults_now
 
 -- A lawful output of these statements was written, by a course whose losses are at most the rise of
 -- the folder's count.

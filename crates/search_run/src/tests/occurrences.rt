@@ -4,7 +4,7 @@ ghost use Rattle.std.specs.Prelude.{◌≡◌, ◌<◌};
 
 use capture_board::{NodeDeltas, Steps};
 use game_tree::build;
-use kb_geometry::{Rect, Shape};
+use kb_geometry::{Point, Rect, Shape};
 use line_matcher::match_game;
 use node_position::deltas;
 use pattern_images::{Found, Query, images};
@@ -20,29 +20,14 @@ use std::test::Fail;
 /// board, the pattern.
 type Asked = (bool, bool, Option<(u8, u8)>, Option<(u8, u8)>, &'static str);
 
-/// The one point as a rectangle.
-fn one_point(at: (u8, u8)) -> Rect {
-    let (x, y) = at;
-    Rect {
-        x0: x,
-        y0: y,
-        x1: x,
-        y1: y,
-    }
-}
-
 fn query_of(alloc: Global, asked: Asked) -> Result<Query, Fail> {
     let (same, fixed, at, board, pattern) = asked;
-    Ok(Query {
-        pattern: read_pattern(alloc, pattern)?,
-        same,
-        fixed,
-        main: false,
-        board: board.and_then(|(cols, rows)| Shape::new(cols, rows)),
-        from_move: 0,
-        to_move: 65_536,
-        at: at.map(one_point),
-    })
+    let mut query = Query::new(read_pattern(alloc, pattern)?);
+    query.same = same;
+    query.fixed = fixed;
+    query.board = board.and_then(|(cols, rows)| Shape::new(cols, rows));
+    query.at = at.map(|(x, y)| Rect::of_point(Point { x, y }));
+    Ok(query)
 }
 
 /// What was found, as node, column, row and label of each.

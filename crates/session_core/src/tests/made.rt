@@ -4,7 +4,7 @@ ghost use Rattle.session_core.specs.Games.{HasItsChanges};
 
 use crate::{MAX_BASE_GAMES, Session, Stored};
 use game_tree::{GameTree, build};
-use kb_geometry::{Rect, Shape};
+use kb_geometry::{Point, Rect, Shape};
 use node_position::deltas;
 use pattern_images::Query;
 use pattern_syntax::read_pattern;
@@ -35,28 +35,17 @@ const LINE: u32 = 3;
 
 const VERSION: u64 = 1;
 
-fn one_point(at: (u8, u8)) -> Rect {
-    let (x, y) = at;
-    Rect {
-        x0: x,
-        y0: y,
-        x1: x,
-        y1: y,
-    }
-}
-
 fn query_of(alloc: Global, asked: Asked) -> Result<Query, Fail> {
     let (from_move, to_move) = asked.moves;
-    Ok(Query {
-        pattern: read_pattern(alloc, asked.pattern)?,
-        same: asked.same,
-        fixed: asked.fixed,
-        main: asked.main,
-        board: asked.board.and_then(|(cols, rows)| Shape::new(cols, rows)),
-        from_move,
-        to_move,
-        at: asked.at.map(one_point),
-    })
+    let mut query = Query::new(read_pattern(alloc, asked.pattern)?);
+    query.same = asked.same;
+    query.fixed = asked.fixed;
+    query.main = asked.main;
+    query.board = asked.board.and_then(|(cols, rows)| Shape::new(cols, rows));
+    query.from_move = from_move;
+    query.to_move = to_move;
+    query.at = asked.at.map(|(x, y)| Rect::of_point(Point { x, y }));
+    Ok(query)
 }
 
 /// The game with its changes.

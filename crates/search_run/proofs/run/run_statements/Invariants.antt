@@ -1,6 +1,6 @@
 use Rattle.std.proofs.Common.{◌≡◌, ◌≤◌, ◌*◌, take}
 use Rattle.kb_edges.specs.Told.{IfTold}
-use Rattle.search_run.specs.Run.{HasRun}
+use Rattle.search_run.specs.Steps.{HasRun}
 use Rattle.search_run.proofs.run.run_statements.Given as goal
 
 abbrev pub invariant-loop-statement : goal.invariant-loop-statement
