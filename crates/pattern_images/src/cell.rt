@@ -1,9 +1,7 @@
 // The cells of patterns, and lists of them.
-ghost use Rattle.std.specs.Prelude.{◌≡◌, List, IfOk};
+ghost use Rattle.std.specs.Prelude.{◌≡◌};
 
-use kb_geometry::NoMemory;
-use std::alloc::Global;
-use std::marker::Model;
+use kb_geometry::Items;
 
 /// What a pattern asks of a point.
 #[derive(Clone, Copy, Debug, PartialEq, Eq, Hash)]
@@ -40,40 +38,4 @@ impl PatternCell {
 }
 
 /// Pattern cells. Contracts see them as a list.
-#[derive(Debug, Drop)]
-pub struct CellList {
-    items: Vec<PatternCell>,
-}
-
-impl Model for CellList {
-    ghost use Rattle.std.specs.Prelude.{List};
-    ghost use Rattle.pattern_images.specs.declared.cell.PatternCell.{PatternCell};
-
-    ghost Value = { List PatternCell };
-
-    ghost view = { λ c. c.items.items };
-}
-
-impl CellList {
-    /// Holds these cells.
-    pub fn new(items: Vec<PatternCell>) -> Self
-        ensures { result ≡ items.items }
-    {
-        CellList { items }
-    }
-
-    /// The cells.
-    pub fn as_slice(&self) -> &[PatternCell]
-        ensures { result.now ≡ self.now }
-    {
-        self.items.as_slice()
-    }
-
-    /// An equal list. The only error is `NoMemory`.
-    pub fn copy(&self, alloc: Global) -> Result<CellList, NoMemory>
-        ensures { IfOk result (λ copied. copied ≡ self.now) }
-    {
-        let items = self.items.as_slice().to_vec(alloc)?;
-        Ok(CellList { items })
-    }
-}
+pub type CellList = Items<PatternCell>;

@@ -2,12 +2,11 @@
 ghost use Rattle.std.specs.Prelude.{◌≡◌};
 ghost use Rattle.query_script.specs.declared.statement.ScriptError.TheVariants.{NoMemory};
 
-use kb_geometry::{NoMemory, Text};
+use kb_geometry::{Items, NoMemory, Text};
 use pattern_images::Query;
 use std::alloc::{AllocError, AllocFailed};
 use std::error::Error;
 use std::fmt;
-use std::marker::Model;
 
 /// The most bytes that a script may have.
 pub const MAX_SCRIPT: usize = 1_048_576;
@@ -44,35 +43,7 @@ pub struct PlacedSearch {
 }
 
 /// Searches of a block. Contracts see them as a list.
-#[derive(Debug, Drop)]
-pub struct SearchList {
-    items: Vec<PlacedSearch>,
-}
-
-impl Model for SearchList {
-    ghost use Rattle.std.specs.Prelude.{List};
-    ghost use Rattle.query_script.specs.declared.statement.PlacedSearch.{PlacedSearch};
-
-    ghost Value = { List PlacedSearch };
-
-    ghost view = { λ s. s.items.items };
-}
-
-impl SearchList {
-    /// Holds these searches.
-    pub fn new(items: Vec<PlacedSearch>) -> Self
-        ensures { result ≡ items.items }
-    {
-        SearchList { items }
-    }
-
-    /// The searches.
-    pub fn as_slice(&self) -> &[PlacedSearch]
-        ensures { result.now ≡ self.now }
-    {
-        self.items.as_slice()
-    }
-}
+pub type SearchList = Items<PlacedSearch>;
 
 /// Why a script was not read.
 #[derive(Clone, Copy, Debug, PartialEq, Eq)]

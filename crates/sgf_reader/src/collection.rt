@@ -1,7 +1,5 @@
 // Raw game trees: nodes with the values of their properties, as places in the text.
-ghost use Rattle.std.specs.Prelude.{◌≡◌};
-
-use std::marker::Model;
+use kb_geometry::Items;
 
 /// A piece of the text: the bytes from `from` on, up to `to` and without it.
 #[derive(Clone, Copy, Debug, PartialEq, Eq)]
@@ -16,39 +14,6 @@ pub struct Span {
 pub struct Pair {
     pub name: Span,
     pub value: Span,
-}
-
-/// A list of items. Contracts see it as the list of what contracts see of each.
-#[derive(Debug, Drop)]
-pub struct Items<T> {
-    items: Vec<T>,
-}
-
-impl<T> Model for Items<T> {
-    ghost use Rattle.std.specs.Prelude.{List};
-    ghost use Rattle.std.specs.Coded.{coded_list};
-
-    ghost Value = { List T };
-
-    ghost coded = { coded_list T.code };
-
-    ghost view = { λ l. l.items.items };
-}
-
-impl<T> Items<T> {
-    /// The list of these items.
-    pub fn new(items: Vec<T>) -> Self
-        ensures { result ≡ items.items }
-    {
-        Items { items }
-    }
-
-    /// The items.
-    pub fn as_slice(&self) -> &[T]
-        ensures { result.now ≡ self.now }
-    {
-        self.items.as_slice()
-    }
 }
 
 /// The values of a node in order of the text.
