@@ -12,7 +12,7 @@ use Rattle.search_run.specs.Lawful.{IsNextPrefix, State, at_start, nothing, one_
 use Rattle.search_run.specs.Run.{WritesLawful, WritesPrefix, serial_rules}
 use Rattle.search_run.specs.Script.{IsScript}
 use Rattle.search_run.specs.Serial.{PrintsAll}
-use Rattle.search_run.specs.Steps.{IsKept, IsTextByKept, Kept, PassesStatement, kept_report, nothing_kept}
+use Rattle.search_run.specs.Steps.{HasRun, IsKept, IsTextByKept, Kept, PassesStatement, kept_report, nothing_kept}
 use Rattle.search_run.proofs.ImportLemmas.{RoseBy-then, losses_of-append, rose_by_none}
 use Rattle.search_run.proofs.StatementLemmas.{waiting_is}
 use Rattle.search_run.proofs.WholeOutputs.{begun-completed}
