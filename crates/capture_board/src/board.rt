@@ -21,7 +21,7 @@ mod rects;
 #[cfg(test)]
 mod tests;
 
-/// The room that each board has: the points of the greatest board.
+// The room that each board has: the points of the greatest board.
 pub(crate) const ROOM: usize = MAX_POINTS as usize;
 
 /// A board and the stones on it.
@@ -32,8 +32,8 @@ pub struct Board {
     sets: MoveSets,
 }
 
-/// The sets that a move works with: one group, and the stones that are captured. They are empty
-/// between moves, so that a move costs no more than the groups that it touches.
+// The sets that a move works with: one group, and the stones that are captured. They are empty
+// between moves, so that a move costs no more than the groups that it touches.
 #[derive(Drop)]
 struct MoveSets {
     group: PointSet,
@@ -160,7 +160,7 @@ impl Board {
     }
 }
 
-/// Empties the cells of a board of this shape, which are the first cells of a room.
+// Empties the cells of a board of this shape, which are the first cells of a room.
 pub(crate) fn empty_cells(room: &mut [Cell], shape: Shape)
     requires { point_count shape ≤ length room.old }
     ensures same_length { length room.new ≡ length room.old }
@@ -170,7 +170,7 @@ pub(crate) fn empty_cells(room: &mut [Cell], shape: Shape)
     room[..count].fill(Cell::Empty);
 }
 
-/// Takes changes of a position back.
+// Takes changes of a position back.
 fn take_back(cells: &mut [Cell], changes: &[Change])
     requires { MayBeUndone cells.old changes.now }
     ensures undone { IsUndone cells.old changes.now cells.new }
@@ -182,7 +182,7 @@ fn take_back(cells: &mut [Cell], changes: &[Change])
     }
 }
 
-/// Plays a stone of a side on a point of the position that stands in the first cells of a room.
+// Plays a stone of a side on a point of the position that stands in the first cells of a room.
 fn play_in_room(
     shape: Shape,
     room: &mut [Cell],
@@ -206,8 +206,8 @@ fn play_in_room(
     play_on(shape, &mut room[..count], sets, changed, colour, point);
 }
 
-/// Puts a cell on each point of a rectangle of the position that stands in the first cells of a
-/// room.
+// Puts a cell on each point of a rectangle of the position that stands in the first cells of a
+// room.
 fn set_in_room(shape: Shape, room: &mut [Cell], changed: &mut ChangedPoints, cell: Cell, rect: Rect)
     requires fits { point_count shape ≤ length room.old }
     requires on_board { IsRectOnBoard shape rect }
@@ -220,7 +220,7 @@ fn set_in_room(shape: Shape, room: &mut [Cell], changed: &mut ChangedPoints, cel
     set_rect(shape, &mut room[..count], changed, cell, rect);
 }
 
-/// Plays a stone of a side on a point of a position.
+// Plays a stone of a side on a point of a position.
 fn play_on(
     shape: Shape,
     cells: &mut [Cell],

@@ -62,8 +62,8 @@ impl ChangeList {
     }
 }
 
-/// Lists the changes of the points that changed, whose cells are now these, from a number on. Those of lower points are
-/// listed already.
+// Lists the changes of the points that changed, whose cells are now these, from a number on. Those of lower points are
+// listed already.
 pub(crate) fn list_changes(
     changed: &ChangedPoints,
     cells: &[Cell],

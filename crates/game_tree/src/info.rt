@@ -33,7 +33,7 @@ impl Model for Info {
 }
 
 impl Info {
-    /// The information of a game of which nothing is told.
+    // The information of a game of which nothing is told.
     #[cfg(test)]
     pub(crate) fn empty(alloc: Global) -> Self
         ensures { result ≡ no_information }
@@ -48,7 +48,7 @@ impl Info {
         }
     }
 
-    /// The information with these texts.
+    // The information with these texts.
     pub(crate) fn new(
         black: Bytes,
         white: Bytes,

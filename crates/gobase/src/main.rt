@@ -12,7 +12,7 @@ use search_run::{Status, run_serial};
 use std::env;
 use std::process::ExitCode;
 
-/// The exit code of a status.
+// The exit code of a status.
 fn code_of(status: Status) -> u8
     ensures { result ≡ exit_code status }
 {
@@ -26,7 +26,7 @@ fn code_of(status: Status) -> u8
     }
 }
 
-/// Prints the line of a status other than 0. A line that can't be printed is let go.
+// Prints the line of a status other than 0. A line that can't be printed is let go.
 fn complain(rt: &impl Eprint, status: Status) {
     let _ = match status {
         Status::Done => Ok(()),
@@ -40,7 +40,7 @@ fn complain(rt: &impl Eprint, status: Status) {
     };
 }
 
-/// The words of the command line without the program's name. Words that are no text are not lawful.
+// The words of the command line without the program's name. Words that are no text are not lawful.
 fn words_of(rt: &HostRuntime) -> Result<Vec<String>, Status> {
     let words = env::args(rt).map_err(|_| Status::BadWords)?;
     words

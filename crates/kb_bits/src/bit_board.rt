@@ -17,10 +17,10 @@ use std::marker::Model;
 /// One more than the greatest number that a set may have.
 pub const BOUND: u16 = 2704;
 
-/// How many words hold a bit for each number.
+// How many words hold a bit for each number.
 const WORDS: usize = (BOUND as usize + 63) / 64;
 
-/// What the last word may hold: its bits below the bound.
+// What the last word may hold: its bits below the bound.
 const LAST_WORD: u64 = u64::MAX >> (64 * WORDS - BOUND as usize);
 
 /// A set of numbers below `BOUND`. Each call goes over the words in use alone. A set that is handed
@@ -262,7 +262,7 @@ pub fn same_members_are_equal(one: &BitBoard, other: &BitBoard)
     let _words = &other.words;
 }
 
-/// A word moved up by some bits, filled from the word before it.
+// A word moved up by some bits, filled from the word before it.
 fn joined_word(word: u64, before: u64, bits: u16) -> u64
     requires { bits < 64 }
     ensures { IsJoined word before bits result }
@@ -271,14 +271,14 @@ fn joined_word(word: u64, before: u64, bits: u16) -> u64
     word << bits | before >> 1 >> (63 - bits)
 }
 
-/// The word with this number, 0 past the last one.
+// The word with this number, 0 past the last one.
 fn word_at(words: &[u64; WORDS], k: usize) -> u64
     ensures { result ≡ slice_index words.now k }
 {
     if k < WORDS { words[k] } else { 0 }
 }
 
-/// How many words are in use, up to the last that isn't 0, where those from `most` on are 0.
+// How many words are in use, up to the last that isn't 0, where those from `most` on are 0.
 fn words_in_use(words: &[u64; WORDS], most: usize) -> usize
     requires { most ≤ WORDS }
     ensures fewer { result ≤ most }

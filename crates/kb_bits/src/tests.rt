@@ -1,7 +1,7 @@
 // Sets at the borders of their words, shifts, walks, and sets that shrink.
 use crate::{BOUND, BitBoard};
 
-/// A set by its numbers. Those from the bound on are left out.
+// A set by its numbers. Those from the bound on are left out.
 fn set_of(numbers: &[u16]) -> BitBoard {
     let mut set = BitBoard::empty();
     for n in numbers {
@@ -12,7 +12,7 @@ fn set_of(numbers: &[u16]) -> BitBoard {
     set
 }
 
-/// The set without a number.
+// The set without a number.
 fn without(mut set: BitBoard, n: u16) -> BitBoard {
     if n < BOUND {
         set.remove(n);
@@ -20,7 +20,7 @@ fn without(mut set: BitBoard, n: u16) -> BitBoard {
     set
 }
 
-/// Whether the set has these numbers, found one after another, and no other.
+// Whether the set has these numbers, found one after another, and no other.
 fn lists(set: &BitBoard, numbers: &[u16]) -> bool {
     let mut from = 0u16;
     for n in numbers {
@@ -32,7 +32,7 @@ fn lists(set: &BitBoard, numbers: &[u16]) -> bool {
     set.next_from(from).is_none() && usize::from(set.len()) == numbers.len()
 }
 
-/// The set cleared.
+// The set cleared.
 fn cleared(mut set: BitBoard) -> BitBoard {
     set.clear();
     set

@@ -103,7 +103,7 @@ impl Shape {
         self.rows
     }
 
-    /// The shape with columns and rows exchanged.
+    // The shape with columns and rows exchanged.
     pub(crate) fn exchanged(self) -> Self
         ensures cols { cols_of result ≡ rows_of self }
         ensures rows { rows_of result ≡ cols_of self }

@@ -5,7 +5,7 @@ ghost use Rattle.pattern_syntax.specs.Text.{cell_byte};
 
 use pattern_images::PatternCell;
 
-/// Stands between two rows.
+// Stands between two rows.
 pub(crate) const SLASH: u8 = b'/';
 
 // The cell of a byte, if it is the byte of one.

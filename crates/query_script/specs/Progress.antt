@@ -49,9 +49,11 @@ pub record IsReadInside (lines : List (List ℕ)) (k : ℕ) (placed : List Place
   pub few : length searches ≤ most_searches
   pub ordered : AllPairs (λ (a : PlacedSearch) (b : PlacedSearch). a.line < b.line) searches
   pub sound : All (IsSearchBefore lines first k) searches
-  pub complete : (m : ℕ) → first < m → m < k →
+  pub complete : (m : ℕ) →
+      first < m →
+      m < k →
       ((query : _) × SpellsSearch (line_at lines m) query) →
-          Any (λ (s : PlacedSearch). s.line ≡ m) searches
+      Any (λ (s : PlacedSearch). s.line ≡ m) searches
 
 -- The block that line j begins goes on before line k, and one of its lines is bad: the least one
 -- behind line j.

@@ -50,9 +50,13 @@ pub data IsAt : Option Rect → List Word → Type 0 where
   not_given : IsAt None []
   one_point : {x y : ℕ} (a b : Word) → IsCoordinateWord a x → IsCoordinateWord b y →
       IsAt (Some (rect x y x y)) (bare (codes "at") ∷ a ∷ b ∷ [])
-  rectangle : {x0 y0 x1 y1 : ℕ} (a b c d : Word) → IsCoordinateWord a x0 → IsCoordinateWord b y0 →
+  rectangle : {x0 y0 x1 y1 : ℕ} (a b c d : Word) →
+      IsCoordinateWord a x0 →
+      IsCoordinateWord b y0 →
       IsCoordinateWord c x1 →
-      IsCoordinateWord d y1 → x0 ≤ x1 → y0 ≤ y1 →
+      IsCoordinateWord d y1 →
+      x0 ≤ x1 →
+      y0 ≤ y1 →
       IsAt (Some (rect x0 y0 x1 y1)) (bare (codes "at") ∷ a ∷ b ∷ bare (codes "to") ∷ c ∷ d ∷ [])
 
 -- the word spells the pattern

@@ -12,7 +12,7 @@ use crate::words::{without_blanks, words_of};
 use kb_geometry::NoMemory;
 use std::alloc::Global;
 
-/// A line of a script.
+// A line of a script.
 #[derive(Debug, Drop)]
 pub(crate) enum Line {
     /// It is skipped: empty, blank or a comment.
@@ -27,7 +27,7 @@ pub(crate) enum Line {
     Bad,
 }
 
-/// What a line is. It may still have its line feed. The only error is `NoMemory`.
+// What a line is. It may still have its line feed. The only error is `NoMemory`.
 pub(crate) fn read_line(alloc: Global, line: &[u8]) -> Result<Line, NoMemory>
     ensures { IfOk result (IsLine (without_end line.now)) }
 {

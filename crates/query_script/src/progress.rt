@@ -14,7 +14,7 @@ use std::alloc::Global;
 // The most searches of a block.
 const MAX_SEARCHES: usize = 8;
 
-/// A block of searches that goes on.
+// A block of searches that goes on.
 #[derive(Debug, Drop)]
 pub(crate) struct Block {
     /// The line of its `together`, from 1.
@@ -35,7 +35,7 @@ impl Block {
     }
 }
 
-/// Where reading stands between two lines.
+// Where reading stands between two lines.
 #[derive(Debug, Drop)]
 pub(crate) enum Progress {
     /// Outside blocks.
@@ -48,9 +48,9 @@ pub(crate) enum Progress {
 }
 
 impl Progress {
-    /// Where reading stands after the line with this number. A statement that is whole then is
-    /// appended to those so far. The errors are the least bad line, where it is known by now, and
-    /// `NoMemory`.
+    // Where reading stands after the line with this number. A statement that is whole then is
+    // appended to those so far. The errors are the least bad line, where it is known by now, and
+    // `NoMemory`.
     pub(crate) fn after(
         self,
         alloc: Global,

@@ -4,8 +4,8 @@ ghost use Rattle.query_script.specs.Words.{bare, bytes_of};
 
 use game_tree::Bytes;
 
-/// A word of a line: bare, or between quotes, then without these and without the `\` before a `"`
-/// or a `\`.
+// A word of a line: bare, or between quotes, then without these and without the `\` before a `"`
+// or a `\`.
 #[derive(Debug, Drop)]
 pub(crate) enum Word {
     Bare(Bytes),

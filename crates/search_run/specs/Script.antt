@@ -2,6 +2,7 @@
 use Rattle.std.specs.Prelude.{◌≡◌, ◌+◌, ◌<◌, ◌≤◌, ℕ, List, ◌++◌, length, slice_index}
 use Rattle.bstr.specs.Text.{lines_of}
 use Rattle.query_script.specs.declared.statement.Placed.{Placed}
+use Rattle.query_script.specs.Bytes.{line_feed}
 use Rattle.query_script.specs.Script.{AreGood, AreStatements, IsLeastBadLine, script_lines}
 
 -- The script is too long, and this is what stands before the line that holds the byte past the
@@ -11,8 +12,8 @@ pub record IsCut (text kept : List ℕ) : Type 0 where
   pub rest : List ℕ
   pub split : text ≡ kept ++ rest
   pub within : length kept ≤ 1048576
-  pub whole_lines : (i : ℕ) → i + 1 ≡ length kept → slice_index text i ≡ 10
-  pub one_line : (i : ℕ) → length kept ≤ i → i < 1048576 → ¬ (slice_index text i ≡ 10)
+  pub whole_lines : (i : ℕ) → i + 1 ≡ length kept → slice_index text i ≡ line_feed
+  pub one_line : (i : ℕ) → length kept ≤ i → i < 1048576 → ¬ (slice_index text i ≡ line_feed)
 
 -- Why a script is bad, and its line: the least bad one; in a script that is too long the least bad
 -- one of what stands before the line that holds the byte past the greatest length, or that line

@@ -29,10 +29,10 @@ use session_core::Stored;
 use sgf_reader::{MAX_FILE, Pair, RawNode};
 use std::alloc::Global;
 
-/// The most names that an import may have.
+// The most names that an import may have.
 pub(crate) const MAX_NAMES: usize = 100_000;
 
-/// How many files make one version.
+// How many files make one version.
 const BATCH: usize = 64;
 
 // While a file is imported this is held of each node, each value and each setup, beside its bytes
@@ -43,7 +43,7 @@ const _: () = prove!(size_of::<Pair>() == 16);
 
 const _: () = prove!(size_of::<Setup>() == 5);
 
-/// A file of an import, by its name, and what became of it.
+// A file of an import, by its name, and what became of it.
 #[derive(Debug, Drop)]
 pub(crate) struct ImportedFile {
     pub name: String,
@@ -83,7 +83,7 @@ impl ImportedFile {
     }
 }
 
-/// What an import found.
+// What an import found.
 #[derive(Debug, Drop)]
 pub(crate) enum Imported {
     /// The folder could not be listed, or isn't there.
@@ -120,8 +120,8 @@ fn are_too_many(names: &[String]) -> bool
     names.len() > MAX_NAMES
 }
 
-/// Imports the files of a path whose names end in `.sgf`, in a base with these counts. Hands back
-/// what was found, and the counts with the games that are to be added.
+// Imports the files of a path whose names end in `.sgf`, in a base with these counts. Hands back
+// what was found, and the counts with the games that are to be added.
 pub(crate) fn import<F: Folder>(
     alloc: Global,
     folder: &mut F,

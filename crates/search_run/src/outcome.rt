@@ -33,7 +33,7 @@ pub enum FileOutcome {
     Unread,
 }
 
-/// What becomes of a file with these bytes, and the games that it adds.
+// What becomes of a file with these bytes, and the games that it adds.
 pub(crate) fn outcome_of(
     alloc: Global,
     bytes: &[u8],
@@ -90,7 +90,7 @@ fn nodes_of(trees: &[GameTree]) -> u64
     nodes
 }
 
-/// The counts of a base with the games more that a file with this outcome adds.
+// The counts of a base with the games more that a file with this outcome adds.
 pub(crate) fn with_added(before: Counts, outcome: FileOutcome, games: &[GameTree]) -> Counts
     requires { IsAdded before outcome games.now }
     ensures { result ≡ with_games before games.now }

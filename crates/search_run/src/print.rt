@@ -207,7 +207,7 @@ fn print_too_many(out: &mut String, line: u32, names: usize) -> Result<(), NoMem
     Ok(())
 }
 
-/// Prints the report of an import: what was found, and the version after it.
+// Prints the report of an import: what was found, and the version after it.
 pub(crate) fn print_report(
     out: &mut String,
     line: u32,

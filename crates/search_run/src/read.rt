@@ -11,7 +11,7 @@ use kb_edges::{ReadFailed, Source};
 use query_script::MAX_SCRIPT;
 use std::alloc::{AllocError, Global};
 
-/// Why a script was not read.
+// Why a script was not read.
 #[derive(Clone, Copy, Debug, PartialEq, Eq)]
 pub(crate) enum ReadScriptError {
     /// A read failed.
@@ -36,7 +36,7 @@ impl From<AllocError> for ReadScriptError {
     }
 }
 
-/// How many bytes are read at once.
+// How many bytes are read at once.
 const PIECE: usize = 4096;
 
 // Reads into a piece, and adds what came to a text. None is the end.
@@ -62,7 +62,7 @@ fn read_piece<S: Source>(
     Ok(count)
 }
 
-/// Reads a script to its end, or one byte past its greatest length.
+// Reads a script to its end, or one byte past its greatest length.
 pub(crate) fn read_text<S: Source>(
     alloc: Global,
     script: &mut S,

@@ -13,7 +13,7 @@ use query_script::{MAX_SCRIPT, Placed};
 use session_core::Session;
 use std::alloc::Global;
 
-/// Why a run stopped.
+// Why a run stopped.
 #[derive(Clone, Copy, Debug, PartialEq, Eq)]
 pub(crate) enum Stopped {
     /// A write failed.
@@ -45,7 +45,7 @@ impl From<SinkError> for Stopped {
     }
 }
 
-/// Runs statements in order, and writes the text of each.
+// Runs statements in order, and writes the text of each.
 pub(crate) fn run_statements<F: Folder, K: Sink>(
     alloc: Global,
     placed: &[Placed],

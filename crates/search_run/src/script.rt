@@ -7,11 +7,11 @@ use bstr::ByteSlice;
 use query_script::{MAX_SCRIPT, Placed, ScriptError, read_script};
 use std::alloc::Global;
 
-/// Reads a script of which at most one byte past the greatest length is at hand.
-///
-/// The answer has the script's statements. The error names the line that is bad: the least bad one;
-/// in a script that is too long the least bad one before the line that holds the byte past the
-/// greatest length, or else that line. The only other error is `NoMemory`.
+// Reads a script of which at most one byte past the greatest length is at hand.
+//
+// The answer has the script's statements. The error names the line that is bad: the least bad one;
+// in a script that is too long the least bad one before the line that holds the byte past the
+// greatest length, or else that line. The only other error is `NoMemory`.
 pub(crate) fn read_whole(alloc: Global, text: &[u8]) -> Result<Vec<Placed>, ScriptError>
     requires { length text.now ≤ 1048577 }
     ensures script { IfOk result (λ placed. IsScript text.now placed.items) }

@@ -16,7 +16,7 @@ use session_core::{Session, Stored};
 use std::alloc::Global;
 use std::marker::Model;
 
-/// Where a run stands between two statements.
+// Where a run stands between two statements.
 #[derive(Debug, Drop)]
 pub(crate) struct Standing {
     version: u64,

@@ -13,10 +13,10 @@ mod occurrences;
 mod positions;
 mod searches;
 
-/// A file: its path, its name and its text.
+// A file: its path, its name and its text.
 type File = (&'static str, &'static str, &'static str);
 
-/// Three moves on five by five points, of which Black makes the first and the last.
+// Three moves on five by five points, of which Black makes the first and the last.
 const GAME: &str = "(;GM[1]FF[4]SZ[5];B[cc];W[bc];B[cb])";
 
 const ONE_GAME: [File; 1] = [("d", "a.sgf", GAME)];
@@ -27,8 +27,8 @@ const THREE_GAMES: [File; 3] = [
     ("d", "c.sgf", GAME),
 ];
 
-/// The calls that fail, numbered from 0. The first call of a folder is the list of an import, then
-/// come its reads.
+// The calls that fail, numbered from 0. The first call of a folder is the list of an import, then
+// come its reads.
 #[derive(Clone, Copy)]
 struct Faults<'a> {
     folder: &'a [u32],
@@ -42,8 +42,8 @@ const NO_FAULTS: Faults<'static> = Faults {
     sink: &[],
 };
 
-/// How a run ended: what was written, how many bytes of the script were left, and how many files
-/// the folder that was handed back has.
+// How a run ended: what was written, how many bytes of the script were left, and how many files
+// the folder that was handed back has.
 #[derive(Debug, Drop)]
 struct Ended {
     status: Status,
@@ -83,7 +83,7 @@ fn run_words(
     })
 }
 
-/// A run without words.
+// A run without words.
 fn run(alloc: Global, files: &[File], script: &str, faults: Faults<'_>) -> Result<Ended, Fail> {
     let entries = entries(alloc, files)?;
     run_words(
@@ -95,7 +95,7 @@ fn run(alloc: Global, files: &[File], script: &str, faults: Faults<'_>) -> Resul
     )
 }
 
-/// A run of some line, and then of a line that is repeated.
+// A run of some line, and then of a line that is repeated.
 fn run_repeated(alloc: Global, first: &str, line: &str, count: u32) -> Result<Ended, Fail> {
     let mut script = first.as_bytes().to_vec(alloc)?;
     for _ in 0..count {
@@ -271,8 +271,8 @@ fn games_in_order_of_their_names(rt: HostRuntime) -> Result<(), Fail> {
     expect_outputs(&rt, rt.alloc(), &files, &cases)
 }
 
-/// Files of the path `d` with the names `100000.sgf`, `100001.sgf` and so on, and notes. All are
-/// games but the one of the name `100063.sgf`.
+// Files of the path `d` with the names `100000.sgf`, `100001.sgf` and so on, and notes. All are
+// games but the one of the name `100063.sgf`.
 fn numbered_files(alloc: Global, count: u32) -> Result<Vec<FileEntry>, Fail> {
     let mut files = entries(alloc, &[("d", "notes.txt", "hello")])?;
     for number in 0..count {
@@ -496,7 +496,7 @@ fn scripts_that_are_bad(rt: HostRuntime) -> Result<(), Fail> {
     Ok(())
 }
 
-/// A comment of 64 bytes with its line feed, of which 16,384 are as long as a script may be.
+// A comment of 64 bytes with its line feed, of which 16,384 are as long as a script may be.
 const COMMENT: &str = "# The longest script has 16,384 lines that are as long as this.\n";
 
 #[test]

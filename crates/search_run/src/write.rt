@@ -6,7 +6,7 @@ ghost use Rattle.kb_edges.specs.Told.{IfTold};
 
 use kb_edges::{Sink, SinkError};
 
-/// Writes a text whole. After an error a prefix of it is written.
+// Writes a text whole. After an error a prefix of it is written.
 pub(crate) fn write_all<K: Sink>(out: &mut K, text: &[u8]) -> Result<(), SinkError>
     ensures whole { IfTold (K.written out.old)
         (λ before. OnOk result (K.written out.new ≡ Some (before ++ text.now))) }

@@ -20,8 +20,8 @@ use std::alloc::Global;
 use std::marker::Brand;
 use std::sync::ledger::{Blank, Ledger};
 
-/// The hits of a query in games, which are numbered from 0. They stand by game, then by node, then
-/// in the order of the placements. The only error is `NoMemory`.
+// The hits of a query in games, which are numbered from 0. They stand by game, then by node, then
+// in the order of the placements. The only error is `NoMemory`.
 pub(crate) fn hits_of(alloc: Global, query: &Query, games: &[Stored]) -> Result<Vec<Hit>, NoMemory>
     requires most { length games.now ≤ 400000 }
     requires changes { All HasItsChanges games.now }

@@ -61,7 +61,7 @@ const VARIATION: Files = &[("a.sgf", "(;SZ[3];B[aa];W[bb](;B[cc])(;B[ca]))")];
 
 const NONE: &str = "3 search version 1 games 1 hits 0\ntotal 0 0 0 0 0 0\n";
 
-/// Each search over the games of its files has the wanted text.
+// Each search over the games of its files has the wanted text.
 fn have_texts(rt: &impl Abort, alloc: Global, cases: &[(Files, Asked, &str)]) -> Result<(), Fail> {
     for (files, asked, wanted) in cases {
         let text = search_text(rt, alloc, *files, *asked)?;

@@ -50,7 +50,7 @@ pub fn find_captured(shape: Shape, cells: &[Cell], side: Colour, point: u16, set
     }
 }
 
-/// Adds the group of a point to the captured stones, if this stone stands there and the group has no liberty.
+// Adds the group of a point to the captured stones, if this stone stands there and the group has no liberty.
 fn add_surrounded(shape: Shape, cells: &[Cell], touching: u16, stone: Cell, sets: &mut MoveSets)
     requires whole { length cells.now ≡ point_count shape }
     requires on_board { touching < point_count shape }

@@ -34,7 +34,7 @@ pub fn find_surrounded(shape: Shape, cells: &[Cell], start: u16, group: &mut Poi
     true
 }
 
-/// Adds the neighbours of a point that have this cell, up to the first empty neighbour. Answers whether there is one.
+// Adds the neighbours of a point that have this cell, up to the first empty neighbour. Answers whether there is one.
 fn add_neighbours(
     shape: Shape,
     cells: &[Cell],

@@ -90,7 +90,7 @@ impl PointSet {
     }
 }
 
-/// Removes the marks of these points.
+// Removes the marks of these points.
 fn unmark(points: &[u16], has: &mut [bool])
     requires { All (λ p. p < length has.old) points.now }
     ensures { IsUnmarked points.now has.old has.new }

@@ -29,7 +29,7 @@ pub fn set_rect(
     }
 }
 
-/// Puts a cell on the points from the first number to the last.
+// Puts a cell on the points from the first number to the last.
 fn set_run(cells: &mut [Cell], changed: &mut ChangedPoints, cell: Cell, first: u16, last: u16)
     requires order { first ≤ last }
     requires on_board { last < length cells.old }

@@ -8,8 +8,8 @@ ghost use Rattle.capture_board.specs.Changes.{LeadFrom};
 use super::*;
 use std::process::Abort;
 
-/// A move: columns, rows, the board row by row with `X` for Black and `O` for White, the side, the
-/// column and the row of its point, and the board after it.
+// A move: columns, rows, the board row by row with `X` for Black and `O` for White, the side, the
+// column and the row of its point, and the board after it.
 type Case = (u8, u8, &'static str, Colour, u8, u8, &'static str);
 
 fn cell_of(byte: u8) -> Cell {
@@ -20,7 +20,7 @@ fn cell_of(byte: u8) -> Cell {
     }
 }
 
-/// Puts the stones of a picture on a board, row by row.
+// Puts the stones of a picture on a board, row by row.
 fn set_up(shape: Shape, picture: &str) -> Board
     ensures { result.shape ≡ shape }
 {
@@ -34,7 +34,7 @@ fn set_up(shape: Shape, picture: &str) -> Board
     board
 }
 
-/// Puts a cell on one point.
+// Puts a cell on one point.
 fn put_one(board: &mut Board, changes: &mut ChangeList, number: u16, cell: Cell)
     requires { number < point_count board.old.shape }
     ensures { board.new.shape ≡ board.old.shape }
@@ -53,7 +53,7 @@ fn put_one(board: &mut Board, changes: &mut ChangeList, number: u16, cell: Cell)
     );
 }
 
-/// Plays a move with a cleared list.
+// Plays a move with a cleared list.
 fn play_one(board: &mut Board, changes: &mut ChangeList, colour: Colour, point: Option<Point>)
     requires { IfSome point (λ (p : Point). IsOnBoard board.old.shape p) }
     ensures shape { board.new.shape ≡ board.old.shape }
@@ -63,7 +63,7 @@ fn play_one(board: &mut Board, changes: &mut ChangeList, colour: Colour, point: 
     board.play(colour, point, changes);
 }
 
-/// Whether the board looks like the picture.
+// Whether the board looks like the picture.
 fn shows(board: &Board, shape: Shape, picture: &str) -> bool
     requires { board.now.shape ≡ shape }
 {
@@ -79,7 +79,7 @@ fn shows(board: &Board, shape: Shape, picture: &str) -> bool
     true
 }
 
-/// Whether these are the points at which two pictures differ, in order, with the cells of both.
+// Whether these are the points at which two pictures differ, in order, with the cells of both.
 fn are_differences(changes: &[Change], before: &str, after: &str) -> bool {
     let mut rest = changes;
     for (number, (old, new)) in before.bytes().zip(after.bytes()).enumerate() {
@@ -247,15 +247,15 @@ fn lines(rt: HostRuntime) {
     }
 }
 
-/// Stones of one cell on a rectangle: its upper left corner's column and row, and those of its
-/// lower right corner.
+// Stones of one cell on a rectangle: its upper left corner's column and row, and those of its
+// lower right corner.
 type Laid = (Cell, u8, u8, u8, u8);
 
-/// Columns, rows, two rectangles that are laid, the side that plays, the column and the row of its
-/// point, and the first and the last of the points that it captures.
+// Columns, rows, two rectangles that are laid, the side that plays, the column and the row of its
+// point, and the first and the last of the points that it captures.
 type LargeCase = (u8, u8, [Laid; 2], Colour, u8, u8, u16, u16);
 
-/// Lays a rectangle that is on the board.
+// Lays a rectangle that is on the board.
 fn lay(board: &mut Board, shape: Shape, changes: &mut ChangeList, laid: Laid)
     requires { board.old.shape ≡ shape }
     ensures { board.new.shape ≡ shape }
@@ -267,7 +267,7 @@ fn lay(board: &mut Board, shape: Shape, changes: &mut ChangeList, laid: Laid)
     }
 }
 
-/// The board with these rectangles.
+// The board with these rectangles.
 fn laid(shape: Shape, rects: [Laid; 2]) -> Board
     ensures { result.shape ≡ shape }
 {
@@ -279,8 +279,8 @@ fn laid(shape: Shape, rects: [Laid; 2]) -> Board
     board
 }
 
-/// Whether a board is another one with a stone on a point, and without the stones from a first to a
-/// last point.
+// Whether a board is another one with a stone on a point, and without the stones from a first to a
+// last point.
 fn is_with(
     board: &Board,
     before: &Board,
@@ -307,8 +307,8 @@ fn is_with(
     true
 }
 
-/// Whether these are, by point ascending, a stone put on an empty point, and stones of the other
-/// side taken from each point of a range.
+// Whether these are, by point ascending, a stone put on an empty point, and stones of the other
+// side taken from each point of a range.
 fn are_captures(
     changes: &[Change],
     point: u16,

@@ -7,8 +7,8 @@ use crate::board::ROOM;
 use kb_bits::BitBoard;
 use kb_geometry::Cell;
 
-/// The points whose cells aren't those of an earlier position, and the cells that these had there.
-/// What stands for other points means nothing, so that a clear costs little.
+// The points whose cells aren't those of an earlier position, and the cells that these had there.
+// What stands for other points means nothing, so that a clear costs little.
 #[derive(Drop)]
 pub(crate) struct ChangedPoints {
     pub(crate) points: BitBoard,
@@ -54,7 +54,7 @@ impl ChangedPoints {
     }
 }
 
-/// Puts a cell on a point, and notes it where that is a change.
+// Puts a cell on a point, and notes it where that is a change.
 pub(crate) fn put(cells: &mut [Cell], changed: &mut ChangedPoints, point: u16, cell: Cell)
     requires on_board { point < length cells.old }
     requires fits { length cells.old ≤ ROOM }

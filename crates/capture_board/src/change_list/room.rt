@@ -7,7 +7,7 @@ use crate::board::ROOM;
 use kb_geometry::{Cell, Change};
 use std::marker::Model;
 
-/// Room for one change of each point.
+// Room for one change of each point.
 #[derive(Drop)]
 pub(crate) struct ChangeRoom {
     changes: [Change; ROOM],
@@ -76,7 +76,7 @@ impl ChangeRoom {
     }
 }
 
-/// How many changes are on points below a number, of changes by point ascending. It looks at the others alone.
+// How many changes are on points below a number, of changes by point ascending. It looks at the others alone.
 fn len_below(changes: &[Change], from: u16) -> usize
     requires { AllPairs (λ (c d : Change). c.point < d.point) changes.now }
     ensures most { result ≤ length changes.now }

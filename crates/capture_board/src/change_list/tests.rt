@@ -7,7 +7,7 @@ use crate::{Board, ChangeList};
 use kb_geometry::{Cell, Change, Colour, Point, Rect, Shape};
 use std::process::Abort;
 
-/// What is done to a board, or to the list.
+// What is done to a board, or to the list.
 #[derive(Clone, Copy)]
 enum Step {
     Play(Colour, u8, u8),
@@ -19,7 +19,7 @@ enum Step {
 
 use Step::{Clear, Pass, Play, Set};
 
-/// Columns, rows, the steps, and the changes that are listed then: point, old cell and new cell.
+// Columns, rows, the steps, and the changes that are listed then: point, old cell and new cell.
 type Case = (u8, u8, [Step; 5], [Option<(u16, Cell, Cell)>; 4]);
 
 fn run(board: &mut Board, shape: Shape, changes: &mut ChangeList, step: Step)
@@ -44,7 +44,7 @@ fn run(board: &mut Board, shape: Shape, changes: &mut ChangeList, step: Step)
     }
 }
 
-/// Takes the listed changes back.
+// Takes the listed changes back.
 fn undo(board: &mut Board, shape: Shape, changes: &ChangeList)
     requires shape { board.old.shape ≡ shape }
     requires leads { (base : Position) × LeadFrom base changes.now board.old.position }
@@ -53,7 +53,7 @@ fn undo(board: &mut Board, shape: Shape, changes: &ChangeList)
     board.undo(changes.as_slice());
 }
 
-/// The cells of a board of at most nine points.
+// The cells of a board of at most nine points.
 fn cells_of(board: &Board, shape: Shape) -> [Cell; 9]
     requires { board.now.shape ≡ shape }
 {
@@ -66,7 +66,7 @@ fn cells_of(board: &Board, shape: Shape) -> [Cell; 9]
     cells
 }
 
-/// Whether these are the changes that a case lists.
+// Whether these are the changes that a case lists.
 fn are(changes: &[Change], listed: &[Option<(u16, Cell, Cell)>]) -> bool {
     let mut rest = changes;
     for one in listed {

@@ -7,7 +7,7 @@ use kb_edges::{FileEntry, MemoryFolder};
 use std::alloc::Global;
 use std::test::Fail;
 
-/// The import of one file `a.sgf` of this text, and what its report says.
+// The import of one file `a.sgf` of this text, and what its report says.
 fn import_text(alloc: Global, text: Vec<u8>) -> Result<Ended, Fail> {
     let mut files = Vec::new(alloc);
     files.push(FileEntry {
@@ -24,7 +24,7 @@ fn import_text(alloc: Global, text: Vec<u8>) -> Result<Ended, Fail> {
     )
 }
 
-/// The report of one file that is refused, with the fault's word and its offset.
+// The report of one file that is refused, with the fault's word and its offset.
 fn refused_report(alloc: Global, fault: &str) -> Result<String, Fail> {
     Ok(format!(in alloc;
         "1 import d\n\
@@ -57,7 +57,7 @@ fn refused_texts(rt: HostRuntime) -> Result<(), Fail> {
     Ok(())
 }
 
-/// A text with a piece that is repeated.
+// A text with a piece that is repeated.
 fn repeated(
     alloc: Global,
     before: &str,
@@ -132,8 +132,8 @@ fn accepted_texts(rt: HostRuntime) -> Result<(), Fail> {
     Ok(())
 }
 
-/// Files of the path `d` with the names `0.sgf`, `1.sgf` and so on, each of so many games of one
-/// node.
+// Files of the path `d` with the names `0.sgf`, `1.sgf` and so on, each of so many games of one
+// node.
 fn files_of_games(alloc: Global, counts: &[u32]) -> Result<Vec<FileEntry>, Fail> {
     let mut files = Vec::new(alloc);
     for count in counts {

@@ -5,11 +5,11 @@ use kb_edges::{Folder, FolderError, MemoryFolder, MemorySink, MemorySource};
 use std::alloc::Global;
 use std::test::Fail;
 
-/// The text of each file: a game without a move.
+// The text of each file: a game without a move.
 const GAME: &[u8; 3] = b"(;)";
 
-/// The names of a folder in memory, and one game under each of them. It tells nothing of its files,
-/// so no read looks for a name.
+// The names of a folder in memory, and one game under each of them. It tells nothing of its files,
+// so no read looks for a name.
 #[derive(Drop)]
 struct OneGameUnderEachName {
     names: MemoryFolder,

@@ -16,8 +16,8 @@ use std::marker::Brand;
 use std::sync::ledger::{Blank, Ledger};
 use std::test::Fail;
 
-/// A search: whether the colours stay, whether the pattern isn't turned, the one base place, the
-/// board, the pattern.
+// A search: whether the colours stay, whether the pattern isn't turned, the one base place, the
+// board, the pattern.
 type Asked = (bool, bool, Option<(u8, u8)>, Option<(u8, u8)>, &'static str);
 
 fn query_of(alloc: Global, asked: Asked) -> Result<Query, Fail> {
@@ -30,7 +30,7 @@ fn query_of(alloc: Global, asked: Asked) -> Result<Query, Fail> {
     Ok(query)
 }
 
-/// What was found, as node, column, row and label of each.
+// What was found, as node, column, row and label of each.
 fn shown(alloc: Global, found: &[Found]) -> Result<String, Fail> {
     let mut text = String::new(alloc);
     for Found { node, place } in found {
@@ -59,7 +59,7 @@ fn found_counted<L: Ledger>(
     shown(alloc, &found)
 }
 
-/// Where the pattern begins to hold in the first game of a text.
+// Where the pattern begins to hold in the first game of a text.
 fn occurrences(alloc: Global, text: &[u8], asked: Asked) -> Result<String, Fail> {
     let query = query_of(alloc, asked)?;
     let collection = read(alloc, text)?;

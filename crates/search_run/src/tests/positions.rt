@@ -8,7 +8,7 @@ use std::alloc::Global;
 use std::fmt::Write;
 use std::test::Fail;
 
-/// A cell as a sign: `.` for an empty one, `X` for Black, `O` for White.
+// A cell as a sign: `.` for an empty one, `X` for Black, `O` for White.
 fn sign_of(cell: Cell) -> char {
     match cell {
         Cell::Empty => '.',
@@ -17,8 +17,8 @@ fn sign_of(cell: Cell) -> char {
     }
 }
 
-/// The changes of a node of the first game of a text: each as its point's number, the cell before
-/// and the cell after.
+// The changes of a node of the first game of a text: each as its point's number, the cell before
+// and the cell after.
 fn changes_at(alloc: Global, text: &[u8], node: u32) -> Result<String, Fail> {
     let collection = read(alloc, text)?;
     let trees = build(alloc, text, &collection)?;

@@ -5,11 +5,11 @@ use kb_edges::FileEntry;
 use std::alloc::Global;
 use std::test::Fail;
 
-/// The texts of the files `a.sgf`, `b.sgf` and so on, the script behind its first two lines, and
-/// what is printed from its third line on.
+// The texts of the files `a.sgf`, `b.sgf` and so on, the script behind its first two lines, and
+// what is printed from its third line on.
 type Case = (&'static [&'static str], &'static str, &'static str);
 
-/// The files of these texts, in the folder `d`.
+// The files of these texts, in the folder `d`.
 fn files_of(alloc: Global, texts: &[&str]) -> Result<Vec<FileEntry>, Fail> {
     let mut files = Vec::new(alloc);
     for (text, letter) in texts.iter().zip(["a", "b", "c"]) {
@@ -22,7 +22,7 @@ fn files_of(alloc: Global, texts: &[&str]) -> Result<Vec<FileEntry>, Fail> {
     Ok(files)
 }
 
-/// What is printed where each file has one game and is accepted.
+// What is printed where each file has one game and is accepted.
 fn whole_output(alloc: Global, games: usize, behind: &str) -> Result<String, Fail> {
     Ok(format!(in alloc;
         "1 import d\n\

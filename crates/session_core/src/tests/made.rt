@@ -14,10 +14,10 @@ use std::alloc::Global;
 use std::process::Abort;
 use std::test::Fail;
 
-/// Files: the name of each, and its text.
+// Files: the name of each, and its text.
 pub(crate) type Files = &'static [(&'static str, &'static str)];
 
-/// A search: its options and its pattern.
+// A search: its options and its pattern.
 #[derive(Clone, Copy)]
 pub(crate) struct Asked {
     pub same: bool,
@@ -30,7 +30,7 @@ pub(crate) struct Asked {
     pub pattern: &'static str,
 }
 
-/// The line and the version that the answers tell.
+// The line and the version that the answers tell.
 const LINE: u32 = 3;
 
 const VERSION: u64 = 1;
@@ -48,7 +48,7 @@ fn query_of(alloc: Global, asked: Asked) -> Result<Query, Fail> {
     Ok(query)
 }
 
-/// The game with its changes.
+// The game with its changes.
 fn stored(alloc: Global, file: &str, place: u32, tree: GameTree) -> Result<Stored, Fail>
     ensures { IfOk result (λ stored. HasItsChanges stored) }
 {
@@ -61,7 +61,7 @@ fn stored(alloc: Global, file: &str, place: u32, tree: GameTree) -> Result<Store
     })
 }
 
-/// Adds the games of a file.
+// Adds the games of a file.
 fn add_file(alloc: Global, file: &str, text: &[u8], games: &mut Vec<Stored>) -> Result<(), Fail>
     requires { All HasItsChanges games.old.items }
     ensures { OnOk result (All HasItsChanges games.new.items) }
@@ -75,7 +75,7 @@ fn add_file(alloc: Global, file: &str, text: &[u8], games: &mut Vec<Stored>) -> 
     Ok(())
 }
 
-/// The games of files.
+// The games of files.
 fn games_of(alloc: Global, files: Files) -> Result<Vec<Stored>, Fail>
     ensures { IfOk result (λ games. All HasItsChanges games.items) }
 {
@@ -86,7 +86,7 @@ fn games_of(alloc: Global, files: Files) -> Result<Vec<Stored>, Fail>
     Ok(games)
 }
 
-/// The text of a search over the games of files.
+// The text of a search over the games of files.
 pub(crate) fn search_text(
     rt: &impl Abort,
     alloc: Global,
@@ -102,7 +102,7 @@ pub(crate) fn search_text(
     Ok(String::from_utf8(out)?)
 }
 
-/// The text of the game with a number among the games of files.
+// The text of the game with a number among the games of files.
 pub(crate) fn game_text(
     rt: &impl Abort,
     alloc: Global,
@@ -117,8 +117,8 @@ pub(crate) fn game_text(
     Ok(String::from_utf8(out)?)
 }
 
-/// The text of the game with a number, and behind it that of a search in a block, over the games of
-/// files.
+// The text of the game with a number, and behind it that of a search in a block, over the games of
+// files.
 pub(crate) fn two_texts(
     rt: &impl Abort,
     alloc: Global,
