@@ -1,0 +1,6 @@
+pub mod ByteOrder
+pub mod MainMoves
+pub mod Pairs
+pub mod PatternImages
+mod SoFar
+pub mod Turnings
