@@ -29,7 +29,7 @@ module _ (shape : Shape) (signature : List ℕ) (on : IsSignatureOn shape signat
   pub image-again : (image other : List ℕ) → IsImage shape signature image → IsImage shape image other → IsImage shape signature other
   image-again image other first second =
       let one : AreJoined shape first.number second.number =
-          joined shape first.number second.number first.is_symmetry second.is_symmetry first.is_allowed second.is_allowed in
+      joined shape first.number second.number first.is_symmetry second.is_symmetry first.is_allowed second.is_allowed in
       record {
         number = one.number;
         is_symmetry = one.is_symmetry;
@@ -37,17 +37,17 @@ module _ (shape : Shape) (signature : List ℕ) (on : IsSignatureOn shape signat
         is_moved = record {
           twelve = second.is_moved.twelve;
           each = λ place lt.
-            let (p, told, inside) = on.each place lt in
-            let (q, told_q, moved_q) = first.is_moved.each place lt in
-            let (r, told_r, moved_r) = second.is_moved.each place lt in
-            let q_is : q ≡ p = IsPair-only q p _ _ told_q told in
-            let r_is : r ≡ option_map (moved first.number shape) p =
-                IsPair-only r (option_map (moved first.number shape) q) _ _ told_r moved_q
-                ∙ ap (option_map (moved first.number shape)) q_is in
-            let both : option_map (moved second.number shape) r ≡ option_map (moved one.number shape) p =
-                ap (option_map (moved second.number shape)) r_is
-                ∙ moved-alike shape first.number second.number one.number one.same p inside in
-            (p, told, subst (λ (o : Option Point). TellsAt other place o) both moved_r);
+              let (p, told, inside) = on.each place lt in
+              let (q, told_q, moved_q) = first.is_moved.each place lt in
+              let (r, told_r, moved_r) = second.is_moved.each place lt in
+              let q_is : q ≡ p = IsPair-only q p _ _ told_q told in
+              let r_is : r ≡ option_map (moved first.number shape) p =
+              IsPair-only r (option_map (moved first.number shape) q) _ _ told_r moved_q
+              ∙ ap (option_map (moved first.number shape)) q_is in
+              let both : option_map (moved second.number shape) r ≡ option_map (moved one.number shape) p =
+              ap (option_map (moved second.number shape)) r_is
+              ∙ moved-alike shape first.number second.number one.number one.same p inside in
+              (p, told, subst (λ (o : Option Point). TellsAt other place o) both moved_r);
         };
       }
 
@@ -60,15 +60,16 @@ module _ (shape : Shape) (signature : List ℕ) (on : IsSignatureOn shape signat
     is_moved = record {
       twelve = on.twelve;
       each = λ place lt.
-        let (p, told, inside) = on.each place lt in
-        let (q, told_q, moved_q) = first.is_moved.each place lt in
-        let q_is : q ≡ p = IsPair-only q p _ _ told_q told in
-        let back : option_map (moved (inverse_number first.number) shape) (option_map (moved first.number shape) p) ≡ p =
-            moved-back shape first.number (inverse_number first.number)
-            (λ r is. moved-inverse shape r is first.number first.is_symmetry first.is_allowed) p inside in
-        (option_map (moved first.number shape) p,
+          let (p, told, inside) = on.each place lt in
+          let (q, told_q, moved_q) = first.is_moved.each place lt in
+          let q_is : q ≡ p = IsPair-only q p _ _ told_q told in
+          let back : option_map (moved (inverse_number first.number) shape) (option_map (moved first.number shape) p) ≡ p =
+          moved-back shape first.number (inverse_number first.number)
+          (λ r is. moved-inverse shape r is first.number first.is_symmetry first.is_allowed) p inside in (
+            option_map (moved first.number shape) p,
             subst (λ (o : Option Point). TellsAt image place (option_map (moved first.number shape) o)) q_is moved_q,
-            subst (λ (o : Option Point). TellsAt signature place o) (sym back) told);
+            subst (λ (o : Option Point). TellsAt signature place o) (sym back) told,
+          );
     };
   }
 
@@ -91,7 +92,7 @@ module _ (shape : Shape) (signature other : List ℕ) (on : IsSignatureOn shape 
       let of_signature : IsCanonicalForm shape signature form_too = record {
         is_image = image-again shape signature on other form_too first is_too.is_image;
         is_least = λ image of_it.
-          is_too.is_least image ((same_images shape signature other on first image).1 of_it);
+            is_too.is_least image ((same_images shape signature other on first image).1 of_it);
       } in
       canonical-only shape signature form form_too is of_signature
 

@@ -63,7 +63,7 @@ module _ (tree : Tree) (is_tree : IsTree tree) where
       let before = numbers_rise (m - 1 - n) n (m - 1) (omega arith) (omega arith) in
       let step = next_number (m - 1) (omega arith) in
       let one : ◌≡◌ {A = ℕ} (one_if (is_some (node_at tree (m - 1 + 1)).played)) 1 =
-          ap (λ k. one_if (is_some (node_at tree k).played)) (sym same) ∙ ap (λ o. one_if (is_some o)) played in
+      ap (λ k. one_if (is_some (node_at tree k).played)) (sym same) ∙ ap (λ o. one_if (is_some o)) played in
       omega (arith, before, step, one, ap (move_number_of tree) same)
 
   -- a number is that of one node's move

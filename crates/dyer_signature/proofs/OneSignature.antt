@@ -62,14 +62,16 @@ module _ (tree : Tree) (is_tree : IsTree tree) where
       let e = told 51 in
       let f = told 71 in
       let bytes : List ℕ = a.first ∷ a.second ∷ b.first ∷ b.second ∷ c.first ∷ c.second
-          ∷ d.first ∷ d.second ∷ e.first ∷ e.second ∷ f.first ∷ f.second ∷ [] in
-      (bytes, record {
-        twelve = refl;
-        each = each_place (λ place. (point : Option Point) × IsPointOfMove tree (slice_index move_numbers place) point × TellsAt bytes place point)
-            (a.point, a.is_point, a.pair)
-            (b.point, b.is_point, b.pair)
-            (c.point, c.is_point, c.pair)
-            (d.point, d.is_point, d.pair)
-            (e.point, e.is_point, e.pair)
-            (f.point, f.is_point, f.pair);
-      })
+      ∷ d.first ∷ d.second ∷ e.first ∷ e.second ∷ f.first ∷ f.second ∷ [] in (
+        bytes,
+        record {
+          twelve = refl;
+          each = each_place (λ place. (point : Option Point) × IsPointOfMove tree (slice_index move_numbers place) point × TellsAt bytes place point)
+              (a.point, a.is_point, a.pair)
+              (b.point, b.is_point, b.pair)
+              (c.point, c.is_point, c.pair)
+              (d.point, d.is_point, d.pair)
+              (e.point, e.is_point, e.pair)
+              (f.point, f.is_point, f.pair);
+        },
+      )

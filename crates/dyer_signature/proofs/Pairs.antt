@@ -61,10 +61,10 @@ place_of_byte k lt =
 pub same_bytes : (xs ys : List ℕ) → length xs ≡ 12 → length ys ≡ 12 → ((place : ℕ) → place < 6 → (p : Option Point) × TellsAt xs place p × TellsAt ys place p) → xs ≡ ys
 same_bytes xs ys long_x long_y each =
     same_number_lists xs ys (omega arith) (λ k lt.
-        let (place, below, at) = place_of_byte k (omega arith) in
-        let (p, x, y) = each place below in
-        let both = IsPair-bytes p _ _ _ _ x y in
-        elim at [
-          | inl e ↦ subst (λ i. slice_index xs i ≡ slice_index ys i) (sym e) both.0
-          | inr e ↦ subst (λ i. slice_index xs i ≡ slice_index ys i) (sym e) both.1
-        ])
+    let (place, below, at) = place_of_byte k (omega arith) in
+    let (p, x, y) = each place below in
+    let both = IsPair-bytes p _ _ _ _ x y in
+    elim at [
+      | inl e ↦ subst (λ i. slice_index xs i ≡ slice_index ys i) (sym e) both.0
+      | inr e ↦ subst (λ i. slice_index xs i ≡ slice_index ys i) (sym e) both.1
+    ])

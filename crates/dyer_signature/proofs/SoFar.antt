@@ -56,8 +56,8 @@ module _ (tree : Tree) where
   so_far-pass_by n bytes none so_far = record {
     twelve = so_far.twelve;
     each = λ place below.
-      let (point, before, told) = so_far.each place below in
-      (point, before-other n _ point (λ move at. let e : None ≡ Some move = sym none ∙ at.played in absurd cc) before, told);
+        let (point, before, told) = so_far.each place below in
+        (point, before-other n _ point (λ move at. let e : None ≡ Some move = sym none ∙ at.played in absurd cc) before, told);
   }
 
   -- from what was told at the first nodes to the whole signature, where no later node has one of its moves
@@ -70,8 +70,8 @@ module _ (tree : Tree) where
   so_far-all end bytes within so_far = record {
     twelve = so_far.twelve;
     each = λ place below.
-      let (point, before, told) = so_far.each place below in
-      (point, before-all end _ point (within place below) before, told);
+        let (point, before, told) = so_far.each place below in
+        (point, before-all end _ point (within place below) before, told);
   }
 
 -- the numbers of the six moves are at most 71
@@ -97,7 +97,7 @@ module _ (tree : Tree) (is_tree : IsTree tree) where
     told_more place below point before told = elim (cases_eq (slice_index move_numbers place) number) [
       | inl e ↦
           let at : IsMainMove tree (slice_index move_numbers place) n move =
-              record { on_main_line = on_main_line; played = played; numbered = sym (e ∙ numbered) } in
+          record { on_main_line = on_main_line; played = played; numbered = sym (e ∙ numbered) } in
           let none = no_point_yet n _ point move at before in
           let old_told = subst (λ (o : Option Point). TellsAt old place o) none told in
           (move.point, IsPointBefore.played n move.colour (omega arith) at, told_here place below e move.point refl old_told)
@@ -129,6 +129,6 @@ module _ (tree : Tree) (is_tree : IsTree tree) where
   signature-on_board bytes of_tree = record {
     twelve = of_tree.twelve;
     each = λ place below.
-      let (point, is_point, told) = of_tree.each place below in
-      (point, told, point-on_board tree is_tree _ point is_point);
+        let (point, is_point, told) = of_tree.each place below in
+        (point, told, point-on_board tree is_tree _ point is_point);
   }

@@ -91,12 +91,13 @@ module _ (shape : Shape) (number : ℕ) (signature : List ℕ) where
   image-on_board image below allowed on is_moved = record {
     twelve = is_moved.twelve;
     each = λ place lt.
-      let (p, told, inside) = on.each place lt in
-      let (q, told_q, moved_q) = is_moved.each place lt in
-      let same = IsPair-only q p _ _ told_q told in
-      (option_map (moved number shape) p,
+        let (p, told, inside) = on.each place lt in
+        let (q, told_q, moved_q) = is_moved.each place lt in
+        let same = IsPair-only q p _ _ told_q told in (
+          option_map (moved number shape) p,
           subst (λ (o : Option Point). TellsAt image place (option_map (moved number shape) o)) same moved_q,
-          moved_inside below allowed p inside);
+          moved_inside below allowed p inside,
+        );
   }
 
 -- ---- the least image
@@ -115,19 +116,30 @@ pub record IsLeastBelow (shape : Shape) (end : ℕ) (signature least : List ℕ)
       IsAtMost least image
 
 module _ (shape : Shape) (signature : List ℕ) where
+  moved-itself : IsSignatureOn shape signature → IsImageUnder shape 0 signature signature
+  moved-itself on = record {
+    twelve = on.twelve;
+    each = λ place lt. let (p, told, inside) = on.each place lt in (p, told, itself shape p _ _ told);
+  }
+
   pub image-itself : IsSignatureOn shape signature → IsImage shape signature signature
   image-itself on = record {
     number = 0;
     is_symmetry = omega arith;
     is_allowed = λ four. absurd (omega arith);
-    is_moved = record {
-      twelve = on.twelve;
-      each = λ place lt. let (p, told, inside) = on.each place lt in (p, told, itself shape p _ _ told);
-    };
+    is_moved = moved-itself on;
   }
 
-  pub least-start : IsSignatureOn shape signature → IsLeastBelow shape 0 signature signature
-  least-start on = record { is_image = image-itself on; is_least = λ number image lt. absurd (omega arith) }
+  -- the image under symmetry 0 is the signature
+  pub least-start : IsSignatureOn shape signature → IsLeastBelow shape 1 signature signature
+  least-start on = record {
+    is_image = image-itself on;
+    is_least = λ number image lt may is_moved.
+        let first : number ≡ 0 = omega arith in
+        let same = image-only shape 0 signature signature image (moved-itself on)
+        (subst (λ k. IsImageUnder shape k signature image) first is_moved) in
+        subst (IsAtMost signature) same (most-itself signature);
+  }
 
   -- one image more
   pub least-more : (n : ℕ) (old image new : List ℕ) → n < 8 → IsAllowed n shape → IsImageUnder shape n signature image → ((new ≡ old) ⊎ (new ≡ image)) → ¬ IsLess old new → ¬ IsLess image new → IsLeastBelow shape n signature old → IsLeastBelow shape (n + 1) signature new
@@ -143,7 +155,7 @@ module _ (shape : Shape) (signature : List ℕ) where
       | inr le ↦
           let here : number ≡ n = omega arith in
           let same = image-only shape n signature image other is_moved
-              (subst (λ k. IsImageUnder shape k signature other) here is_other) in
+          (subst (λ k. IsImageUnder shape k signature other) here is_other) in
           subst (IsAtMost new) same (most_from_not_less new image second)
     ];
   }
@@ -164,7 +176,7 @@ module _ (shape : Shape) (signature : List ℕ) where
   least-all least so_far = record {
     is_image = so_far.is_image;
     is_least = λ image of_it.
-      not_less least image (so_far.is_least of_it.number image of_it.is_symmetry of_it.is_allowed of_it.is_moved);
+        not_less least image (so_far.is_least of_it.number image of_it.is_symmetry of_it.is_allowed of_it.is_moved);
   }
 
   -- an image is a signature on the board

@@ -21,8 +21,9 @@ pub fn canonical(s: &Signature, shape: Shape) -> Signature
     ensures least { IsCanonicalForm shape s.now.bytes result.bytes }
     ensures on_board { IsSignatureOn shape result.bytes }
 {
+    // The image under symmetry 0 is the signature itself.
     let mut least = *s;
-    for number in 0..SYMMETRIES {
+    for number in 1..SYMMETRIES {
         if let Some(image) = image_by(s, shape, number) {
             least = lesser(least, image);
         }

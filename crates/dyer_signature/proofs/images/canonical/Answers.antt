@@ -15,12 +15,12 @@ pub loop-number-preserved : goal.loop-number-preserved
 loop-number-preserved c =
     let P : Signature → Type 0 = λ s. IsLeastBelow c.args.shape (c.loop-number.number + 1) c.args.s.now.bytes s.bytes in
     elim c.match-image_by.branch [
-      | in-Some w ↦ subst P (sym w.least-is) 
+      | in-Some w ↦ subst P (sym w.least-is)
           (least-more c.args.shape c.args.s.now.bytes c.loop-number.number c.loop-number.least.bytes w.in-Some.image.bytes _
-              (omega arith) w.in-Some.ensures.some.0 w.in-Some.ensures.some.1
-              (same_bytes w.lesser-least.ensures.one) w.lesser-least.ensures.first w.lesser-least.ensures.second
-              c.loop-number.invariant)
-      | in_default w ↦ subst P (sym w.least-is) 
+          (omega arith) w.in-Some.ensures.some.0 w.in-Some.ensures.some.1
+          (same_bytes w.lesser-least.ensures.one) w.lesser-least.ensures.first w.lesser-least.ensures.second
+          c.loop-number.invariant)
+      | in_default w ↦ subst P (sym w.least-is)
           (least-skip c.args.shape c.args.s.now.bytes c.loop-number.number _ w.in_default.ensures.none c.loop-number.invariant)
     ]
 

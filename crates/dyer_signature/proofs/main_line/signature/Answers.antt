@@ -22,9 +22,9 @@ pub returns-then-number-ge-LAST_MOVE-clause-value :
 returns-then-number-ge-LAST_MOVE-clause-value c =
     so_far-at_last c.args.tree.now c.node_count-n-end.ensures.tree c.loop-n.n _ (omega (arith, c.move_number-number.ensures))
     (so_far-more c.args.tree.now c.node_count-n-end.ensures.tree c.loop-n.n c.move_number-number.result
-        c.loop-n.signature.bytes _ c.in-Some.played (c.is_main.ensures.0 c.if-not-is_main.false)
-        (sym c.played.ensures.value ∙ c.in-Some.is) c.move_number-number.ensures c.with_move-signature.ensures.twelve
-        c.with_move-signature.ensures.here c.with_move-signature.ensures.others c.loop-n.invariant)
+    c.loop-n.signature.bytes _ c.in-Some.played (c.is_main.ensures.0 c.if-not-is_main.false)
+    (sym c.played.ensures.value ∙ c.in-Some.is) c.move_number-number.ensures c.with_move-signature.ensures.twelve
+    c.with_move-signature.ensures.here c.with_move-signature.ensures.others c.loop-n.invariant)
 
 pub returns-then-number-ge-LAST_MOVE-clause-on_board :
     goal.returns-then-number-ge-LAST_MOVE-clause-on_board
@@ -37,9 +37,9 @@ loop-n-preserved c =
       | in-Some+else-number-ge-LAST_MOVE w ↦
           subst (λ (s : Signature). IsSignatureSoFar c.args.tree.now (c.loop-n.n + 1) s.bytes) (sym w.signature-is)
           (so_far-more c.args.tree.now c.node_count-n-end.ensures.tree c.loop-n.n w.move_number-number.result
-              c.loop-n.signature.bytes _ w.in-Some.played (c.is_main.ensures.0 c.if-not-is_main.false)
-              (sym c.played.ensures.value ∙ w.in-Some.is) w.move_number-number.ensures w.with_move-signature.ensures.twelve
-              w.with_move-signature.ensures.here w.with_move-signature.ensures.others c.loop-n.invariant)
+          c.loop-n.signature.bytes _ w.in-Some.played (c.is_main.ensures.0 c.if-not-is_main.false)
+          (sym c.played.ensures.value ∙ w.in-Some.is) w.move_number-number.ensures w.with_move-signature.ensures.twelve
+          w.with_move-signature.ensures.here w.with_move-signature.ensures.others c.loop-n.invariant)
       | in_default w ↦
           subst (λ (s : Signature). IsSignatureSoFar c.args.tree.now (c.loop-n.n + 1) s.bytes) (sym w.signature-is)
           (so_far-pass_by c.args.tree.now c.loop-n.n _ (sym c.played.ensures.value ∙ w.in_default.is) c.loop-n.invariant)
@@ -49,7 +49,7 @@ pub returns-clause-value : goal.returns-clause-value
 returns-clause-value c =
     so_far-at_end c.args.tree.now c.node_count-n-end.ensures.tree _
     (subst (λ n. IsSignatureSoFar c.args.tree.now n c.loop-n.signature.bytes)
-        (omega (arith, c.node_count-n-end.ensures.value)) c.loop-n.invariant)
+    (omega (arith, c.node_count-n-end.ensures.value)) c.loop-n.invariant)
 
 pub returns-clause-on_board : goal.returns-clause-on_board
 returns-clause-on_board c =

@@ -8,8 +8,8 @@ pub returns-then-agrees-clause-other_byte : goal.returns-then-agrees-clause-othe
 returns-then-agrees-clause-other_byte c k lt unknown =
     let h = c.in-Some.ensures.some in
     absurd (unknown (matched_bytes c.args.shape c.args.s.now.bytes c.args.pattern.now.bytes
-        (matches-by c.args.shape c.args.s.now.bytes c.args.pattern.now.bytes c.loop-number.number c.in-Some.image.bytes
-            (omega arith) h.0 h.1 (c.agrees.ensures.0 c.if-agrees.true)) k lt))
+    (matches-by c.args.shape c.args.s.now.bytes c.args.pattern.now.bytes c.loop-number.number c.in-Some.image.bytes
+    (omega arith) h.0 h.1 (c.agrees.ensures.0 c.if-agrees.true)) k lt))
 
 pub loop-number-preserved : goal.loop-number-preserved
 loop-number-preserved c = elim c.match-image_by.branch [
