@@ -1,13 +1,13 @@
 -- The images of an image are the images of the signature, so that all of them have one canonical form.
-use Rattle.std.proofs.Common.{◌≡◌, ◌↔◌, ℕ, ◌<◌, List, Option, Some, None, refl, sym, ◌∙◌, ap, subst}
+use Rattle.std.proofs.Common.{◌≡◌, ◌↔◌, ℕ, List, Option, Some, None, refl, sym, ◌∙◌, ap, subst}
 use Rattle.std.specs.Option.{option_map}
 use Rattle.std.specs.Prelude.{IfSome}
 use Rattle.kb_geometry.specs.declared.shape.Point.{Point}
 use Rattle.kb_geometry.specs.declared.shape.Shape.{Shape}
 use Rattle.kb_geometry.specs.Board.{IsOnBoard}
-use Rattle.kb_geometry.specs.Symmetry.{IsAllowed, inverse_number, moved}
+use Rattle.kb_geometry.specs.Symmetry.{inverse_number, moved}
 use Rattle.kb_geometry.proofs.Symmetries.{moved-inverse}
-use Rattle.dyer_signature.specs.Images.{IsCanonicalForm, IsImage, IsImageUnder}
+use Rattle.dyer_signature.specs.Images.{IsCanonicalForm, IsImage}
 use Rattle.dyer_signature.specs.Patterns.{Matches}
 use Rattle.dyer_signature.specs.Signatures.{IsSignatureOn, TellsAt}
 use Rattle.dyer_signature.proofs.ByteOrder.{most_from_not_less, same_least}

@@ -3,7 +3,7 @@
 use Rattle.std.proofs.Common.{◌≡◌, ℕ, ◌<◌, arith}
 use Rattle.kb_geometry.specs.declared.shape.Point.{Point}
 use Rattle.kb_geometry.specs.declared.shape.Shape.{Shape}
-use Rattle.kb_geometry.specs.Board.{IsOnBoard, cols_of, rows_of}
+use Rattle.kb_geometry.specs.Board.{IsOnBoard}
 use Rattle.kb_geometry.specs.Symmetry.{IsAllowed, inverse_number, moved}
 use Rattle.kb_geometry.proofs.Symmetries.{each_symmetry, same_point}
 

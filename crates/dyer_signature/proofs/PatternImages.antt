@@ -1,12 +1,12 @@
 -- Patterns and the images of a signature.
-use Rattle.std.proofs.Common.{◌≡◌, ◌≢◌, ◌⊎◌, ℕ, ◌+◌, ◌*◌, ◌<◌, ◌≤◌, List, length, Option, Some, None, refl, sym, ◌∙◌, ap, subst, inl, inr, arith}
+use Rattle.std.proofs.Common.{◌≡◌, ◌⊎◌, ℕ, ◌+◌, ◌<◌, List, Option, Some, None, sym, ◌∙◌, subst, inl, inr, arith}
 use Rattle.std.proofs.lemmas.Bool.{cases_eq, cases_lt}
 use Rattle.std.specs.Prelude.{slice_index}
 use Rattle.kb_geometry.specs.declared.shape.Point.{Point}
 use Rattle.kb_geometry.specs.declared.shape.Shape.{Shape}
 use Rattle.kb_geometry.specs.Symmetry.{IsAllowed}
 use Rattle.game_tree.specs.Value.{IsCoordinate}
-use Rattle.dyer_signature.specs.Images.{IsImage, IsImageUnder}
+use Rattle.dyer_signature.specs.Images.{IsImageUnder}
 use Rattle.dyer_signature.specs.Patterns.{Agrees, IsLetter, IsPatternByte, Matches, star}
 use Rattle.dyer_signature.specs.Signatures.{IsPair, question_mark}
 use Rattle.dyer_signature.proofs.Pairs.{place_of_byte}

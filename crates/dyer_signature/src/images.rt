@@ -37,7 +37,7 @@ fn lesser(first: Signature, second: Signature) -> Signature
     ensures first { ¬ IsLess first.bytes result.bytes }
     ensures second { ¬ IsLess second.bytes result.bytes }
 {
-    first.min(second)
+    if second < first { second } else { first }
 }
 
 // The image of a signature under the symmetry with a number, if the board allows that symmetry.

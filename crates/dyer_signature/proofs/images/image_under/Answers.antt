@@ -1,4 +1,4 @@
-use Rattle.std.proofs.Common.{◌≡◌, ◌+◌, arith, subst, sym}
+use Rattle.std.proofs.Common.{◌+◌, arith, subst, sym}
 use Rattle.kb_geometry.specs.Symmetry.{number_of_symmetry}
 use Rattle.dyer_signature.specs.declared.bytes.Signature.{Signature}
 use Rattle.dyer_signature.proofs.Turnings.{IsMovedBelow, moved-none, moved-point, told_none, told_point}

@@ -1,29 +1,33 @@
-use Rattle.std.proofs.Common.{◌≡◌, refl, sym, ◌∙◌, ap, subst, cond}
-use Rattle.std.specs.Cmp.Lexicographic.{slice_cmp}
-use Rattle.std.specs.Ordering.{nat_cmp, is_gt, is_lt}
+use Rattle.std.proofs.Common.{◌≡◌, ◌∙◌, ap, false, refl, Some, sym, true}
+use Rattle.std.specs.Cmp.Lexicographic.{lists_agrees, slice_cmp}
+use Rattle.std.specs.Ordering.{is_gt, is_lt, is_some_and, nat_cmp}
 use Rattle.std.specs.declared.cmp.Ordering.{Ordering}
-use Rattle.std.specs.declared.cmp.Ordering.TheVariants.{Less, Equal, Greater}
-use Rattle.dyer_signature.specs.declared.bytes.Signature.{Signature}
-use Rattle.dyer_signature.specs.Images.{IsLess}
+use Rattle.std.specs.declared.cmp.Ordering.TheVariants.{Equal, Greater, Less}
 use Rattle.dyer_signature.proofs.ByteOrder.{most-itself, not_less}
 use Rattle.dyer_signature.proofs.images.lesser.Goals as goal
 
-chosen-first : (o : Ordering) (a b : Signature) → slice_cmp nat_cmp b.bytes a.bytes ≡ o → ¬ IsLess a.bytes (cond (is_lt o) b a).bytes
-chosen-first Less a b e = not_less b.bytes a.bytes (ap is_gt e)
-chosen-first Equal a b e = not_less a.bytes a.bytes (most-itself a.bytes)
-chosen-first Greater a b e = not_less a.bytes a.bytes (most-itself a.bytes)
+less_is_not_more : (o : Ordering) → is_lt o ≡ true → is_gt o ≡ false
+less_is_not_more Less e = refl
+less_is_not_more Equal e = refl
+less_is_not_more Greater e = absurd cc
 
-chosen-second : (o : Ordering) (a b : Signature) → slice_cmp nat_cmp b.bytes a.bytes ≡ o → ¬ IsLess b.bytes (cond (is_lt o) b a).bytes
-chosen-second Less a b e less = not_less b.bytes b.bytes (most-itself b.bytes) less
-chosen-second Equal a b e less = let f : Equal ≡ Less = sym e ∙ less in absurd cc
-chosen-second Greater a b e less = let f : Greater ≡ Less = sym e ∙ less in absurd cc
+pub returns-then-lt-clause-first : goal.returns-then-lt-clause-first
+returns-then-lt-clause-first c =
+    let agree = lists_agrees {R = nat_cmp} {C = λ x y. Some (nat_cmp x y)} (λ x y. refl) c.args.second.bytes c.args.first.bytes in
+    let less : is_lt (slice_cmp nat_cmp c.args.second.bytes c.args.first.bytes) ≡ true =
+    sym (ap (is_some_and is_lt) agree) ∙ sym c.lt.ensures ∙ c.if-lt.true in
+    not_less c.args.second.bytes c.args.first.bytes (less_is_not_more _ less)
 
-pub returns-clause-first : goal.returns-clause-first
-returns-clause-first c =
-    let P : Signature → Type 0 = λ s. ¬ IsLess c.args.first.bytes s.bytes in
-    subst P (sym c.min.ensures) (chosen-first _ c.args.first c.args.second refl)
+pub returns-then-lt-clause-second : goal.returns-then-lt-clause-second
+returns-then-lt-clause-second c = not_less c.args.second.bytes c.args.second.bytes (most-itself c.args.second.bytes)
 
-pub returns-clause-second : goal.returns-clause-second
-returns-clause-second c =
-    let P : Signature → Type 0 = λ s. ¬ IsLess c.args.second.bytes s.bytes in
-    subst P (sym c.min.ensures) (chosen-second _ c.args.first c.args.second refl)
+pub returns-else-lt-clause-first : goal.returns-else-lt-clause-first
+returns-else-lt-clause-first c = not_less c.args.first.bytes c.args.first.bytes (most-itself c.args.first.bytes)
+
+pub returns-else-lt-clause-second : goal.returns-else-lt-clause-second
+returns-else-lt-clause-second c less =
+    let agree = lists_agrees {R = nat_cmp} {C = λ x y. Some (nat_cmp x y)} (λ x y. refl) c.args.second.bytes c.args.first.bytes in
+    let not_lt : is_lt (slice_cmp nat_cmp c.args.second.bytes c.args.first.bytes) ≡ false =
+    sym (ap (is_some_and is_lt) agree) ∙ sym c.lt.ensures ∙ c.if-lt.false in
+    let e : true ≡ false = sym (ap is_lt less) ∙ not_lt in
+    absurd cc

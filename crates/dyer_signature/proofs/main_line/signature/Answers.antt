@@ -1,4 +1,4 @@
-use Rattle.std.proofs.Common.{◌≡◌, ◌+◌, ◌∙◌, arith, subst, sym}
+use Rattle.std.proofs.Common.{◌+◌, ◌∙◌, arith, subst, sym}
 use Rattle.std.proofs.lemmas.Bool.{false≢true}
 use Rattle.dyer_signature.specs.declared.bytes.Signature.{Signature}
 use Rattle.dyer_signature.proofs.SoFar.{IsSignatureSoFar, signature-on_board, so_far-at_end, so_far-at_last, so_far-behind_main, so_far-more, so_far-pass_by, so_far-start}

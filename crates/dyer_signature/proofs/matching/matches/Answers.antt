@@ -1,4 +1,4 @@
-use Rattle.std.proofs.Common.{◌≡◌, ◌+◌, ℕ, arith, subst, sym, ◌∙◌}
+use Rattle.std.proofs.Common.{arith, subst, sym, ◌∙◌}
 use Rattle.std.proofs.lemmas.Bool.{false≢true}
 use Rattle.dyer_signature.proofs.PatternImages.{AreUnlike, matched_bytes, matches-by, unlike-all, unlike-more, unlike-skip}
 use Rattle.dyer_signature.proofs.matching.matches.Goals as goal

@@ -1,4 +1,4 @@
-use Rattle.std.proofs.Common.{ℕ, ◌≡◌, ◌∙◌, Option, Some, None, refl, sym}
+use Rattle.std.proofs.Common.{ℕ, ◌≡◌, ◌∙◌, Option, Some, None, refl}
 use Rattle.kb_geometry.specs.declared.shape.Point.{Point}
 use Rattle.game_tree.specs.Value.{IsCoordinate}
 use Rattle.dyer_signature.specs.Signatures.{IsPair}
