@@ -14,7 +14,9 @@ pub record IsImageUnder (shape : Shape) (number : ℕ) (signature image : List �
   pub twelve : length image ≡ 12
   pub each : (place : ℕ) →
       place < 6 →
-      (point : Option Point) × TellsAt signature place point × TellsAt image place (option_map (moved number shape) point)
+      (point : Option Point)
+      × TellsAt signature place point
+      × TellsAt image place (option_map (moved number shape) point)
 
 -- an image of a signature: under one of the symmetries that the board allows
 pub record IsImage (shape : Shape) (signature image : List ℕ) : Type 0 where

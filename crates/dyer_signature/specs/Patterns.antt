@@ -19,8 +19,12 @@ IsPatternByte byte = IsLetter byte ⊎ ((byte ≡ question_mark) ⊎ (byte ≡ s
 -- the signature has the pattern's byte wherever that isn't `*`
 abbrev pub Agrees : List ℕ → List ℕ → Type 0
 Agrees signature pattern =
-    (k : ℕ) → k < 12 → slice_index pattern k ≢ star → slice_index signature k ≡ slice_index pattern k
+    (k : ℕ) →
+    k < 12 →
+    slice_index pattern k ≢ star →
+    slice_index signature k ≡ slice_index pattern k
 
 -- A signature matches a pattern where some image of it agrees with the pattern.
 abbrev pub Matches : Shape → List ℕ → List ℕ → Type 0
-Matches shape signature pattern = (image : List ℕ) × IsImage shape signature image × Agrees image pattern
+Matches shape signature pattern =
+    (image : List ℕ) × IsImage shape signature image × Agrees image pattern

@@ -11,11 +11,12 @@ use kb_geometry::{Shape, Symmetry, apply};
 // How many symmetries there are, those that a board doesn't allow among them.
 pub(crate) const SYMMETRIES: u8 = 8;
 
-/// The canonical form of a signature: that of its images which is least by bytes. The images are those under all
-/// symmetries that the board allows, with each point moved and `??` kept; so games that differ by a symmetry alone
-/// have one canonical form.
+/// The canonical form of a signature: that of its images which is least by bytes.
 ///
-/// The signature is one on this board, as [`signature`](crate::signature) gives for a tree of this shape.
+/// The images are those under all symmetries that the board allows, with each point moved and `??`
+/// kept; so games that differ by a symmetry alone have one canonical form. The signature is one on
+/// this board, as [`signature`](crate::signature) gives for a tree of this shape. Nothing is
+/// allocated.
 pub fn canonical(s: &Signature, shape: Shape) -> Signature
     requires { IsSignatureOn shape s.now.bytes }
     ensures least { IsCanonicalForm shape s.now.bytes result.bytes }
@@ -44,7 +45,8 @@ fn lesser(first: Signature, second: Signature) -> Signature
 pub(crate) fn image_by(s: &Signature, shape: Shape, number: u8) -> Option<Signature>
     requires on_board { IsSignatureOn shape s.now.bytes }
     requires symmetry { number < 8 }
-    ensures some { IfSome result (λ image. IsAllowed number shape × IsImageUnder shape number s.now.bytes image.bytes) }
+    ensures some { IfSome result (λ image.
+        IsAllowed number shape × IsImageUnder shape number s.now.bytes image.bytes) }
     ensures none { IfNone result (¬ IsAllowed number shape) }
 {
     let symmetry = Symmetry::new(number)?;

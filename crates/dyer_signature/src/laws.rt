@@ -1,4 +1,4 @@
-// Laws of the words for signatures, their images and patterns, for who reads a contract of this crate.
+// Laws of the words for signatures, images and patterns, for who reads a contract of this crate.
 ghost use Rattle.std.specs.Prelude.{◌≡◌, ◌↔◌, ℕ, List};
 ghost use Rattle.kb_geometry.specs.declared.shape.Shape.{Shape};
 ghost use Rattle.game_tree.specs.Tree.{IsTree, Tree};
@@ -26,7 +26,8 @@ pub fn an_image_has_the_images_of_its_signature()
         (other : List ℕ) → IsImage shape image other ↔ IsImage shape signature other }
 {}
 
-/// Two signatures on one board have one canonical form exactly where the second is an image of the first.
+/// Two signatures on one board have one canonical form exactly where the second is an image of the
+/// first.
 pub fn images_alone_have_one_canonical_form()
     ensures { (shape : Shape) (signature other form form_of_other : List ℕ) →
         IsSignatureOn shape signature → IsSignatureOn shape other →
@@ -34,7 +35,8 @@ pub fn images_alone_have_one_canonical_form()
         IsImage shape signature other ↔ (form ≡ form_of_other) }
 {}
 
-/// An image of a signature, the canonical form among them, matches a pattern exactly where the signature does.
+/// An image of a signature, the canonical form among them, matches a pattern exactly where the
+/// signature does.
 pub fn an_image_matches_where_its_signature_does()
     ensures { (shape : Shape) (signature image pattern : List ℕ) →
         IsSignatureOn shape signature → IsImage shape signature image →

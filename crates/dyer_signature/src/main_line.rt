@@ -11,10 +11,11 @@ use kb_geometry::Point;
 // The last move that a signature tells of.
 const LAST_MOVE: u32 = 71;
 
-/// The signature of a game: the points of moves 20, 40, 60, 31, 51 and 71 of its main line. Moves and passes are
-/// counted from 1.
+/// The signature of a game, after Dyer: the points of moves 20, 40, 60, 31, 51 and 71 of its main
+/// line. Moves and passes are counted from 1.
 ///
-/// Nothing is allocated, and no node behind that of move 71 is read: the main line is the first nodes of a tree.
+/// The main line is the first nodes of a tree. No node behind that of move 71 is read, and nothing
+/// is allocated.
 pub fn signature(tree: &GameTree) -> Signature
     ensures value { IsSignatureOf tree.now result.bytes }
     ensures on_board { IsSignatureOn tree.now.shape result.bytes }
@@ -35,7 +36,8 @@ pub fn signature(tree: &GameTree) -> Signature
     signature
 }
 
-// The signature with the point of one more move, where the move's number is that of a place and it is no pass.
+// The signature with the point of one more move, where the move's number is that of a place and it
+// is no pass.
 fn with_move(signature: Signature, number: u32, point: Option<Point>) -> Signature
     requires { IfSome point (λ (p : Point). (p.x < 52) × (p.y < 52)) }
     ensures twelve { length result.bytes ≡ 12 }
@@ -56,10 +58,12 @@ fn with_move(signature: Signature, number: u32, point: Option<Point>) -> Signatu
 
 // The place of the move with a number in a signature, if it has one.
 fn place_of(number: u32) -> Option<usize>
-    ensures some { IfSome result (λ place. (place < 6) × (slice_index move_numbers place ≡ number)) }
+    ensures some { IfSome result (λ place.
+        (place < 6) × (slice_index move_numbers place ≡ number)) }
     ensures only { IfSome result (λ place. (other : ℕ) → other < 6 →
         slice_index move_numbers other ≡ number → other ≡ place) }
-    ensures none { IfNone result ((other : ℕ) → other < 6 → slice_index move_numbers other ≢ number) }
+    ensures none { IfNone result ((other : ℕ) → other < 6 →
+        slice_index move_numbers other ≢ number) }
 {
     match number {
         20 => Some(0),

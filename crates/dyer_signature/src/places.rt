@@ -1,4 +1,5 @@
-// The six places of a signature, each with the two letters of a point (SGF FF[4], point values) or with `??`.
+// The six places of a signature, each with the two letters of a point (SGF FF[4], point values) or
+// with `??`.
 ghost use Rattle.std.specs.Prelude.{◌≡◌, ◌≢◌, ◌<◌, ℕ, Option, Some, IfSome, IfNone, length};
 ghost use Rattle.kb_geometry.specs.declared.shape.Point.{Point};
 ghost use Rattle.game_tree.specs.Value.{IsCoordinate};
