@@ -177,6 +177,29 @@ fn a_pattern_matches_some_image(rt: HostRuntime) -> Result<(), Fail> {
     Ok(())
 }
 
+// Whether two games are copies of each other, turned or not, as far as their signatures tell.
+fn are_alike(a: &GameTree, b: &GameTree) -> bool {
+    a.shape() == b.shape()
+        && canonical(&signature(a), a.shape()) == canonical(&signature(b), b.shape())
+}
+
+#[test]
+fn copies_of_a_game_are_alike(rt: HostRuntime) -> Result<(), Fail> {
+    let cases = [
+        ("19", "dd??????????", "19", "pd??????????", true),
+        ("19", "dd??????????", "19", "pe??????????", false),
+        ("19", "dd??????????", "18", "dd??????????", false),
+        ("5:3", "ba??????????", "5:3", "dc??????????", true),
+        ("5:3", "ba??????????", "5:3", "ab??????????", false),
+    ];
+    for (size, told, other_size, other, wanted) in cases {
+        let a = told_tree(&rt, rt.alloc(), size, told)?;
+        let b = told_tree(&rt, rt.alloc(), other_size, other)?;
+        assert_eq!(rt; are_alike(&a, &b), wanted, "{told} and {other}");
+    }
+    Ok(())
+}
+
 #[test]
 fn a_signature_is_a_key(rt: HostRuntime) -> Result<(), Fail> {
     let mut counts: HashMap<Signature, u32> = HashMap::new(rt.alloc());
