@@ -153,88 +153,98 @@ fn no_move_comes_in_the_rectangle(rt: HostRuntime) -> Result<(), Fail> {
     Ok(())
 }
 
+// A text, a search, a node, the upper left point and label of a placement there, and how it goes on.
+type Continued = (
+    &'static str,
+    Asked,
+    u32,
+    (u8, u8, u8),
+    (Colour, u8, u8, bool),
+);
+
+const WITH_A_MOVE: [Continued; 10] = [
+    // A move on a stone.
+    (
+        "(;SZ[3];B[bb];W[bb])",
+        ((1, 1, "X"), true, false, None),
+        1,
+        (1, 1, 0),
+        (Colour::White, 0, 0, true),
+    ),
+    (
+        KO,
+        ((2, 1, ".X"), true, true, Some((1, 1))),
+        1,
+        (1, 1, 0),
+        (Colour::White, 0, 0, true),
+    ),
+    (
+        KO,
+        ((2, 1, ".X"), true, true, Some((1, 1))),
+        3,
+        (1, 1, 0),
+        (Colour::White, 0, 0, true),
+    ),
+    (
+        "(;SZ[2];B[aa])",
+        ((1, 1, "*"), false, false, None),
+        0,
+        (0, 0, 0),
+        (Colour::Black, 0, 0, true),
+    ),
+    // Passes come between.
+    (
+        "(;SZ[9];B[aa];W[tt];B[];W[ba])",
+        BESIDE,
+        1,
+        (0, 0, 0),
+        (Colour::White, 1, 0, false),
+    ),
+    // The point is turned back, and the colour exchanged back.
+    (
+        EXCHANGED,
+        ((2, 1, "X."), false, false, CORNER),
+        1,
+        (0, 0, 12),
+        (Colour::White, 1, 0, true),
+    ),
+    // A move outside comes between.
+    (
+        "(;SZ[9];B[aa];W[ee];B[ba])",
+        BESIDE,
+        1,
+        (0, 0, 0),
+        (Colour::Black, 1, 0, false),
+    ),
+    // Setups come between.
+    (
+        "(;SZ[9];B[aa];AB[ee];W[ba])",
+        BESIDE,
+        1,
+        (0, 0, 0),
+        (Colour::White, 1, 0, true),
+    ),
+    // The placement is lost at the node of the move.
+    (
+        "(;SZ[9];B[aa];AE[aa]W[ba])",
+        BESIDE,
+        1,
+        (0, 0, 0),
+        (Colour::White, 1, 0, true),
+    ),
+    // What changes under a wildcard is no loss.
+    (
+        "(;SZ[9];B[aa];AW[ba];AE[ba];W[ba])",
+        ANYTHING_BESIDE,
+        1,
+        (0, 0, 0),
+        (Colour::White, 1, 0, true),
+    ),
+];
+
 #[test]
 fn a_move_comes_in_the_rectangle(rt: HostRuntime) -> Result<(), Fail> {
-    let cases = [
-        // A move on a stone.
-        (
-            "(;SZ[3];B[bb];W[bb])",
-            ((1, 1, "X"), true, false, None),
-            1,
-            (1, 1, 0),
-            (Colour::White, 0, 0, true),
-        ),
-        (
-            KO,
-            ((2, 1, ".X"), true, true, Some((1, 1))),
-            1,
-            (1, 1, 0),
-            (Colour::White, 0, 0, true),
-        ),
-        (
-            KO,
-            ((2, 1, ".X"), true, true, Some((1, 1))),
-            3,
-            (1, 1, 0),
-            (Colour::White, 0, 0, true),
-        ),
-        (
-            "(;SZ[2];B[aa])",
-            ((1, 1, "*"), false, false, None),
-            0,
-            (0, 0, 0),
-            (Colour::Black, 0, 0, true),
-        ),
-        // Passes come between.
-        (
-            "(;SZ[9];B[aa];W[tt];B[];W[ba])",
-            BESIDE,
-            1,
-            (0, 0, 0),
-            (Colour::White, 1, 0, false),
-        ),
-        // The point is turned back, and the colour exchanged back.
-        (
-            EXCHANGED,
-            ((2, 1, "X."), false, false, CORNER),
-            1,
-            (0, 0, 12),
-            (Colour::White, 1, 0, true),
-        ),
-        // A move outside comes between.
-        (
-            "(;SZ[9];B[aa];W[ee];B[ba])",
-            BESIDE,
-            1,
-            (0, 0, 0),
-            (Colour::Black, 1, 0, false),
-        ),
-        // Setups come between.
-        (
-            "(;SZ[9];B[aa];AB[ee];W[ba])",
-            BESIDE,
-            1,
-            (0, 0, 0),
-            (Colour::White, 1, 0, true),
-        ),
-        // The placement is lost at the node of the move.
-        (
-            "(;SZ[9];B[aa];AE[aa]W[ba])",
-            BESIDE,
-            1,
-            (0, 0, 0),
-            (Colour::White, 1, 0, true),
-        ),
-        // What changes under a wildcard is no loss.
-        (
-            "(;SZ[9];B[aa];AW[ba];AE[ba];W[ba])",
-            ANYTHING_BESIDE,
-            1,
-            (0, 0, 0),
-            (Colour::White, 1, 0, true),
-        ),
-    ];
-    for (text, asked, node, at, wanted) in cases {
+    for (text, asked, node, at, wanted) in WITH_A_MOVE {
         let next = goes_on(&rt, rt.alloc(), text, asked, node, at)?;
         assert_eq!(rt; next, Some(wanted), "{text} at node {node}");
     }

@@ -47,8 +47,12 @@ Contains-filter p (y ∷ ys) x h e = filter_more p y ys x e (λ k. Contains-filt
     (cases_Bool (p y)) (Contains-cons_cases y ys x h)
 
 pub Contains-range : (n m : ℕ) → m < n → Contains (range_with_len 0 n) m
-Contains-range n m lt = (m, rw length-range_with_len lt, get_or-range_with_len 0 n m m lt
-    ∙ omega arith)
+Contains-range n m lt = (
+  m,
+  rw length-range_with_len lt,
+  get_or-range_with_len 0 n m m lt
+      ∙ omega arith,
+)
 
 pub lt-from_range : (n m : ℕ) → Contains (range_with_len 0 n) m → m < n
 lt-from_range n m (k, lt, is) =
@@ -74,8 +78,11 @@ Contains-from_numbers_below n p m h =
 IsStrictlyIncreasing-range : (a n : ℕ) → IsStrictlyIncreasing (range_with_len a n)
 IsStrictlyIncreasing-range a n k lt =
     let below = rw length-range_with_len at lt in
-    omega (arith, get_or-range_with_len a n k 0 (omega arith),
-        get_or-range_with_len a n (k + 1) 0 below)
+    omega (
+      arith,
+      get_or-range_with_len a n k 0 (omega arith),
+      get_or-range_with_len a n (k + 1) 0 below,
+    )
 
 pub IsStrictlyIncreasing-numbers_below : (n : ℕ) (p : ℕ → Bool) →
     IsStrictlyIncreasing (numbers_below n p)

@@ -1,7 +1,21 @@
 //! A set of numbers below a bound, as words of 64 bits.
 ghost use Rattle.std.specs.Prelude.{
-    ◌≡◌, ◌≢◌, ℕ, ◌+◌, ◌<◌, ◌≤◌, ◌⊎◌, ◌↔◌, [], Contains, IfNone, IfSome, IsTrue, length, nat_eq,
-    slice_index,
+  ◌≡◌,
+  ◌≢◌,
+  ℕ,
+  ◌+◌,
+  ◌<◌,
+  ◌≤◌,
+  ◌⊎◌,
+  ◌↔◌,
+  [],
+  Contains,
+  IfNone,
+  IfSome,
+  IsTrue,
+  length,
+  nat_eq,
+  slice_index,
 };
 ghost use Rattle.std.specs.Int.{bit_at};
 ghost use Rattle.std.specs.Cmp.{partial_equiv_from_equiv};

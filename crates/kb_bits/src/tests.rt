@@ -138,93 +138,33 @@ fn the_next_member_is_the_number_itself_or_the_least_one_past_it(rt: HostRuntime
     }
 }
 
+// Numbers, the one that is taken out, another set, the union of the two, and which of them has all
+// numbers of the other.
+type Shrunk = (
+    &'static [u16],
+    u16,
+    &'static [u16],
+    &'static [u16],
+    bool,
+    bool,
+);
+
+const SHRUNK: [Shrunk; 10] = [
+    (&[3, 2703], 2703, &[3, 70], &[3, 70], false, true),
+    (&[2687, 2688], 2688, &[2688], &[2687, 2688], false, false),
+    (&[3, 360], 360, &[3, 70], &[3, 70], false, true),
+    (&[3, 360], 360, &[3], &[3], true, true),
+    (&[3, 360], 3, &[360], &[360], true, true),
+    (&[3, 360], 360, &[360], &[3, 360], false, false),
+    (&[64], 64, &[], &[], true, true),
+    (&[64], 64, &[0], &[0], false, true),
+    (&[0, 64, 128], 64, &[0, 128], &[0, 128], true, true),
+    (&[0, 64, 128], 128, &[64, 128], &[0, 64, 128], false, false),
+];
+
 #[test]
 fn a_set_that_shrank_meets_smaller_and_larger_ones(rt: HostRuntime) {
-    // The numbers, the one that is taken out, another set, the union of the two, and which of them
-    // has all numbers of the other.
-    let cases = [
-        (
-            [3u16, 2703].as_slice(),
-            2703u16,
-            [3u16, 70].as_slice(),
-            [3u16, 70].as_slice(),
-            false,
-            true,
-        ),
-        (
-            [2687u16, 2688].as_slice(),
-            2688,
-            [2688u16].as_slice(),
-            [2687u16, 2688].as_slice(),
-            false,
-            false,
-        ),
-        (
-            [3u16, 360].as_slice(),
-            360,
-            [3u16, 70].as_slice(),
-            [3u16, 70].as_slice(),
-            false,
-            true,
-        ),
-        (
-            [3u16, 360].as_slice(),
-            360,
-            [3u16].as_slice(),
-            [3u16].as_slice(),
-            true,
-            true,
-        ),
-        (
-            [3u16, 360].as_slice(),
-            3,
-            [360u16].as_slice(),
-            [360u16].as_slice(),
-            true,
-            true,
-        ),
-        (
-            [3u16, 360].as_slice(),
-            360,
-            [360u16].as_slice(),
-            [3u16, 360].as_slice(),
-            false,
-            false,
-        ),
-        (
-            [64u16].as_slice(),
-            64,
-            [0u16; 0].as_slice(),
-            [0u16; 0].as_slice(),
-            true,
-            true,
-        ),
-        (
-            [64u16].as_slice(),
-            64,
-            [0u16].as_slice(),
-            [0u16].as_slice(),
-            false,
-            true,
-        ),
-        (
-            [0u16, 64, 128].as_slice(),
-            64,
-            [0u16, 128].as_slice(),
-            [0u16, 128].as_slice(),
-            true,
-            true,
-        ),
-        (
-            [0u16, 64, 128].as_slice(),
-            128,
-            [64u16, 128].as_slice(),
-            [0u16, 64, 128].as_slice(),
-            false,
-            false,
-        ),
-    ];
-    for (numbers, taken, others, both, has_others, is_within) in cases {
+    for (numbers, taken, others, both, has_others, is_within) in SHRUNK {
         let set = without(set_of(numbers), taken);
         let other = set_of(others);
         assert!(rt;

@@ -23,7 +23,7 @@ HasFile files path name = Any (λ file. (file.path ≡ path) × (file.name ≡ n
 abbrev pub content_of : List File → List ℕ → List ℕ → Option (List ℕ)
 content_of files path name =
     option_map (λ file. file.bytes)
-        (find (λ file. bytes_eq file.path path && bytes_eq file.name name) files)
+    (find (λ file. bytes_eq file.path path && bytes_eq file.name name) files)
 
 -- the name ends in `.sgf`, byte for byte; `.sgf` alone does too
 abbrev pub IsSgfName : List ℕ → Type 0
@@ -38,7 +38,7 @@ is_sgf_name name = ends_with nat_eq name (codes ".sgf")
 abbrev pub sgf_names_of : List File → List ℕ → List (List ℕ)
 sgf_names_of files path =
     map (λ file. file.name) (filter (λ file. bytes_eq file.path path
-        && is_sgf_name file.name) files)
+    && is_sgf_name file.name) files)
 
 -- the names of the files under this path that end in `.sgf`, each once, in any order
 pub record IsListing (files : List File) (path : List ℕ) (names : List (List ℕ)) : Type 0 where

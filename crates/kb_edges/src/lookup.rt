@@ -1,6 +1,16 @@
 // What a folder in memory finds among its files.
 ghost use Rattle.std.specs.Prelude.{
-    ◌≡◌, ◌≢◌, ◌&&◌, ℕ, List, AllPairs, Contains, map, find, string_bytes, IfOk,
+  ◌≡◌,
+  ◌≢◌,
+  ◌&&◌,
+  ℕ,
+  List,
+  AllPairs,
+  Contains,
+  map,
+  find,
+  string_bytes,
+  IfOk,
 };
 ghost use Rattle.std.specs.Cmp.Lexicographic.{slice_cmp};
 ghost use Rattle.std.specs.List.{list_any};
@@ -63,7 +73,7 @@ pub fn sort_names(names: &mut Vec<String>)
 fn is_listed(file: &FileEntry, path: &str) -> bool
     ensures { result
         ≡ (bytes_eq (string_bytes file.now.path) path.now
-            && is_sgf_name (string_bytes file.now.name)) }
+        && is_sgf_name (string_bytes file.now.name)) }
 {
     file.path.as_str() == path && is_sgf_name(file.name.as_str())
 }

@@ -1,7 +1,24 @@
 // A folder in memory.
 ghost use Rattle.std.specs.Prelude.{
-    ◌≡◌, ◌≢◌, ◌+◌, ◌≤◌, ◌↔◌, None, Some, take, map, string_bytes, vec_len, All, AllPairs, Contains,
-    IsTrue, IsErrOf, IsSome, IfOk, OnOk,
+  ◌≡◌,
+  ◌≢◌,
+  ◌+◌,
+  ◌≤◌,
+  ◌↔◌,
+  None,
+  Some,
+  take,
+  map,
+  string_bytes,
+  vec_len,
+  All,
+  AllPairs,
+  Contains,
+  IsTrue,
+  IsErrOf,
+  IsSome,
+  IfOk,
+  OnOk,
 };
 ghost use Rattle.kb_edges.specs.Faults.{next_count};
 ghost use Rattle.kb_edges.specs.Files.{HasPath, IsListing, IsSgfName, content_of};
@@ -22,7 +39,10 @@ pub struct MemoryFolder {
 impl MemoryFolder {
     ghost use Rattle.kb_edges.specs.Entries.{files_of};
     ghost use Rattle.kb_edges.specs.Memory.{
-        folder_files, folder_fails, folder_calls, folder_faults,
+      folder_files,
+      folder_fails,
+      folder_calls,
+      folder_faults,
     };
 
     /// A folder of these files, which fails at the calls of these numbers.
@@ -55,7 +75,10 @@ impl MemoryFolder {
 
 impl Folder for MemoryFolder {
     ghost use Rattle.kb_edges.specs.Memory.{
-        folder_files, folder_fails, folder_calls, folder_faults,
+      folder_files,
+      folder_fails,
+      folder_calls,
+      folder_faults,
     };
 
     ghost files = { λ folder. Some (folder_files folder) };

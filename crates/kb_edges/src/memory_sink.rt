@@ -1,6 +1,17 @@
 // A sink in memory.
 ghost use Rattle.std.specs.Prelude.{
-    ◌≡◌, ◌≢◌, ◌≤◌, ◌↔◌, Some, ◌++◌, length, Contains, IsErrOf, IfOk, OnOk, OnErr,
+  ◌≡◌,
+  ◌≢◌,
+  ◌≤◌,
+  ◌↔◌,
+  Some,
+  ◌++◌,
+  length,
+  Contains,
+  IsErrOf,
+  IfOk,
+  OnOk,
+  OnErr,
 };
 ghost use Rattle.kb_edges.specs.Faults.{next_count};
 

@@ -1,6 +1,19 @@
 // A source in memory.
 ghost use Rattle.std.specs.Prelude.{
-    ◌≡◌, ◌≤◌, ◌↔◌, Some, length, min, take, drop, vec_len, Contains, IsErr, IfOk, OnOk, OnErr,
+  ◌≡◌,
+  ◌≤◌,
+  ◌↔◌,
+  Some,
+  length,
+  min,
+  take,
+  drop,
+  vec_len,
+  Contains,
+  IsErr,
+  IfOk,
+  OnOk,
+  OnErr,
 };
 ghost use Rattle.kb_edges.specs.Faults.{next_count};
 

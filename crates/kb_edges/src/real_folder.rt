@@ -1,6 +1,18 @@
 // A folder over the file system.
 ghost use Rattle.std.specs.Prelude.{
-    ◌≡◌, ◌≢◌, ◌⊎◌, ◌+◌, ◌≤◌, None, map, string_bytes, vec_len, All, AllPairs, IfOk, IsErrOf,
+  ◌≡◌,
+  ◌≢◌,
+  ◌⊎◌,
+  ◌+◌,
+  ◌≤◌,
+  None,
+  map,
+  string_bytes,
+  vec_len,
+  All,
+  AllPairs,
+  IfOk,
+  IsErrOf,
 };
 ghost use Rattle.kb_edges.specs.Faults.{next_count};
 ghost use Rattle.kb_edges.specs.Files.{IsSgfName};

@@ -1,7 +1,28 @@
 // The outside: bytes to read, bytes to write and files, each with a count of its faults.
 ghost use Rattle.std.specs.Prelude.{
-    ◌≡◌, ◌≢◌, ◌+◌, ◌<◌, ◌≤◌, ℕ, List, [], ◌++◌, length, map, take, drop, None, All, AllPairs,
-    IsSome, IfOk, OnOk, OnErr, IsErrOf, vec_len, string_bytes,
+  ◌≡◌,
+  ◌≢◌,
+  ◌+◌,
+  ◌<◌,
+  ◌≤◌,
+  ℕ,
+  List,
+  [],
+  ◌++◌,
+  length,
+  map,
+  take,
+  drop,
+  None,
+  All,
+  AllPairs,
+  IsSome,
+  IfOk,
+  OnOk,
+  OnErr,
+  IsErrOf,
+  vec_len,
+  string_bytes,
 };
 ghost use Rattle.std.specs.declared.option.Option.{Option};
 ghost use Rattle.kb_edges.specs.Faults.{Rose};
@@ -110,7 +131,7 @@ pub trait Folder: Drop {
         ensures bound { IfOk result (λ bytes. vec_len bytes ≤ limit + 1) }
         ensures content { IfTold (files self.old) (λ all. IfOk result (λ read.
             IfTold (content_of all path.now name.now)
-                (λ bytes. read.items ≡ take (limit + 1) bytes))) }
+            (λ bytes. read.items ≡ take (limit + 1) bytes))) }
         ensures there { IfTold (files self.old) (λ all.
             OnOk result (IsSome (content_of all path.now name.now))) }
 

@@ -16,7 +16,11 @@ use Rattle.pattern_images.specs.Turns.{AreTurns}
 -- the placement that is stored so
 abbrev pub placement_in : List Grid → StoredPlace → Placement
 placement_in grids s = record {
-    label = number_of_label s.label; x = s.x; y = s.y; grid = grid_at grids s.class }
+  label = number_of_label s.label;
+  x = s.x;
+  y = s.y;
+  grid = grid_at grids s.class;
+}
 
 -- the placement stands in a row above, or in this row before this column, or at this point under a
 -- lesser label
@@ -42,8 +46,8 @@ abbrev pub ListsOn : Shape → List (Option Turn) → (y x label : ℕ) → List
     (y' x' label' : ℕ) → List StoredPlace → Type 0
 ListsOn shape turns y x label before y' x' label' after =
     (query : Query) (grids : List Grid) → AreTurns query shape grids turns →
-        IsListedTo query shape grids y x label before →
-        IsListedTo query shape grids y' x' label' after
+    IsListedTo query shape grids y x label before →
+    IsListedTo query shape grids y' x' label' after
 
 -- there is a turn, and it gives the rectangle of cells with this number at this point
 abbrev pub GivesAt : ℕ → Point → Option Turn → Type 0

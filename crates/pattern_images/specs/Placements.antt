@@ -21,7 +21,7 @@ pub record Placement : Type 0 where
 abbrev pub Covers : Placement → Point → Type 0
 Covers placement q =
     (placement.x ≤ q.x) × (q.x < placement.x + placement.grid.cols) × (placement.y ≤ q.y)
-        × (q.y < placement.y + placement.grid.rows)
+    × (q.y < placement.y + placement.grid.rows)
 
 -- where a label moves the point in column dx and row dy of the pattern that stands at a base place
 abbrev pub image_point : Shape → ℕ → Point → ℕ → ℕ → Point
@@ -32,7 +32,7 @@ image_point shape label base dx dy = moved (symmetry_of label) shape (point_of (
 abbrev pub IsImagePoint : Query → Shape → ℕ → Point → Point → Type 0
 IsImagePoint query shape label base q =
     (dx : ℕ) × (dy : ℕ) × (dx < (grid_of query.pattern).cols) × (dy < (grid_of query.pattern).rows)
-        × (image_point shape label base dx dy ≡ q)
+    × (image_point shape label base dx dy ≡ q)
 
 -- The placement is what its label makes of the pattern that stands at a base place. Its rectangle
 -- is the set of the images of the pattern's points, and each image carries the cell of its point,
@@ -44,9 +44,9 @@ pub record IsImage (query : Query) (shape : Shape) (base : Point)
   pub cells : (dx dy ex ey : ℕ) → dx < (grid_of query.pattern).cols →
       dy < (grid_of query.pattern).rows →
       image_point shape placement.label base dx dy
-          ≡ point_of (placement.x + ex) (placement.y + ey) →
+      ≡ point_of (placement.x + ex) (placement.y + ey) →
       cell_in placement.grid ex ey
-          ≡ labelled_cell placement.label (cell_in (grid_of query.pattern) dx dy)
+      ≡ labelled_cell placement.label (cell_in (grid_of query.pattern) dx dy)
 
 -- The placement is what its label, one of the query's, makes of the pattern at some base place.
 pub record IsResult (query : Query) (shape : Shape) (placement : Placement) : Type 0 where

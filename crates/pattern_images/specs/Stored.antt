@@ -12,4 +12,7 @@ end_of g = g.start + point_count g.size
 -- the rectangle that is stored so in the list of all cells
 abbrev pub stored_grid : List PatternCell → StoredGrid → Grid
 stored_grid cells g = record {
-    cols = cols_of g.size; rows = rows_of g.size; cells = slice_range cells g.start (end_of g) }
+  cols = cols_of g.size;
+  rows = rows_of g.size;
+  cells = slice_range cells g.start (end_of g);
+}

@@ -24,8 +24,10 @@ turned_cell label to grid p = labelled_cell label
 -- a rectangle of this size, each cell by its point
 abbrev pub grid_by : Shape → (Point → PatternCell) → Grid
 grid_by size f = record {
-    cols = cols_of size; rows = rows_of size;
-    cells = map (λ k. f (numbered size k)) (range_with_len 0 (point_count size)) }
+  cols = cols_of size;
+  rows = rows_of size;
+  cells = map (λ k. f (numbered size k)) (range_with_len 0 (point_count size));
+}
 
 -- the upper left point, after a symmetry of the board, of a rectangle of this size that has its
 -- upper left point there
@@ -35,7 +37,7 @@ upper_left n shape size base =
     else if n == 1 then point_of (cols_of shape - cols_of size - base.x) base.y
     else if n == 2 then point_of base.x (rows_of shape - rows_of size - base.y)
     else if n == 3 then point_of (cols_of shape - cols_of size - base.x)
-        (rows_of shape - rows_of size - base.y)
+    (rows_of shape - rows_of size - base.y)
     else if n == 4 then point_of base.y base.x
     else if n == 5 then point_of base.y (cols_of shape - cols_of size - base.x)
     else if n == 6 then point_of (rows_of shape - rows_of size - base.y) base.x

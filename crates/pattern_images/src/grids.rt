@@ -1,6 +1,21 @@
 // Rectangles of pattern cells, all in one list.
 ghost use Rattle.std.specs.Prelude.{
-    ◌≡◌, ◌↔◌, ℕ, IsTrue, ◌<◌, ◌*◌, ◌++◌, ◌∷◌, [], length, map, All, IfOk, IfSome, IsNone, Contains,
+  ◌≡◌,
+  ◌↔◌,
+  ℕ,
+  IsTrue,
+  ◌<◌,
+  ◌*◌,
+  ◌++◌,
+  ◌∷◌,
+  [],
+  length,
+  map,
+  All,
+  IfOk,
+  IfSome,
+  IsNone,
+  Contains,
 };
 ghost use Rattle.kb_geometry.specs.Board.{cols_of, rows_of, point_count};
 
@@ -79,11 +94,17 @@ impl Grids {
     // The number of the rectangle of this size with these cells. `None` where there is none.
     pub(crate) fn find(&self, size: Shape, cells: &[PatternCell]) -> Option<usize>
         ensures found { IfSome result (λ k. (k < length self.now)
-            × (grid_at self.now k ≡ record { cols = cols_of size; rows = rows_of size;
-            cells = cells.now })) }
+            × (grid_at self.now k ≡ record {
+              cols = cols_of size;
+              rows = rows_of size;
+              cells = cells.now;
+            })) }
         ensures none { IsNone result →
             ¬ Contains self.now (record {
-            cols = cols_of size; rows = rows_of size; cells = cells.now }) }
+              cols = cols_of size;
+              rows = rows_of size;
+              cells = cells.now;
+            }) }
     {
         for number in 0..self.len() {
             if self.is(number, size, cells) {
@@ -106,8 +127,11 @@ impl Grids {
     pub(crate) fn number(&mut self, size: Shape, cells: &[PatternCell]) -> Result<usize, AllocError>
         requires { length cells.now ≡ point_count size }
         ensures there { IfOk result (λ k. (k < length self.new)
-            × (grid_at self.new k ≡ record { cols = cols_of size; rows = rows_of size;
-            cells = cells.now })) }
+            × (grid_at self.new k ≡ record {
+              cols = cols_of size;
+              rows = rows_of size;
+              cells = cells.now;
+            })) }
         ensures grown { IfOk result (λ _. HasGrown self.old self.new) }
     {
         if let Some(number) = self.find(size, cells) {

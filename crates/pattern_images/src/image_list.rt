@@ -31,8 +31,10 @@ impl Model for Images {
     ghost use Rattle.pattern_images.specs.Listing.{placement_in, AreStoredOn};
 
     ghost view = { λ im. record {
-        shape = im.shape; grids = im.grids;
-        placements = map (placement_in im.grids) im.places.items } };
+      shape = im.shape;
+      grids = im.grids;
+      placements = map (placement_in im.grids) im.places.items;
+    } };
 
     ghost invariant = { λ im. AreStoredOn im.shape im.grids im.places.items };
 }
@@ -40,7 +42,11 @@ impl Model for Images {
 impl Images {
     ghost use Rattle.pattern_images.specs.Grid.{cell_in};
     ghost use Rattle.pattern_images.specs.ImageList.{
-        grid_at, placement_at, AreImages, IsPlaceOf, IsPlacedOn,
+      grid_at,
+      placement_at,
+      AreImages,
+      IsPlaceOf,
+      IsPlacedOn,
     };
 
     /// The shape of the board.

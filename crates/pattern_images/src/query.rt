@@ -34,14 +34,14 @@ impl Query {
     /// and mirrored, and with the colours exchanged.
     pub fn new(pattern: Pattern) -> Query
         ensures { result ≡ record {
-            pattern = pattern;
-            same = false;
-            fixed = false;
-            main = false;
-            board = None;
-            from_move = 0;
-            to_move = 65536;
-            at = None;
+          pattern = pattern;
+          same = false;
+          fixed = false;
+          main = false;
+          board = None;
+          from_move = 0;
+          to_move = 65536;
+          at = None;
         } }
     {
         Query {

@@ -2,7 +2,10 @@
 ghost use Rattle.std.specs.Prelude.{◌≡◌, IfOk};
 ghost use Rattle.kb_geometry.specs.Board.{cols_of, rows_of, IsOnBoard};
 ghost use Rattle.kb_geometry.specs.Symmetry.{
-    number_of_label, symmetry_of, turned_cols, turned_rows,
+  number_of_label,
+  symmetry_of,
+  turned_cols,
+  turned_rows,
 };
 ghost use Rattle.pattern_images.specs.Pattern.{grid_of, size_of};
 ghost use Rattle.pattern_images.specs.Turned.{turned_cell, grid_by};

@@ -15,8 +15,8 @@ mod read;
 
 pub use fault::{PatternError, PatternFault};
 pub use laws::{
-    a_first_fault_is_near, a_pattern_text_has_one_first_fault, a_text_spells_a_pattern_or_has_a_fault,
-    a_text_spells_one_pattern,
+    a_first_fault_is_near, a_pattern_text_has_one_first_fault,
+    a_text_spells_a_pattern_or_has_a_fault, a_text_spells_one_pattern,
 };
 pub use print::print_pattern;
 pub use read::read_pattern;

@@ -1,7 +1,19 @@
 // How far a text was read, and what its next byte does.
 ghost use Rattle.std.specs.Prelude.{
-    ◌≡◌, ◌≢◌, ◌+◌, ◌++◌, ◌<◌, ◌≤◌, ◌⊎◌, [], ℕ, List, length, slice_index, MatchOption,
-    option_to_list,
+  ◌≡◌,
+  ◌≢◌,
+  ◌+◌,
+  ◌++◌,
+  ◌<◌,
+  ◌≤◌,
+  ◌⊎◌,
+  [],
+  ℕ,
+  List,
+  length,
+  slice_index,
+  MatchOption,
+  option_to_list,
 };
 ghost use Rattle.kb_geometry.specs.Board.{cols_of, rows_of};
 ghost use Rattle.pattern_images.specs.declared.cell.PatternCell.{PatternCell};
@@ -70,8 +82,8 @@ impl Progress {
         ensures { (text : List ℕ) (k : ℕ) (cells : List PatternCell) →
             IsPatternReadTo text k self cells → k < length text → slice_index text k ≡ byte →
             MatchOption result (HasPatternFault text k)
-                (λ step. IsPatternReadTo text (k + 1) step.next (cells
-                ++ option_to_list step.cell)) }
+            (λ step. IsPatternReadTo text (k + 1) step.next (cells
+            ++ option_to_list step.cell)) }
     {
         if byte == SLASH {
             self.after_slash()
@@ -86,8 +98,8 @@ impl Progress {
         ensures { (text : List ℕ) (k : ℕ) (cells : List PatternCell) →
             IsPatternReadTo text k self cells → k < length text → slice_index text k ≡ slash →
             MatchOption result (HasPatternFault text k)
-                (λ step. IsPatternReadTo text (k + 1) step.next (cells
-                ++ option_to_list step.cell)) }
+            (λ step. IsPatternReadTo text (k + 1) step.next (cells
+            ++ option_to_list step.cell)) }
     {
         let closed = self.size()?;
         if closed.rows() == MAX_SIDE {
@@ -108,8 +120,8 @@ impl Progress {
             IsPatternReadTo text k self cells → k < length text →
             slice_index text k ≡ cell_byte cell →
             MatchOption result (HasPatternFault text k)
-                (λ step. IsPatternReadTo text (k + 1) step.next (cells
-                ++ option_to_list step.cell)) }
+            (λ step. IsPatternReadTo text (k + 1) step.next (cells
+            ++ option_to_list step.cell)) }
     {
         let width = one_wider(self.width)?;
         Some(Step {

@@ -23,7 +23,7 @@ GoesOnAs text count games =
 abbrev pub StandsAt : {A : Type 0} → List A → ℕ → A → Type 0
 StandsAt {A} items count item =
     (before : List A) × (after : List A) × (items ≡ before ++ item ∷ after)
-        × (length before ≡ count)
+    × (length before ≡ count)
 
 -- The byte at this offset is a bracket `(` that would be the first past the limit of open ones.
 pub record IsTooDeep (text : List ℕ) (at : ℕ) : Type 0 where

@@ -81,7 +81,7 @@ pub data AreNodes (depth : ℕ) :
       IsWhite white →
       AreProperties (at + length white + 1) properties pairs →
       AreNodes depth None (Some number) (number + 1)
-          (at + length (white ++ semicolon ∷ properties)) rest nodes →
+      (at + length (white ++ semicolon ∷ properties)) rest nodes →
       AreNodes depth opened parent number at (white ++ semicolon ∷ properties ++ rest)
       (record {
         opened =
@@ -107,7 +107,7 @@ mutual
         (at + length (round_open ∷ sequence)) inner inside →
         IsWhite white →
         IsTreeText depth parent number at (round_open ∷ sequence ++ inner ++ white
-            ++ round_close ∷ [])
+        ++ round_close ∷ [])
         (nodes ++ inside)
 
   -- The text is any number of trees with white space before each, all with this parent.

@@ -147,7 +147,7 @@ pub data Fails (s : Scan) (offset byte : ℕ) : SgfFault → Type 0 where
 abbrev pub StepsOn : View → places.Place → ℕ → ℕ → View → places.Place → Type 0
 StepsOn v now offset byte read next =
     (s : Scan) → Shows v now s → IsWithinLimits (length s.games) s.place →
-        Leads s offset byte read next
+    Leads s offset byte read next
 
 -- From here this byte is a fault of each scan that the reader shows.
 abbrev pub StepFails : View → places.Place → ℕ → ℕ → SgfFault → Type 0

@@ -61,14 +61,24 @@ is_letter b = is_upper b || (nat_le small_a b && nat_le b small_z)
 -- the phase is another one
 abbrev pub at_phase : Inside → Phase → Inside
 at_phase s phase = record {
-    at = s.at; parents = s.parents; last = s.last; nodes = s.nodes; phase = phase }
+  at = s.at;
+  parents = s.parents;
+  last = s.last;
+  nodes = s.nodes;
+  phase = phase;
+}
 
 -- the last of these nodes has one more value
 abbrev pub with_pair : List SpelledNode → Pair → List SpelledNode
 with_pair [] pair = []
 with_pair (node ∷ []) pair = record {
-    opened = node.opened; at = node.at; depth = node.depth; parent = node.parent; pairs = node.pairs
-    ++ pair ∷ [] } ∷ []
+  opened = node.opened;
+  at = node.at;
+  depth = node.depth;
+  parent = node.parent;
+  pairs = node.pairs
+      ++ pair ∷ [];
+} ∷ []
 with_pair (node ∷ other ∷ nodes) pair = node ∷ with_pair (other ∷ nodes) pair
 
 -- a node begins at this offset
@@ -77,8 +87,13 @@ with_node s opened at = record {
   at = s.at;
   parents = s.parents;
   last = Some (length s.nodes);
-  nodes = s.nodes ++ record { opened = opened; at = at; depth = length s.parents; parent = s.last;
-      pairs = [] } ∷ [];
+  nodes = s.nodes ++ record {
+    opened = opened;
+    at = at;
+    depth = length s.parents;
+    parent = s.last;
+    pairs = [];
+  } ∷ [];
   phase = InNode;
 }
 
@@ -100,7 +115,12 @@ closed games s (parent ∷ []) =
 closed games s (parent ∷ other ∷ parents) = record {
   games = games;
   place = Within (record {
-      at = s.at; parents = other ∷ parents; last = parent; nodes = s.nodes; phase = AfterTree });
+    at = s.at;
+    parents = other ∷ parents;
+    last = parent;
+    nodes = s.nodes;
+    phase = AfterTree;
+  });
 }
 
 -- the reader goes on within the tree
@@ -145,9 +165,12 @@ step_within games s (AfterName name) at b =
     else None
 step_within games s (InValue name from) at b =
     if b == square_close then within games (record {
-        at = s.at; parents = s.parents; last = s.last;
-        nodes = with_pair s.nodes (record { name = name; value = record { from = from; to = at } });
-        phase = AfterValue name })
+      at = s.at;
+      parents = s.parents;
+      last = s.last;
+      nodes = with_pair s.nodes (record { name = name; value = record { from = from; to = at } });
+      phase = AfterValue name;
+    })
     else if b == backslash then within games (at_phase s (Escaped name from))
     else within games s
 step_within games s (Escaped name from) at b = within games (at_phase s (InValue name from))
@@ -161,7 +184,12 @@ step_within games s AfterTree at b = if is_white b then within games s else step
 -- a game begins: the bracket at the first offset, the root's `;` at the second
 abbrev pub begun : ℕ → ℕ → Inside
 begun from at = with_node (record {
-    at = from; parents = None ∷ []; last = None; nodes = []; phase = Opened from }) (Some from) at
+  at = from;
+  parents = None ∷ [];
+  last = None;
+  nodes = [];
+  phase = Opened from;
+}) (Some from) at
 
 -- One byte leads a reader on.
 abbrev pub step : List SpelledGame → Place → ℕ → ℕ → Option Scan

@@ -1,14 +1,32 @@
 // What was read so far of a text.
 ghost use Rattle.std.specs.Prelude.{
-    ◌≡◌, ◌+◌, ◌<◌, ◌≤◌, ◌⊎◌, ℕ, Some, [], ◌∷◌, true, false, length, IfOk, Err,
+  ◌≡◌,
+  ◌+◌,
+  ◌<◌,
+  ◌≤◌,
+  ◌⊎◌,
+  ℕ,
+  Some,
+  [],
+  ◌∷◌,
+  true,
+  false,
+  length,
+  IfOk,
+  Err,
 };
 ghost use Rattle.sgf_reader.specs.declared.fault.ReadError.TheVariants.{Fault};
 ghost use Rattle.sgf_reader.specs.declared.fault.SgfFault.{SgfFault};
 ghost use Rattle.sgf_reader.specs.declared.fault.FaultKind.TheVariants as kind;
 ghost use Rattle.sgf_reader.specs.Limits.{most_games, most_nodes, most_open};
 ghost use Rattle.sgf_reader.specs.Reading.{
-    with_raw_pair, with_raw_node, with_raw_bracket, closed_view, closed_place, IsPlaceOutside,
-    IsEndFault,
+  with_raw_pair,
+  with_raw_node,
+  with_raw_bracket,
+  closed_view,
+  closed_place,
+  IsPlaceOutside,
+  IsEndFault,
 };
 
 use crate::limits::{MAX_GAMES, MAX_NODES, MAX_OPEN};
@@ -68,8 +86,13 @@ impl Reading {
 
     // Nothing so far.
     pub(crate) fn new(alloc: Global) -> Self
-        ensures { result ≡ record { games = []; nodes = []; is_reading = false; parents = [];
-            last = None } }
+        ensures { result ≡ record {
+          games = [];
+          nodes = [];
+          is_reading = false;
+          parents = [];
+          last = None;
+        } }
     {
         Reading {
             alloc,
@@ -117,7 +140,7 @@ impl Reading {
             (self.new ≡ with_raw_node self.old) × (length self.old.nodes < most_nodes)) }
         ensures fault { (f : SgfFault) → result ≡ Err (Fault f) →
             (f ≡ record { kind = kind.TooManyNodes; at = at })
-                × (most_nodes ≤ length self.old.nodes) }
+            × (most_nodes ≤ length self.old.nodes) }
     {
         self.finish_node()?;
         let number = self.nodes.len();

@@ -2,7 +2,13 @@
 ghost use Rattle.std.specs.Prelude.{◌≡◌, ◌<◌, ◌^◌, ◌+◌, List, ℕ, Bool, true, false};
 ghost use Rattle.sgf_reader.specs.Grammar.{SpelledGame};
 ghost use Rattle.sgf_reader.specs.Scan.{
-    Inside, step_within, step_node, step_between, is_white, is_upper, is_letter,
+  Inside,
+  step_within,
+  step_node,
+  step_between,
+  is_white,
+  is_upper,
+  is_letter,
 };
 ghost use Rattle.sgf_reader.specs.Turn.{phase_of, apply_turn, is_in_node, StaysInNode};
 

@@ -28,7 +28,11 @@ content n parts log b = record { number = n; parts = parts; log = log; opening =
 abbrev pub extended : {A : Type 0} → Content A → ℕ → List (List A) → List (List A) → Book →
     Content A
 extended c n parts log b = record {
-    number = n; parts = c.parts ++ parts; log = log; opening = opening_of b }
+  number = n;
+  parts = c.parts ++ parts;
+  log = log;
+  opening = opening_of b;
+}
 
 -- the list with this element in the place of its last two; a list of fewer stays
 abbrev pub merged_last : {B : Type 0} → List B → B → List B
@@ -85,7 +89,7 @@ abbrev pub IsLawfulSeat : {A : Type 0} → ℕ → List (List (List A)) → Open
     Type 0
 IsLawfulSeat publisher history opening seat v =
     KnowsOnly opening v.openings × IsEmptyOrAmong v.read history
-        × (seat ≡ publisher → v.published ≡ history) × (seat ≢ publisher → AreEmpty v.published)
+    × (seat ≡ publisher → v.published ≡ history) × (seat ≢ publisher → AreEmpty v.published)
 
 -- The rule of the published value: it is consistent, its log was published, all logs that were
 -- published are prefixes of it, and each seat knows what it may
@@ -106,9 +110,9 @@ abbrev pub ReadsArePublished : Type 0 → ℕ → Type 0
 ReadsArePublished A most =
     (c : Content A) (views : List (Knowledge A)) → IsLawfulContent most c views
     → (seat : ℕ) (v : Knowledge A) → get_elem? views seat ≡ some v →
-        IsEmptyOrAmong c.log v.published
+    IsEmptyOrAmong c.log v.published
     → (other : ℕ) (u : Knowledge A) → get_elem? views other ≡ some u →
-        IsEmptyOrAmong u.read v.published
+    IsEmptyOrAmong u.read v.published
 
 -- A content to which a publish of that one may go
 abbrev pub MayFollow : {A : Type 0} → ℕ → Content A → Content A → Type 0

@@ -3,7 +3,11 @@ ghost use Rattle.std.specs.Prelude.{◌≡◌, [], ◌∷◌, ◌++◌, ◌||◌
 ghost use Rattle.std.specs.Arc.{arc_value};
 ghost use Rattle.left_right.specs.Sides.{view};
 ghost use Rattle.version_publisher.specs.Contents.{
-    IsEmptyOrAmong, IsReady, MayFollow, after_publish, is_nonempty,
+  IsEmptyOrAmong,
+  IsReady,
+  MayFollow,
+  after_publish,
+  is_nonempty,
 };
 ghost use Rattle.version_publisher.specs.Replicas.{content_of, content_after};
 
@@ -40,15 +44,15 @@ pub fn publish_queued<P: Part, R: Wait>(
         (view writer.desk.place).published }
     ensures { MatchResult result.1
         (λ _. (content_of P.items result.0.desk.shown.value
-            ≡ content_after P.items writer.desk.shown.value (drop writer.behind writer.log.items))
-            × (drop result.0.behind result.0.log.items ≡ [])
-            × (view result.0.desk.place
-            ≡ after_publish (view writer.desk.place) (content_of P.items result.0.desk.shown.value))
-            × IsEmptyOrAmong (content_of P.items result.0.desk.shown.value).log
-            (view result.0.desk.place).published)
+        ≡ content_after P.items writer.desk.shown.value (drop writer.behind writer.log.items))
+        × (drop result.0.behind result.0.log.items ≡ [])
+        × (view result.0.desk.place
+        ≡ after_publish (view writer.desk.place) (content_of P.items result.0.desk.shown.value))
+        × IsEmptyOrAmong (content_of P.items result.0.desk.shown.value).log
+        (view result.0.desk.place).published)
         (λ _. (result.0.desk.shown.value ≡ writer.desk.shown.value)
-            × (drop result.0.behind result.0.log.items ≡ drop writer.behind writer.log.items)
-            × (view result.0.desk.place ≡ view writer.desk.place)) }
+        × (drop result.0.behind result.0.log.items ≡ drop writer.behind writer.log.items)
+        × (view result.0.desk.place ≡ view writer.desk.place)) }
 {
     writer.publish_as::<Publish, R>(rt)
 }
@@ -65,18 +69,18 @@ pub fn publish_in_place<P: Part, R: Wait>(
         (view writer.old.desk.place).published }
     ensures { MatchResult result
         (λ _. (content_of P.items writer.new.desk.shown.value
-            ≡ content_after P.items writer.old.desk.shown.value
-            (drop writer.old.behind writer.old.log.items))
-            × (drop writer.new.behind writer.new.log.items ≡ [])
-            × (view writer.new.desk.place
-            ≡ after_publish (view writer.old.desk.place)
-            (content_of P.items writer.new.desk.shown.value))
-            × IsEmptyOrAmong (content_of P.items writer.new.desk.shown.value).log
-            (view writer.new.desk.place).published)
+        ≡ content_after P.items writer.old.desk.shown.value
+        (drop writer.old.behind writer.old.log.items))
+        × (drop writer.new.behind writer.new.log.items ≡ [])
+        × (view writer.new.desk.place
+        ≡ after_publish (view writer.old.desk.place)
+        (content_of P.items writer.new.desk.shown.value))
+        × IsEmptyOrAmong (content_of P.items writer.new.desk.shown.value).log
+        (view writer.new.desk.place).published)
         (λ _. (writer.new.desk.shown.value ≡ writer.old.desk.shown.value)
-            × (drop writer.new.behind writer.new.log.items
-            ≡ drop writer.old.behind writer.old.log.items)
-            × (view writer.new.desk.place ≡ view writer.old.desk.place)) }
+        × (drop writer.new.behind writer.new.log.items
+        ≡ drop writer.old.behind writer.old.log.items)
+        × (view writer.new.desk.place ≡ view writer.old.desk.place)) }
 {
     replace_with(
         writer,

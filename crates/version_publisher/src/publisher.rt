@@ -1,13 +1,33 @@
 // The publisher.
 ghost use Rattle.std.specs.Prelude.{
-    ◌≡◌, ◌+◌, ◌≤◌, ◌<◌, ◌^◌, [], ◌∷◌, ◌++◌, ◌⊎◌, true, false, length, drop, IfSome, MatchResult,
-    MatchOption,
+  ◌≡◌,
+  ◌+◌,
+  ◌≤◌,
+  ◌<◌,
+  ◌^◌,
+  [],
+  ◌∷◌,
+  ◌++◌,
+  ◌⊎◌,
+  true,
+  false,
+  length,
+  drop,
+  IfSome,
+  MatchResult,
+  MatchOption,
 };
 ghost use Rattle.std.specs.Bool.{OnFalse};
 ghost use Rattle.std.specs.Arc.{arc_value};
 ghost use Rattle.left_right.specs.Sides.{view as seat_view};
 ghost use Rattle.version_publisher.specs.Contents.{
-    opening_of, items_in, content, merged_last, last_two_joined, IsEmptyOrAmong, ReadsArePublished,
+  opening_of,
+  items_in,
+  content,
+  merged_last,
+  last_two_joined,
+  IsEmptyOrAmong,
+  ReadsArePublished,
 };
 ghost use Rattle.version_publisher.specs.Replicas.{content_of};
 
@@ -43,22 +63,27 @@ where
     ghost use Rattle.left_right.specs.Sides.{view as seat_view};
     ghost use Rattle.version_publisher.specs.declared.state.PublisherState.{PublisherState};
     ghost use Rattle.version_publisher.specs.Contents.{
-        opening_of, is_nonempty, IsEmptyOrAmong, IsReady,
+      opening_of,
+      is_nonempty,
+      IsEmptyOrAmong,
+      IsReady,
     };
     ghost use Rattle.version_publisher.specs.Replicas.{content_of, content_after};
 
     ghost Value = { PublisherState P.Item };
 
     ghost view = { λ p. record {
-        opening = opening_of p.end.token.book; log = p.writer.desk.shown.value.token.log;
-        published = (seat_view p.writer.desk.place).published;
-        pending = drop (length p.writer.desk.shown.value.token.log) p.end.token.log;
-        parts = map (λ a. P.items (arc_value a)) p.writer.desk.shown.value.parts.items;
-        next_parts = (content_after P.items p.writer.desk.shown.value
-        (drop p.writer.behind p.writer.log.items)).parts
-        ++ map (λ a. P.items (arc_value a)) p.waiting.items;
-        has_pending = is_nonempty (drop p.writer.behind p.writer.log.items)
-        || is_nonempty p.waiting.items } };
+      opening = opening_of p.end.token.book;
+      log = p.writer.desk.shown.value.token.log;
+      published = (seat_view p.writer.desk.place).published;
+      pending = drop (length p.writer.desk.shown.value.token.log) p.end.token.log;
+      parts = map (λ a. P.items (arc_value a)) p.writer.desk.shown.value.parts.items;
+      next_parts = (content_after P.items p.writer.desk.shown.value
+          (drop p.writer.behind p.writer.log.items)).parts
+          ++ map (λ a. P.items (arc_value a)) p.waiting.items;
+      has_pending = is_nonempty (drop p.writer.behind p.writer.log.items)
+          || is_nonempty p.waiting.items;
+    } };
 
     ghost invariant = { λ p.
         (((seat_view p.writer.desk.place).openings ≡ opening_of p.end.token.book ∷ [])
@@ -96,9 +121,13 @@ impl<P: Part> Publisher<P> {
             ++ self.old.pending)) + length (P.items (arc_value part)) ≤ P.MOST }
         requires number { length (self.old.log ++ self.old.pending) + 1 < 2 ^ 64 }
         ensures { MatchResult result
-            (λ _. self.new ≡ record self.old { pending = self.old.pending
-                ++ P.items (arc_value part) ∷ []; next_parts = self.old.next_parts
-                ++ P.items (arc_value part) ∷ []; has_pending = true })
+            (λ _. self.new ≡ record self.old {
+              pending = self.old.pending
+                  ++ P.items (arc_value part) ∷ [];
+              next_parts = self.old.next_parts
+                  ++ P.items (arc_value part) ∷ [];
+              has_pending = true;
+            })
             (λ e. (e.0 ≡ part) × (self.new ≡ self.old)) }
     {
         // The log can't be undone, so what may be refused comes first.
@@ -117,11 +146,16 @@ impl<P: Part> Publisher<P> {
     pub fn publish<R: Wait>(&mut self, rt: &R) -> Result<Receipt<P>, NoMemory>
         ensures { MatchResult result
             (λ receipt. (self.new ≡ record self.old {
-                log = self.old.log ++ self.old.pending; published = self.old.published
-                ++ (self.old.log ++ self.old.pending)
-                ∷ []; pending = []; parts = self.old.next_parts; has_pending = false })
-                × (receipt.opening ≡ self.old.opening)
-                × (receipt.log ≡ self.old.log ++ self.old.pending))
+              log = self.old.log ++ self.old.pending;
+              published = self.old.published
+                  ++ (self.old.log ++ self.old.pending)
+                  ∷ [];
+              pending = [];
+              parts = self.old.next_parts;
+              has_pending = false;
+            })
+            × (receipt.opening ≡ self.old.opening)
+            × (receipt.log ≡ self.old.log ++ self.old.pending))
             (λ _. self.new ≡ self.old) }
     {
         queue_waiting(self.alloc, &mut self.writer, &mut self.waiting, &self.end)?;
@@ -139,8 +173,11 @@ impl<P: Part> Publisher<P> {
         ensures none_pending { self.old.pending ≡ [] }
         ensures merged { MatchResult result
             (λ _. self.new
-                ≡ record self.old { next_parts = merged_last self.old.parts
-                (P.items (arc_value merged)); has_pending = true })
+            ≡ record self.old {
+              next_parts = merged_last self.old.parts
+                  (P.items (arc_value merged));
+              has_pending = true;
+            })
             (λ e. (e.0 ≡ merged) × (self.new ≡ self.old)) }
     {
         match self.writer.append(Change::MergeLast(merged)) {
@@ -160,8 +197,8 @@ impl<P: Part> Publisher<P> {
         ensures last { MatchOption result
             ((length self.now.parts < 2) ⊎ (self.now.has_pending ≡ true))
             (λ t. (self.now.has_pending ≡ false)
-                × ((before : _) × (self.now.parts
-                ≡ before ++ P.items t.0.now ∷ P.items t.1.now ∷ []))) }
+            × ((before : _) × (self.now.parts
+            ≡ before ++ P.items t.0.now ∷ P.items t.1.now ∷ []))) }
     {
         if self.has_pending() {
             return None;

@@ -62,7 +62,7 @@ impl<P: Part> Absorb<Change<P>> for Replica<P> {
 fn merge_last<T: Drop>(parts: &mut Vec<Arc<T>>, part: &Arc<T>) -> Result<(), AllocError>
     ensures { MatchResult result
         (λ _. map arc_value parts.new.items
-            ≡ merged_last (map arc_value parts.old.items) (arc_value part.now))
+        ≡ merged_last (map arc_value parts.old.items) (arc_value part.now))
         (λ _. parts.new.items ≡ parts.old.items) }
 {
     let part = Arc::try_clone(part)?;

@@ -61,8 +61,11 @@ impl<P: Part> Model for Searcher<P> {
     ghost Value = { SearcherState P.Item };
 
     ghost view = { λ s. record {
-        opening = s.seen.opening; read = (seat_view s.reader.place).read; seen = s.seen.log;
-        learned = s.learned.log } };
+      opening = s.seen.opening;
+      read = (seat_view s.reader.place).read;
+      seen = s.seen.log;
+      learned = s.learned.log;
+    } };
 
     ghost invariant = { λ s. ((seat_view s.reader.place).openings ≡ s.seen.opening ∷ [])
         × (s.learned.opening ≡ s.seen.opening)
@@ -112,8 +115,8 @@ impl<P: Part> Searcher<P> {
         ensures read { IsPrefix self.old.read self.new.read }
         ensures answer { MatchResult result
             (λ v. (self.new.seen ≡ self.new.read) × (v.number ≡ length self.new.seen)
-                × (items_in v.parts ≡ items_in self.new.seen) × IsPrefix self.old.seen self.new.seen
-                × IsPrefix self.old.learned self.new.seen)
+            × (items_in v.parts ≡ items_in self.new.seen) × IsPrefix self.old.seen self.new.seen
+            × IsPrefix self.old.learned self.new.seen)
             (λ _. self.new ≡ record self.old { read = self.new.read }) }
     {
         let (version, found) = read(&mut self.reader, alloc)?;
@@ -169,8 +172,8 @@ impl<P: Part> Searcher<P> {
         ensures read { IsPrefix self.old.read self.new.read }
         ensures answer { MatchResult result
             (λ v. (self.new.seen ≡ publisher.now.log) × (self.new.seen ≡ self.new.read)
-                × (v.number ≡ length self.new.seen) × (items_in v.parts ≡ items_in self.new.seen)
-                × IsPrefix self.old.seen self.new.seen)
+            × (v.number ≡ length self.new.seen) × (items_in v.parts ≡ items_in self.new.seen)
+            × IsPrefix self.old.seen self.new.seen)
             (λ _. self.new ≡ record self.old { read = self.new.read }) }
     {
         let (version, found) = read(&mut self.reader, alloc)?;

@@ -1,6 +1,17 @@
 // What a look gives.
 ghost use Rattle.std.specs.Prelude.{
-    ◌≡◌, ◌+◌, ◌≤◌, ◌<◌, ◌^◌, ◌++◌, ◌∷◌, [], map, length, IfOk, MatchResult,
+  ◌≡◌,
+  ◌+◌,
+  ◌≤◌,
+  ◌<◌,
+  ◌^◌,
+  ◌++◌,
+  ◌∷◌,
+  [],
+  map,
+  length,
+  IfOk,
+  MatchResult,
 };
 ghost use Rattle.std.specs.Arc.{arc_value};
 ghost use Rattle.version_publisher.specs.Contents.{items_in};
@@ -28,7 +39,9 @@ impl<P: Part> Model for Version<P> {
     ghost Value = { VersionState P.Item };
 
     ghost view = { λ v. record {
-        number = v.number; parts = map (λ a. P.items (arc_value a)) v.parts.items } };
+      number = v.number;
+      parts = map (λ a. P.items (arc_value a)) v.parts.items;
+    } };
 
     ghost invariant = { λ v. length
         (items_in (map (λ a. P.items (arc_value a)) v.parts.items)) ≤ P.MOST };
@@ -80,7 +93,7 @@ impl<P: Part> Version<P> {
         requires number { self.old.number + 1 < 2 ^ 64 }
         ensures { MatchResult result
             (λ _. (self.new.number ≡ self.old.number + 1)
-                × (self.new.parts ≡ self.old.parts ++ P.items (arc_value part) ∷ []))
+            × (self.new.parts ≡ self.old.parts ++ P.items (arc_value part) ∷ []))
             (λ e. (e.0 ≡ part) × (self.new ≡ self.old)) }
     {
         if let Err(failed) = self.parts.push(part) {

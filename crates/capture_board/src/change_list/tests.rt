@@ -112,216 +112,218 @@ const BLACK: Colour = Colour::Black;
 
 const WHITE: Colour = Colour::White;
 
+const MOVES: [Case; 9] = [
+    // a stone in each of two corners, and one that has no liberty between them
+    (
+        2,
+        2,
+        [Play(BLACK, 0, 0), Clear, Clear, Clear, Clear],
+        [None; 4],
+    ),
+    (
+        2,
+        2,
+        [Play(BLACK, 0, 0), Clear, Clear, Clear, Pass(WHITE)],
+        [None; 4],
+    ),
+    (
+        2,
+        2,
+        [Clear, Clear, Clear, Clear, Play(BLACK, 0, 0)],
+        [Some((0, E, B)), None, None, None],
+    ),
+    (
+        2,
+        2,
+        [Play(BLACK, 0, 0), Clear, Clear, Clear, Play(BLACK, 1, 1)],
+        [Some((3, E, B)), None, None, None],
+    ),
+    (
+        2,
+        2,
+        [
+            Play(BLACK, 0, 0),
+            Play(BLACK, 1, 1),
+            Clear,
+            Clear,
+            Play(WHITE, 0, 1),
+        ],
+        [None; 4],
+    ),
+    // a stone on a stone
+    (
+        3,
+        3,
+        [Play(BLACK, 1, 1), Clear, Clear, Clear, Play(WHITE, 1, 1)],
+        [Some((4, B, W)), None, None, None],
+    ),
+    (
+        3,
+        3,
+        [Play(BLACK, 1, 1), Clear, Clear, Clear, Play(BLACK, 1, 1)],
+        [None; 4],
+    ),
+    // a capture, and one with all moves in the list
+    (
+        3,
+        3,
+        [
+            Play(WHITE, 0, 0),
+            Play(BLACK, 1, 0),
+            Play(WHITE, 2, 2),
+            Clear,
+            Play(BLACK, 0, 1),
+        ],
+        [Some((0, W, E)), Some((3, E, B)), None, None],
+    ),
+    (
+        3,
+        3,
+        [
+            Clear,
+            Play(WHITE, 0, 0),
+            Play(BLACK, 1, 0),
+            Play(WHITE, 2, 2),
+            Play(BLACK, 0, 1),
+        ],
+        [Some((1, E, B)), Some((3, E, B)), Some((8, E, W)), None],
+    ),
+];
+
 #[test]
 fn moves(rt: HostRuntime) {
-    let cases = [
-        // a stone in each of two corners, and one that has no liberty between them
-        (
-            2,
-            2,
-            [Play(BLACK, 0, 0), Clear, Clear, Clear, Clear],
-            [None; 4],
-        ),
-        (
-            2,
-            2,
-            [Play(BLACK, 0, 0), Clear, Clear, Clear, Pass(WHITE)],
-            [None; 4],
-        ),
-        (
-            2,
-            2,
-            [Clear, Clear, Clear, Clear, Play(BLACK, 0, 0)],
-            [Some((0, E, B)), None, None, None],
-        ),
-        (
-            2,
-            2,
-            [Play(BLACK, 0, 0), Clear, Clear, Clear, Play(BLACK, 1, 1)],
-            [Some((3, E, B)), None, None, None],
-        ),
-        (
-            2,
-            2,
-            [
-                Play(BLACK, 0, 0),
-                Play(BLACK, 1, 1),
-                Clear,
-                Clear,
-                Play(WHITE, 0, 1),
-            ],
-            [None; 4],
-        ),
-        // a stone on a stone
-        (
-            3,
-            3,
-            [Play(BLACK, 1, 1), Clear, Clear, Clear, Play(WHITE, 1, 1)],
-            [Some((4, B, W)), None, None, None],
-        ),
-        (
-            3,
-            3,
-            [Play(BLACK, 1, 1), Clear, Clear, Clear, Play(BLACK, 1, 1)],
-            [None; 4],
-        ),
-        // a capture, and one with all moves in the list
-        (
-            3,
-            3,
-            [
-                Play(WHITE, 0, 0),
-                Play(BLACK, 1, 0),
-                Play(WHITE, 2, 2),
-                Clear,
-                Play(BLACK, 0, 1),
-            ],
-            [Some((0, W, E)), Some((3, E, B)), None, None],
-        ),
-        (
-            3,
-            3,
-            [
-                Clear,
-                Play(WHITE, 0, 0),
-                Play(BLACK, 1, 0),
-                Play(WHITE, 2, 2),
-                Play(BLACK, 0, 1),
-            ],
-            [Some((1, E, B)), Some((3, E, B)), Some((8, E, W)), None],
-        ),
-    ];
-    for case in &cases {
+    for case in &MOVES {
         check(&rt, case);
     }
 }
 
+const SETUPS: [Case; 10] = [
+    // a stone that is put and taken away, and one that is changed and changed back
+    (
+        2,
+        2,
+        [
+            Set(B, 0, 0, 0, 0),
+            Set(E, 0, 0, 0, 0),
+            Pass(BLACK),
+            Pass(WHITE),
+            Pass(BLACK),
+        ],
+        [None; 4],
+    ),
+    (
+        2,
+        2,
+        [
+            Set(B, 0, 0, 0, 0),
+            Clear,
+            Set(W, 0, 0, 0, 0),
+            Set(E, 0, 0, 1, 1),
+            Set(B, 0, 0, 0, 0),
+        ],
+        [None; 4],
+    ),
+    // points in descending order
+    (
+        3,
+        3,
+        [
+            Clear,
+            Clear,
+            Set(B, 2, 2, 2, 2),
+            Set(W, 0, 0, 0, 0),
+            Set(B, 1, 1, 1, 1),
+        ],
+        [Some((0, E, W)), Some((4, E, B)), Some((8, E, B)), None],
+    ),
+    // rectangles: a part of one anew, a board that isn't square, stones without liberties
+    (
+        3,
+        3,
+        [Clear, Clear, Clear, Set(B, 0, 0, 1, 1), Set(W, 1, 0, 1, 0)],
+        [
+            Some((0, E, B)),
+            Some((1, E, W)),
+            Some((3, E, B)),
+            Some((4, E, B)),
+        ],
+    ),
+    (
+        3,
+        2,
+        [Clear, Clear, Clear, Clear, Set(W, 1, 0, 2, 1)],
+        [
+            Some((1, E, W)),
+            Some((2, E, W)),
+            Some((4, E, W)),
+            Some((5, E, W)),
+        ],
+    ),
+    (
+        2,
+        2,
+        [Set(W, 0, 0, 0, 1), Clear, Clear, Clear, Set(B, 0, 0, 1, 1)],
+        [
+            Some((0, W, B)),
+            Some((1, E, B)),
+            Some((2, W, B)),
+            Some((3, E, B)),
+        ],
+    ),
+    (
+        3,
+        3,
+        [Set(B, 0, 0, 2, 2), Clear, Clear, Clear, Set(B, 1, 0, 2, 1)],
+        [None; 4],
+    ),
+    // a setup and moves: a stone that is put and captured, one that comes back where one was captured
+    (
+        3,
+        3,
+        [
+            Clear,
+            Clear,
+            Set(W, 0, 0, 0, 0),
+            Play(BLACK, 1, 0),
+            Play(BLACK, 0, 1),
+        ],
+        [Some((1, E, B)), Some((3, E, B)), None, None],
+    ),
+    (
+        3,
+        3,
+        [
+            Play(WHITE, 0, 0),
+            Play(BLACK, 1, 0),
+            Clear,
+            Play(BLACK, 0, 1),
+            Set(W, 0, 0, 0, 0),
+        ],
+        [Some((3, E, B)), None, None, None],
+    ),
+    // the first move beside stones that were set up without a liberty takes them off
+    (
+        2,
+        2,
+        [
+            Set(W, 0, 0, 1, 0),
+            Set(W, 0, 1, 0, 1),
+            Clear,
+            Clear,
+            Play(BLACK, 1, 1),
+        ],
+        [
+            Some((0, W, E)),
+            Some((1, W, E)),
+            Some((2, W, E)),
+            Some((3, E, B)),
+        ],
+    ),
+];
+
 #[test]
 fn setups(rt: HostRuntime) {
-    let cases = [
-        // a stone that is put and taken away, and one that is changed and changed back
-        (
-            2,
-            2,
-            [
-                Set(B, 0, 0, 0, 0),
-                Set(E, 0, 0, 0, 0),
-                Pass(BLACK),
-                Pass(WHITE),
-                Pass(BLACK),
-            ],
-            [None; 4],
-        ),
-        (
-            2,
-            2,
-            [
-                Set(B, 0, 0, 0, 0),
-                Clear,
-                Set(W, 0, 0, 0, 0),
-                Set(E, 0, 0, 1, 1),
-                Set(B, 0, 0, 0, 0),
-            ],
-            [None; 4],
-        ),
-        // points in descending order
-        (
-            3,
-            3,
-            [
-                Clear,
-                Clear,
-                Set(B, 2, 2, 2, 2),
-                Set(W, 0, 0, 0, 0),
-                Set(B, 1, 1, 1, 1),
-            ],
-            [Some((0, E, W)), Some((4, E, B)), Some((8, E, B)), None],
-        ),
-        // rectangles: a part of one anew, a board that isn't square, stones without liberties
-        (
-            3,
-            3,
-            [Clear, Clear, Clear, Set(B, 0, 0, 1, 1), Set(W, 1, 0, 1, 0)],
-            [
-                Some((0, E, B)),
-                Some((1, E, W)),
-                Some((3, E, B)),
-                Some((4, E, B)),
-            ],
-        ),
-        (
-            3,
-            2,
-            [Clear, Clear, Clear, Clear, Set(W, 1, 0, 2, 1)],
-            [
-                Some((1, E, W)),
-                Some((2, E, W)),
-                Some((4, E, W)),
-                Some((5, E, W)),
-            ],
-        ),
-        (
-            2,
-            2,
-            [Set(W, 0, 0, 0, 1), Clear, Clear, Clear, Set(B, 0, 0, 1, 1)],
-            [
-                Some((0, W, B)),
-                Some((1, E, B)),
-                Some((2, W, B)),
-                Some((3, E, B)),
-            ],
-        ),
-        (
-            3,
-            3,
-            [Set(B, 0, 0, 2, 2), Clear, Clear, Clear, Set(B, 1, 0, 2, 1)],
-            [None; 4],
-        ),
-        // a setup and moves: a stone that is put and captured, one that comes back where one was captured
-        (
-            3,
-            3,
-            [
-                Clear,
-                Clear,
-                Set(W, 0, 0, 0, 0),
-                Play(BLACK, 1, 0),
-                Play(BLACK, 0, 1),
-            ],
-            [Some((1, E, B)), Some((3, E, B)), None, None],
-        ),
-        (
-            3,
-            3,
-            [
-                Play(WHITE, 0, 0),
-                Play(BLACK, 1, 0),
-                Clear,
-                Play(BLACK, 0, 1),
-                Set(W, 0, 0, 0, 0),
-            ],
-            [Some((3, E, B)), None, None, None],
-        ),
-        // the first move beside stones that were set up without a liberty takes them off
-        (
-            2,
-            2,
-            [
-                Set(W, 0, 0, 1, 0),
-                Set(W, 0, 1, 0, 1),
-                Clear,
-                Clear,
-                Play(BLACK, 1, 1),
-            ],
-            [
-                Some((0, W, E)),
-                Some((1, W, E)),
-                Some((2, W, E)),
-                Some((3, E, B)),
-            ],
-        ),
-    ];
-    for case in &cases {
+    for case in &SETUPS {
         check(&rt, case);
     }
 }

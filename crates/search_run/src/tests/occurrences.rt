@@ -87,102 +87,103 @@ const HANDICAP: &str =
 
 const CORNER: &str = "....../....../.....O/...X../....../..X...";
 
+const OCCURRENCES: [(&str, Asked, &str); 24] = [
+    // under an exchange of the colours
+    (
+        "(;GM[1]FF[4]SZ[5];B[cc];W[bc];B[cb])",
+        (false, false, None, None, "X"),
+        "1 2 2 0, 2 1 2 8, 3 2 1 0",
+    ),
+    (
+        "(;GM[1]FF[4]SZ[5];B[cc];W[bc];B[cb])",
+        (true, true, None, None, "X"),
+        "1 2 2 0, 3 2 1 0",
+    ),
+    // made by a capture
+    (CAPTURE, (true, false, None, None, ".X/X."), "4 0 0 0"),
+    (
+        CAPTURE,
+        (true, false, Some((0, 0)), None, "O"),
+        "1 0 0 0, 3 2 2 3",
+    ),
+    (CAPTURE, (true, true, Some((0, 0)), None, "O"), "1 0 0 0"),
+    // a suicide leaves nothing
+    (
+        "(;SZ[2];B[aa];B[bb];W[ab])",
+        (true, false, None, None, "O"),
+        "",
+    ),
+    // a move on a stone
+    (
+        "(;SZ[3];B[bb];W[bb])",
+        (true, false, None, None, "O"),
+        "2 1 1 0",
+    ),
+    (
+        "(;SZ[3];B[bb];W[bb])",
+        (true, false, None, None, "X"),
+        "1 1 1 0",
+    ),
+    // a stone that stands in no last position
+    (GONE_AT_THE_END, (true, false, None, None, "O"), "3 0 0 0"),
+    // a ko that is fought twice
+    (
+        KO_TWICE,
+        (true, true, Some((1, 1)), None, ".X"),
+        "1 1 1 0, 3 1 1 0",
+    ),
+    // no place twice
+    (
+        "(;SZ[2];B[aa];W[ba])",
+        (false, false, None, None, "XO"),
+        "2 0 0 0",
+    ),
+    (
+        "(;SZ[2];B[aa];W[ba])",
+        (false, false, Some((0, 0)), None, "XO"),
+        "2 0 0 0",
+    ),
+    // the least board
+    ("(;SZ[1])", (true, false, None, None, "."), "0 0 0 0"),
+    // wildcards alone hold from the root on
+    (
+        "(;SZ[2];B[aa])",
+        (false, false, None, None, "*"),
+        "0 0 0 0, 0 1 0 0, 0 0 1 0, 0 1 1 0",
+    ),
+    // boards that aren't square
+    (WIDE, (true, false, None, Some((5, 3)), "XX"), "0 0 0 0"),
+    (HIGH, (true, false, None, Some((5, 3)), "XX"), ""),
+    (WIDE, (true, false, None, None, "XX"), "0 0 0 0"),
+    (HIGH, (true, false, None, None, "XX"), "0 0 0 0"),
+    (WIDE, (true, false, None, None, "X/X"), ""),
+    (HIGH, (true, false, None, None, "X/X"), ""),
+    // passes change nothing
+    (
+        "(;SZ[9];B[aa];W[tt];B[];W[ba])",
+        (true, true, Some((0, 0)), None, "X."),
+        "1 0 0 0",
+    ),
+    // one place under two labels, with two cells each
+    (
+        "(;SZ[3]RE[W+R];W[aa];B[ab])",
+        (false, false, Some((0, 0)), None, "X."),
+        "1 0 0 8, 1 0 0 12",
+    ),
+    // a game as players keep it, in its second variation
+    (
+        HANDICAP,
+        (false, false, Some((0, 0)), None, CORNER),
+        "6 0 0 0",
+    ),
+    // wider than the board
+    ("(;SZ[2];B[aa])", (false, false, None, None, "***"), ""),
+];
+
 #[test]
 fn occurrences_in_games(rt: HostRuntime) -> Result<(), Fail> {
     let alloc = rt.alloc();
-    let cases: [(&str, Asked, &str); 24] = [
-        // under an exchange of the colours
-        (
-            "(;GM[1]FF[4]SZ[5];B[cc];W[bc];B[cb])",
-            (false, false, None, None, "X"),
-            "1 2 2 0, 2 1 2 8, 3 2 1 0",
-        ),
-        (
-            "(;GM[1]FF[4]SZ[5];B[cc];W[bc];B[cb])",
-            (true, true, None, None, "X"),
-            "1 2 2 0, 3 2 1 0",
-        ),
-        // made by a capture
-        (CAPTURE, (true, false, None, None, ".X/X."), "4 0 0 0"),
-        (
-            CAPTURE,
-            (true, false, Some((0, 0)), None, "O"),
-            "1 0 0 0, 3 2 2 3",
-        ),
-        (CAPTURE, (true, true, Some((0, 0)), None, "O"), "1 0 0 0"),
-        // a suicide leaves nothing
-        (
-            "(;SZ[2];B[aa];B[bb];W[ab])",
-            (true, false, None, None, "O"),
-            "",
-        ),
-        // a move on a stone
-        (
-            "(;SZ[3];B[bb];W[bb])",
-            (true, false, None, None, "O"),
-            "2 1 1 0",
-        ),
-        (
-            "(;SZ[3];B[bb];W[bb])",
-            (true, false, None, None, "X"),
-            "1 1 1 0",
-        ),
-        // a stone that stands in no last position
-        (GONE_AT_THE_END, (true, false, None, None, "O"), "3 0 0 0"),
-        // a ko that is fought twice
-        (
-            KO_TWICE,
-            (true, true, Some((1, 1)), None, ".X"),
-            "1 1 1 0, 3 1 1 0",
-        ),
-        // no place twice
-        (
-            "(;SZ[2];B[aa];W[ba])",
-            (false, false, None, None, "XO"),
-            "2 0 0 0",
-        ),
-        (
-            "(;SZ[2];B[aa];W[ba])",
-            (false, false, Some((0, 0)), None, "XO"),
-            "2 0 0 0",
-        ),
-        // the least board
-        ("(;SZ[1])", (true, false, None, None, "."), "0 0 0 0"),
-        // wildcards alone hold from the root on
-        (
-            "(;SZ[2];B[aa])",
-            (false, false, None, None, "*"),
-            "0 0 0 0, 0 1 0 0, 0 0 1 0, 0 1 1 0",
-        ),
-        // boards that aren't square
-        (WIDE, (true, false, None, Some((5, 3)), "XX"), "0 0 0 0"),
-        (HIGH, (true, false, None, Some((5, 3)), "XX"), ""),
-        (WIDE, (true, false, None, None, "XX"), "0 0 0 0"),
-        (HIGH, (true, false, None, None, "XX"), "0 0 0 0"),
-        (WIDE, (true, false, None, None, "X/X"), ""),
-        (HIGH, (true, false, None, None, "X/X"), ""),
-        // passes change nothing
-        (
-            "(;SZ[9];B[aa];W[tt];B[];W[ba])",
-            (true, true, Some((0, 0)), None, "X."),
-            "1 0 0 0",
-        ),
-        // one place under two labels, with two cells each
-        (
-            "(;SZ[3]RE[W+R];W[aa];B[ab])",
-            (false, false, Some((0, 0)), None, "X."),
-            "1 0 0 8, 1 0 0 12",
-        ),
-        // a game as players keep it, in its second variation
-        (
-            HANDICAP,
-            (false, false, Some((0, 0)), None, CORNER),
-            "6 0 0 0",
-        ),
-        // wider than the board
-        ("(;SZ[2];B[aa])", (false, false, None, None, "***"), ""),
-    ];
-    for (text, asked, wanted) in cases {
+    for (text, asked, wanted) in OCCURRENCES {
         let found = occurrences(alloc, text.as_bytes(), asked)?;
         assert_eq!(rt; found.as_str(), wanted, "{text}");
     }
