@@ -6,6 +6,7 @@ use Rattle.std.proofs.lemmas.List.{get_or_read, get_or_append_left, get_or_push,
 use Rattle.std.proofs.lemmas.List.FromFn.{length-map-range_with_len, get_or-map-range_with_len, map-range_with_len_more}
 use Rattle.std.specs.Prelude.{map, unwrap_or}
 use Rattle.std.specs.List.{range_with_len, between}
+use Rattle.node_paths.proofs.Ancestors.{cases_Option, may_have-none, may_have-some, root-parent}
 use Rattle.kb_geometry.specs.declared.shape.Shape.{Shape}
 use Rattle.kb_geometry.specs.declared.shape.TheConstants.{MAX_POINTS}
 use Rattle.kb_geometry.specs.declared.stone.Change.{Change}
@@ -14,8 +15,8 @@ use Rattle.capture_board.specs.declared.deltas.StoredNode.{StoredNode}
 use Rattle.capture_board.specs.Changes.{AreChangesOf}
 use Rattle.capture_board.specs.Deltas.{Deltas, NodeChanges, AreDeltas, IsNextParent, changes_of, node_at, node_count, parent_of, position_where, with_node}
 use Rattle.capture_board.specs.StoredDeltas.{node_in, changes_start, shown_parent, shown_node, shown_nodes, shown_deltas, AreEnds, IsStored}
-use Rattle.capture_board.proofs.DeltaGrowth.{next_parent-none, next_parent-some, parent-there, AreDeltas-more}
-use Rattle.capture_board.proofs.DeltaPaths.{cases_Option, length-position_where}
+use Rattle.capture_board.proofs.DeltaGrowth.{parent-there, AreDeltas-more}
+use Rattle.capture_board.proofs.DeltaPaths.{length-position_where}
 use Rattle.capture_board.proofs.MadeChanges.{AreChangesOf-count}
 use Rattle.kb_geometry.proofs.Shapes.{point_count-le-most}
 
@@ -51,7 +52,7 @@ module _ (shape : Shape) (ts : List StoredNode) (changes : List Change) (deltas 
   parent_shown (suc n) ne h = sym (ap (λ (d : NodeChanges). d.parent) (node_shown (suc n) h))
 
   pub root_shown : (n : ℕ) → n ≡ 0 → None ≡ parent_of deltas n
-  root_shown n e = sym (ap (parent_of deltas) e ∙ deltas_shown.root)
+  root_shown n e = sym (ap (parent_of deltas) e ∙ root-parent deltas_shown.parents)
 
   pub changes_shown : (n : ℕ) → n < node_count deltas → between (changes_start ts n) (node_in ts n).changes_end changes ≡ changes_of deltas n
   changes_shown n h = sym (ap (λ (d : NodeChanges). d.changes) (node_shown n h))
@@ -117,10 +118,10 @@ module _ (shape : Shape) (ts : List StoredNode) (changes more : List Change) (x 
   parent-last =
       elim (cases_Option parent) [
         | inl e ↦
-            let none : length ts ≡ 0 = sym count_nodes ∙ next_parent-none (shown_deltas shape ts changes) parent next e in
+            let none : length ts ≡ 0 = sym count_nodes ∙ may_have-none (parent_of (shown_deltas shape ts changes)) (node_count (shown_deltas shape ts changes)) parent next e in
             shown_parent-zero (ts ++ x ∷ []) (length ts) none ∙ sym e
         | inr p ↦
-            let above = next_parent-some (shown_deltas shape ts changes) parent p.0 next p.1 in
+            let above = may_have-some (parent_of (shown_deltas shape ts changes)) (node_count (shown_deltas shape ts changes)) parent p.0 next p.1 in
             shown_parent-suc (ts ++ x ∷ []) (length ts) (omega (arith, above.0, count_nodes))
             ∙ ap (λ (t : StoredNode). Some t.parent) node_in-last
             ∙ ap (λ i. Some i) (same_parent p.0 p.1)

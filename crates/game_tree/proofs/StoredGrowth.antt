@@ -10,6 +10,8 @@ use mir.Val.{bool_byte}
 use Rattle.std.specs.Prelude.{is_some, All, IfSome, map}
 use Rattle.std.specs.List.{range_with_len, between}
 use Rattle.std.specs.Option.{option_map_or}
+use Rattle.node_paths.proofs.Ancestors.{cases_Option, may_have-none, may_have-some}
+use Rattle.node_paths.proofs.PathLists.{IsOnPathTo-same}
 use Rattle.kb_geometry.specs.declared.shape.Shape.{Shape}
 use Rattle.kb_geometry.specs.declared.shape.Point.{Point}
 use Rattle.kb_geometry.specs.Board.{IsOnBoard, IsRectOnBoard}
@@ -20,10 +22,9 @@ use Rattle.game_tree.specs.Built.{Built, IsGrown, IsNextParent, tree_of, tree_so
 use Rattle.game_tree.specs.Information.{Information, HasSimpleTexts}
 use Rattle.game_tree.specs.Tree.{IsTree, IsNodeOnBoard, node_count, parent_of, next_sibling_of, move_number_of, branchings_to}
 use Rattle.game_tree.specs.Stored.{node_in, setups_start, shown_parent, shown_node, shown_nodes, shown_built, or_zero, one_if, IsBeginning, IsMainEnd, AreEnds, AreLinks}
-use Rattle.game_tree.proofs.Growth.{next_parent-none, next_parent-some, IsGrown-more, sibling-new, sibling-last, siblings-first, siblings-other, moves-before, moves-last, moves-root}
-use Rattle.game_tree.proofs.Paths.{IsAbove-same, move_number-same}
+use Rattle.game_tree.proofs.Growth.{IsGrown-more, sibling-new, sibling-last, siblings-first, siblings-other, moves-before, moves-last, moves-root}
+use Rattle.game_tree.proofs.Paths.{move_number-same}
 use Rattle.game_tree.proofs.StoredTrees.{length-shown, node_read, bool_byte-one_if}
-use Rattle.game_tree.proofs.Trees.{cases_Option}
 
 -- ---- lists of nodes
 
@@ -112,9 +113,7 @@ module _ (b : Built) (info : Information) (grown : IsGrown (tree_so_far b)) wher
   pub IsGrown-info : IsGrown (tree_of b info)
   IsGrown-info = record {
     most = grown.most;
-    root = grown.root;
-    parents = λ n low high. let p = grown.parents n low high in
-        (p.0, p.1, p.2, IsAbove-same (tree_so_far b) (tree_of b info) (node_count (tree_so_far b)) grown (λ k h. refl) p.3 (omega arith));
+    parents = grown.parents;
     on_board = grown.on_board;
   }
 
@@ -122,7 +121,6 @@ module _ (b : Built) (info : Information) (grown : IsGrown (tree_so_far b)) wher
   IsTree-info some depth texts = record {
     some = some;
     most = IsGrown-info.most;
-    root = IsGrown-info.root;
     parents = IsGrown-info.parents;
     on_board = IsGrown-info.on_board;
     depth = depth;
@@ -162,10 +160,10 @@ module _ (shape : Shape) (ts : List TreeNode) (setups : List Setup) (x : TreeNod
   parent-push =
       elim (cases_Option parent) [
         | inl e ↦
-            let none : length ts ≡ 0 = sym count_nodes ∙ ap length (next_parent-none (shown_built shape ts setups) parent next e) in
+            let none : length ts ≡ 0 = sym count_nodes ∙ may_have-none (parent_of (tree_so_far (shown_built shape ts setups))) (length (shown_nodes ts setups)) parent next e in
             shown_parent-zero (ts ++ x ∷ []) (length ts) none ∙ sym e
         | inr p ↦
-            let above = next_parent-some (shown_built shape ts setups) parent p.0 next p.1 in
+            let above = may_have-some (parent_of (tree_so_far (shown_built shape ts setups))) (length (shown_nodes ts setups)) parent p.0 next p.1 in
             shown_parent-suc (ts ++ x ∷ []) (length ts) (omega (arith, above.0, count_nodes))
             ∙ ap (λ (t : TreeNode). Some t.parent) node_in-last
             ∙ ap (λ i. Some i) (same_parent p.0 p.1)

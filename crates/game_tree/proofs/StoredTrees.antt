@@ -6,6 +6,7 @@ use Rattle.std.proofs.lemmas.List.FromFn.{length-map-range_with_len, get_or-map-
 use mir.Val.{bool_byte}
 use Rattle.std.specs.Prelude.{is_some, All, IfSome}
 use Rattle.std.specs.List.{between}
+use Rattle.node_paths.proofs.Ancestors.{cases_Option, root-parent}
 use Rattle.kb_geometry.specs.declared.shape.Shape.{Shape}
 use Rattle.kb_geometry.specs.declared.shape.Point.{Point}
 use Rattle.kb_geometry.specs.Board.{IsOnBoard, IsRectOnBoard}
@@ -17,7 +18,7 @@ use Rattle.game_tree.specs.MainLine.{IsOnMainLine}
 use Rattle.game_tree.specs.Tree.{Tree, Node, IsTree, node_count, node_at, parent_of, first_child_of, next_sibling_of, move_number_of}
 use Rattle.game_tree.specs.Stored.{node_in, setups_start, shown_node, shown_nodes, shown_tree, or_zero, one_if, IsStored, AreLinks}
 use Rattle.game_tree.proofs.MainLines.{IsOnMainLine-below}
-use Rattle.game_tree.proofs.Trees.{cases_Option, IsGrown-tree, parent-in_range, first_child-behind, first_child-none, next_sibling-facts}
+use Rattle.game_tree.proofs.Trees.{IsGrown-tree, parent-in_range, first_child-behind, first_child-none, next_sibling-facts}
 
 -- ---- lists of nodes
 
@@ -62,7 +63,7 @@ module _ (shape : Shape) (info : Information) (ts : List TreeNode) (setups : Lis
   parent_shown (suc n) ne h = sym (ap (λ (d : Node). d.parent) (node_shown (suc n) h))
 
   pub root_shown : (n : ℕ) → n ≡ 0 → None ≡ parent_of tree n
-  root_shown n e = sym (ap (parent_of tree) e ∙ tree_shown.root)
+  root_shown n e = sym (ap (parent_of tree) e ∙ root-parent tree_shown.parents)
 
   pub first_child_shown : (n c : ℕ) → c ≡ n + 1 → c < length ts → (node_in ts c).parent ≡ n → parent_of tree (n + 1) ≡ Some n
   first_child_shown n c is h e =

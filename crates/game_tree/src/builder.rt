@@ -1,5 +1,5 @@
 // A tree that is built node by node.
-ghost use Rattle.std.specs.Prelude.{◌≡◌, ℕ, ◌+◌, ◌-◌, ◌<◌, ◌≤◌, List, [], length, IfOk, IfErr, IfSome};
+ghost use Rattle.std.specs.Prelude.{◌≡◌, ℕ, ◌+◌, ◌-◌, ◌<◌, ◌≤◌, List, length, IfOk, IfErr, IfSome};
 
 use crate::stored::TreeNode;
 use crate::{GameTree, Info, Move, Setup};
@@ -39,7 +39,7 @@ impl TreeBuilder {
     ghost use Rattle.game_tree.specs.declared.node.Move.{Move};
     ghost use Rattle.game_tree.specs.Built.{Built, nothing_built, with_setup, with_node, tree_of, tree_so_far, IsNextParent, IsGrown};
     ghost use Rattle.game_tree.specs.Information.{HasSimpleTexts};
-    ghost use Rattle.game_tree.specs.Tree.{IsTree, IsAbove, branchings_to, next_sibling_of, parent_of};
+    ghost use Rattle.game_tree.specs.Tree.{IsTree, branchings_to, next_sibling_of, parent_of};
 
     // Nothing is read yet of a game on this board.
     pub(crate) fn new(alloc: Global, shape: Shape) -> Self
@@ -103,7 +103,7 @@ impl TreeBuilder {
 
     // The first node, which has no parent.
     fn add_root(&mut self, played: Option<Move>) -> Result<(), NoMemory>
-        requires first { self.old.nodes ≡ [] }
+        requires first { IsNextParent self.old None }
         requires on_board { IfSome played (λ (m : Move).
             IfSome m.point (λ (p : Point). IsOnBoard self.old.shape p)) }
         ensures ok { IfOk result (λ _. self.new ≡ with_node self.old None played) }

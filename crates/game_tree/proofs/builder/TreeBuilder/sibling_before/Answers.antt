@@ -1,10 +1,10 @@
 use Rattle.std.proofs.Common.{◌≡◌, ℕ, ◌-◌, length, Some, subst, sym, ◌∙◌, ap, arith}
+use Rattle.node_paths.proofs.Ancestors.{parent-lt}
 use Rattle.game_tree.specs.Built.{tree_so_far}
 use Rattle.game_tree.specs.Stored.{node_in}
 use Rattle.game_tree.specs.Tree.{parent_of}
 use Rattle.game_tree.proofs.Climbs.{IsClimbed, IsClimbed-none, IsClimbed-more, IsClimbed-all}
 use Rattle.game_tree.proofs.StoredBuilds.{grown_built, count_built, parent_built}
-use Rattle.game_tree.proofs.Trees.{parent-lt}
 use Rattle.game_tree.proofs.builder.TreeBuilder.sibling_before.Goals as goal
 
 pub returns-then-n-from-clause-none : goal.returns-then-n-from-clause-none
@@ -16,7 +16,7 @@ loop-n-init c =
     let count = count_built _ _ _ _ _ c.self.view_is c.self.invariant in
     let same : length c.args.self.now.nodes - 1 ≡ length c.as_slice-nodes.result.now - 1 = omega (arith, ap length c.as_slice-nodes.ensures.value, count) in
     subst (λ (i : ℕ). IsClimbed (tree_so_far c.args.self.now) c.args.parent i) same
-    (IsClimbed-none (tree_so_far c.args.self.now) (grown_built _ _ _ _ _ c.self.view_is c.self.invariant) c.args.parent c.requires.0 c.requires.2
+    (IsClimbed-none (tree_so_far c.args.self.now) (grown_built _ _ _ _ _ c.self.view_is c.self.invariant) c.args.parent (omega (arith, c.requires.0)) c.requires.1
     (λ e. c.if-n-from.false (sym same ∙ e ∙ sym c.from.ensures)))
 
 pub bounds-nodes-n : goal.bounds-nodes-n
@@ -35,7 +35,7 @@ parent_read c =
 
 pub loop-n-smaller : goal.loop-n-smaller
 loop-n-smaller c =
-    parent-lt (tree_so_far c.args.self.now) (grown_built _ _ _ _ _ c.self.view_is c.self.invariant) c.loop-n.n c.from-n.result (parent_read c)
+    parent-lt (grown_built _ _ _ _ _ c.self.view_is c.self.invariant).parents c.loop-n.n c.from-n.result (parent_read c)
 
 pub loop-n-preserved : goal.loop-n-preserved
 loop-n-preserved c =

@@ -34,3 +34,6 @@ returns-clause-value c =
 
 pub returns-clause-on_board : goal.returns-clause-on_board
 returns-clause-on_board c = setups_on_board _ _ _ _ _ _ c.self.view_is c.self.invariant c.args.n _ c.requires (returns-clause-value c)
+
+pub offset_bounds-deref-start : goal.offset_bounds-deref-start
+offset_bounds-deref-start c = omega (arith, slice_bounds-result-count c)
