@@ -48,8 +48,8 @@ position_where deltas here = option_map_or (position_at deltas) here (empty_boar
 abbrev pub IsNextParent : Deltas → Option ℕ → Type 0
 IsNextParent deltas parent = MayHaveParent (parent_of deltas) (node_count deltas) parent
 
--- The nodes have parents as in a game tree. The changes of a node are net changes against the position at its parent,
--- or against the empty board at the root.
+-- The parent of each node but the first is the node before it, or an ancestor of that. The changes of
+-- a node are net changes against the position at its parent, or against the empty board at the root.
 pub record AreDeltas (deltas : Deltas) : Type 0 where
   pub most : node_count deltas ≤ 65536
   pub parents : AreParents (parent_of deltas) (node_count deltas)
@@ -63,4 +63,7 @@ no_nodes shape = record { shape = shape; nodes = [] }
 
 -- the changes of a game with one node more
 abbrev pub with_node : Deltas → Option ℕ → List Change → Deltas
-with_node deltas parent changes = record { shape = deltas.shape; nodes = deltas.nodes ++ (record { parent = parent; changes = changes } ∷ []) }
+with_node deltas parent changes = record {
+  shape = deltas.shape;
+  nodes = deltas.nodes ++ (record { parent = parent; changes = changes } ∷ []);
+}

@@ -1,14 +1,12 @@
 -- How many nodes with more than one child stand on a path.
-use Prim.Native.Nat.{zero}
-use Rattle.std.proofs.Common.{◌≡◌, ℕ, ◌+◌, ◌-◌, ◌<◌, ◌≤◌, suc, ltb, Bool, false, cond, List, [], ◌∷◌, length, Some, None, refl, sym, ◌∙◌, ap, arith, inl, inr}
+use Rattle.std.proofs.Common.{◌≡◌, ℕ, ◌+◌, ◌-◌, ◌<◌, ◌≤◌, ltb, Bool, false, cond, List, [], ◌∷◌, length, Some, None, refl, sym, ◌∙◌, ap, arith, inl, inr}
 use Rattle.std.proofs.lemmas.Bool.{le-ltb}
 use Rattle.std.proofs.lemmas.Option.{same_Some}
 use Rattle.std.proofs.lemmas.List.Sums.{sum_by-cons, count_by-le-length}
 use Rattle.std.specs.Prelude.{count_by}
-use Rattle.std.specs.Option.{option_map_or}
-use Rattle.node_paths.proofs.PathLists.{length-path_within}
+use Rattle.node_paths.specs.Paths.{path_to}
 use Rattle.node_paths.proofs.Ancestors.{cases_Option}
-use Rattle.node_paths.specs.Paths.{path_to, path_within}
+use Rattle.node_paths.proofs.PathLists.{length-path_within}
 use Rattle.game_tree.specs.Built.{IsGrown}
 use Rattle.game_tree.specs.Stored.{IsMainEnd, siblings_from}
 use Rattle.game_tree.specs.Tree.{Tree, node_count, parent_of, children_of, branchings_to, first_child_of, next_sibling_of}

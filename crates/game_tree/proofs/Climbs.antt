@@ -2,8 +2,8 @@
 use Rattle.std.proofs.Common.{◌≡◌, ◌≢◌, ℕ, ◌-◌, ◌<◌, ◌≤◌, Some, None, sym, ◌∙◌, subst, arith, inl, inr}
 use Rattle.std.proofs.lemmas.Bool.{cases_lt}
 use Rattle.std.proofs.lemmas.Option.{same_Some}
-use Rattle.node_paths.proofs.Ancestors.{IsOnPathTo-between, IsOnPathTo-le, IsOnPathTo-step, IsOnPathTo-trans, not_below_sibling, parent-lt}
 use Rattle.node_paths.specs.Parents.{IsOnPathTo, higher, itself}
+use Rattle.node_paths.proofs.Ancestors.{IsOnPathTo-between, IsOnPathTo-le, IsOnPathTo-step, IsOnPathTo-trans, not_below_sibling, parent-lt}
 use Rattle.game_tree.specs.Built.{IsGrown}
 use Rattle.game_tree.specs.Tree.{Tree, node_count, parent_of, next_sibling_of}
 use Rattle.game_tree.proofs.Trees.{next_sibling-none, parent-in_range}

@@ -1,13 +1,12 @@
 -- A tree with one node more.
-use Rattle.std.proofs.Common.{◌≡◌, ◌≢◌, ℕ, ◌+◌, ◌-◌, ◌<◌, ◌≤◌, [], length, Option, Some, None, refl, sym, ◌∙◌, ap, subst, arith, inl, inr}
+use Rattle.std.proofs.Common.{◌≡◌, ◌≢◌, ℕ, ◌+◌, ◌-◌, ◌<◌, ◌≤◌, length, Option, Some, None, refl, sym, ◌∙◌, ap, subst, arith, inl, inr}
 use Rattle.std.proofs.lemmas.Bool.{cases_lt}
 use Rattle.std.proofs.lemmas.List.{get_or_append_left, get_or_push, length_push}
 use Rattle.std.proofs.lemmas.Option.{same_Some}
 use Rattle.std.specs.Prelude.{is_some}
-use Rattle.node_paths.proofs.MoreParents.{AreParents-more}
+use Rattle.node_paths.specs.Parents.{MayHaveParent}
 use Rattle.node_paths.proofs.Ancestors.{cases_Option, may_have-none, may_have-some, parent-lt}
-use Rattle.node_paths.proofs.PathLists.{IsOnPathTo-same}
-use Rattle.node_paths.specs.Parents.{IsOnPathTo, MayHaveParent}
+use Rattle.node_paths.proofs.MoreParents.{AreParents-more}
 use Rattle.game_tree.specs.declared.node.Move.{Move}
 use Rattle.game_tree.specs.Built.{Built, IsGrown, IsNextParent, tree_so_far, with_node}
 use Rattle.game_tree.specs.Stored.{IsMainEnd, one_if}

@@ -1,6 +1,6 @@
 -- Raw nodes hang below each other as the nodes of a tree do.
 use Prim.Native.Nat.{zero}
-use Rattle.std.proofs.Common.{◌≡◌, ℕ, ◌+◌, ◌-◌, ◌<◌, ◌≤◌, suc, ltb, Bool, true, false, cond, List, [], ◌∷◌, length, take, get_or, Option, Some, None, All, refl, sym, ◌∙◌, ap, subst, arith, inl, inr}
+use Rattle.std.proofs.Common.{◌≡◌, ℕ, ◌+◌, ◌-◌, ◌<◌, ◌≤◌, suc, ltb, Bool, true, false, cond, List, [], ◌∷◌, length, take, get_or, Option, Some, None, All, sym, ◌∙◌, ap, subst, arith, inl, inr}
 use Rattle.std.specs.Prelude.{count_by}
 use Rattle.std.proofs.Math.ListN.{get_or-map}
 use Rattle.std.proofs.lemmas.Bool.{cases_eq, cases_lt, le-ltb}
@@ -8,10 +8,10 @@ use Rattle.std.proofs.lemmas.List.{get_or-take, length-map, length-take-le}
 use Rattle.std.proofs.lemmas.List.Elements.{All-head}
 use Rattle.std.proofs.lemmas.List.Sums.{sum_by-cons}
 use Rattle.std.proofs.lemmas.Option.{same_Some}
-use Rattle.node_paths.proofs.Ancestors.{cases_Option, parent-lt}
-use Rattle.node_paths.proofs.PathLists.{path_to-parent, path_to-root}
 use Rattle.node_paths.specs.Parents.{IsOnPathTo, MayHaveParent, higher, itself}
 use Rattle.node_paths.specs.Paths.{path_to}
+use Rattle.node_paths.proofs.Ancestors.{cases_Option, parent-lt}
+use Rattle.node_paths.proofs.PathLists.{path_to-parent, path_to-root}
 use Rattle.sgf_reader.specs.declared.collection.RawGame.{RawGame}
 use Rattle.sgf_reader.proofs.NodeParents.{AreHung, IsAncestor, IsHung, further}
 use Rattle.sgf_reader.proofs.NodeParents as hangs

@@ -1,13 +1,11 @@
 -- The moves on the path from a node to the root.
 use Prim.Native.Nat.{zero}
-use Rattle.std.proofs.Common.{◌≡◌, ℕ, ◌+◌, ◌<◌, ◌≤◌, suc, Bool, true, false, cond, [], ◌∷◌, Some, None, refl, sym, ◌∙◌, ap, arith, inl, inr, add-one}
+use Rattle.std.proofs.Common.{◌≡◌, ℕ, ◌+◌, ◌<◌, ◌≤◌, suc, Bool, true, false, cond, [], Some, None, sym, ◌∙◌, ap, arith, inl, inr}
 use Rattle.std.proofs.lemmas.List.Sums.{sum_by-cons}
 use Rattle.std.specs.Prelude.{count_by, is_some}
-use Rattle.std.specs.Option.{option_map_or}
-use Rattle.node_paths.proofs.PathLists.{path_to-parent, path_to-root}
+use Rattle.node_paths.specs.Paths.{path_to}
 use Rattle.node_paths.proofs.Ancestors.{cases_Option, parent-lt}
-use Rattle.node_paths.specs.Parents.{IsOnPathTo, higher, itself}
-use Rattle.node_paths.specs.Paths.{path_to, path_within}
+use Rattle.node_paths.proofs.PathLists.{path_to-parent, path_to-root}
 use Rattle.game_tree.specs.Built.{IsGrown}
 use Rattle.game_tree.specs.Tree.{Tree, node_at, parent_of, move_number_of}
 use Rattle.game_tree.specs.Stored.{one_if}

@@ -1,5 +1,5 @@
 -- The trees of a collection that was read are trees.
-use Rattle.std.proofs.Common.{◌≡◌, ◌∙◌, ℕ, ◌-◌, ◌<◌, ◌≤◌, List, [], ◌∷◌, All, Option, Some, None, IfSome, refl, sym, ap, subst, arith, length, get_or}
+use Rattle.std.proofs.Common.{◌≡◌, ◌∙◌, ℕ, List, [], ◌∷◌, All, Option, Some, None, IfSome, refl, sym, ap, subst, arith, length, get_or}
 use Rattle.std.specs.List.{AllZip}
 use Rattle.std.proofs.lemmas.List.{length-map}
 use Rattle.std.proofs.lemmas.List.Elements.{All-cons, All-get_or, All-head, All-nil, All-tail}
@@ -7,7 +7,7 @@ use Rattle.node_paths.specs.Parents.{AreParents, MayHaveParent}
 use Rattle.kb_geometry.specs.declared.shape.Point.{Point}
 use Rattle.kb_geometry.specs.declared.shape.Rect.{Rect}
 use Rattle.kb_geometry.specs.declared.shape.Shape.{Shape}
-use Rattle.kb_geometry.specs.Board.{IsOnBoard, IsRectOnBoard}
+use Rattle.kb_geometry.specs.Board.{IsOnBoard, IsOrderedRectOnBoard}
 use Rattle.sgf_reader.specs.declared.collection.Collection.{Collection}
 use Rattle.sgf_reader.specs.declared.collection.Pair.{Pair}
 use Rattle.sgf_reader.specs.declared.collection.RawGame.{RawGame}
@@ -38,11 +38,11 @@ point-on_board shape text p at =
     let (column, row, is, x, y, on) = point_letters shape text p at in on
 
 corners-on_board : (shape : Shape) (p q : Point) → IsOnBoard shape p → IsOnBoard shape q →
-    IsRectOnBoard shape (rect_of p q)
+    IsOrderedRectOnBoard shape (rect_of p q)
 corners-on_board shape p q at_p at_q = (omega arith, omega arith, omega arith, omega arith)
 
 setup-on_board : (shape : Shape) (text : List ℕ) (r : Rect) → IsSetupText shape text (Some r) →
-    IsRectOnBoard shape r
+    IsOrderedRectOnBoard shape r
 setup-on_board shape text _ (one_point {p = p} at) =
     let on = point-on_board shape text p at in
     corners-on_board shape p p on on
@@ -59,13 +59,13 @@ move-on_board shape text (Some p) is = point-on_board shape text p (point_text_o
 
 module _ (text : List ℕ) (shape : Shape) where
   setups-on_board : (pairs : List Pair) (setups : List Setup) →
-      AreSetups text shape pairs setups → All (λ (s : Setup). IsRectOnBoard shape s.rect) setups
-  setups-on_board _ _ told.none = All-nil (λ (s : Setup). IsRectOnBoard shape s.rect)
+      AreSetups text shape pairs setups → All (λ (s : Setup). IsOrderedRectOnBoard shape s.rect) setups
+  setups-on_board _ _ told.none = All-nil (λ (s : Setup). IsOrderedRectOnBoard shape s.rect)
   setups-on_board _ setups (told.other {pairs = pairs} e rest) = setups-on_board pairs setups rest
   setups-on_board _ setups (told.ignored {pairs = pairs} cell e v rest) =
       setups-on_board pairs setups rest
   setups-on_board _ _ (told.set {pairs = pairs} {setups = setups} cell rect e (inner, _, is) rest) =
-      All-cons (λ (s : Setup). IsRectOnBoard shape s.rect) (record { cell = cell; rect = rect }) setups
+      All-cons (λ (s : Setup). IsOrderedRectOnBoard shape s.rect) (record { cell = cell; rect = rect }) setups
       (setup-on_board shape inner rect is) (setups-on_board pairs setups rest)
 
   played-on_board : (pairs : List Pair) (played : Option Move) →

@@ -3,8 +3,8 @@ use Prim.Native.Nat.{zero}
 use Rattle.std.proofs.Common.{◌≡◌, ℕ, ◌+◌, ◌-◌, ◌<◌, ◌≤◌, suc, Some, None, sym, ◌∙◌, subst, arith, inl, inr}
 use Rattle.std.proofs.lemmas.Bool.{cases_lt}
 use Rattle.std.proofs.lemmas.Option.{same_Some}
-use Rattle.node_paths.proofs.Ancestors.{IsOnPathTo-between, IsOnPathTo-le, IsOnPathTo-step, IsOnPathTo-trans, cases_Option, not_below_sibling, parent-above, parent-lt}
 use Rattle.node_paths.specs.Parents.{IsOnPathTo, higher, itself}
+use Rattle.node_paths.proofs.Ancestors.{IsOnPathTo-between, IsOnPathTo-le, IsOnPathTo-step, IsOnPathTo-trans, cases_Option, not_below_sibling, parent-above, parent-lt}
 use Rattle.game_tree.specs.Built.{IsGrown}
 use Rattle.game_tree.specs.Tree.{Tree, node_count, parent_of, next_sibling_of}
 use Rattle.game_tree.proofs.Trees.{parent-in_range, next_sibling-found, next_sibling-missing}
@@ -84,7 +84,7 @@ module _ (tree : Tree) (grown : IsGrown tree) where
       ] in
       let above_child : IsOnPathTo (parent_of tree) q c = IsOnPathTo-between grown.parents q (e - 1) c above_last (omega (arith, low)) (omega (arith, sub.later)) in
       let above_parent = IsOnPathTo-step (parent_of tree) above_child (omega (arith, low)) in
-      let same : q ≡ m = omega (arith, same_parent above_parent.0 m c above_parent.1 ec, IsOnPathTo-le grown.parents above_parent.2, IsOnPathTo-le grown.parents step.2) in
+      let same : q ≡ m = omega (arith, same_parent above_parent.0 m c above_parent.1 ec, IsOnPathTo-le grown.parents {n = above_parent.0} above_parent.2, IsOnPathTo-le grown.parents {n = q} step.2) in
       subst (λ (i : ℕ). parent_of tree e ≡ Some i) same step.1
 
   -- the next child begins where the subtree of the one before ends

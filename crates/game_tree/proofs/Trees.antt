@@ -1,7 +1,6 @@
 -- The order of a tree's nodes: ancestors, children and siblings by their numbers.
-use Prim.Native.Nat.{zero}
-use Rattle.std.proofs.Common.{◌≡◌, ◌≢◌, ℕ, ◌+◌, ◌-◌, ◌<◌, ◌≤◌, ◌⊎◌, suc, eqb, ltb, Bool, true, false, [], ◌∷◌, Option, Some, None, All, refl, sym, ◌∙◌, ap, subst, arith, inl, inr}
-use Rattle.std.proofs.lemmas.Bool.{cases_eq, cases_lt, eq-eqb, eqb-true, lt-ltb, ltb-true, and_from, and_parts, false_from_ne_true, both_ways}
+use Rattle.std.proofs.Common.{◌≡◌, ◌≢◌, ℕ, ◌+◌, ◌<◌, ◌≤◌, eqb, ltb, Bool, true, false, [], ◌∷◌, Option, Some, None, All, refl, sym, ◌∙◌, ap, arith, inl, inr}
+use Rattle.std.proofs.lemmas.Bool.{eq-eqb, eqb-true, lt-ltb, ltb-true, and_from, and_parts, false_from_ne_true, both_ways}
 use Rattle.std.proofs.lemmas.List.{get_or_past}
 use Rattle.std.proofs.lemmas.List.Elements.{filter_passes, All-weaker}
 use Rattle.std.proofs.lemmas.Option.{same_Some}
@@ -9,9 +8,8 @@ use Rattle.std.specs.Prelude.{filter, option_and_then, ◌&&◌}
 use Rattle.std.specs.List.{range_with_len}
 use Rattle.std.specs.Option.{option_map_or}
 use Rattle.node_paths.proofs.Ancestors.{cases_Option, child_behind, in_range_from, parent-lt}
-use Rattle.node_paths.specs.Parents.{IsOnPathTo, higher, itself}
 use Rattle.game_tree.specs.Built.{IsGrown}
-use Rattle.game_tree.specs.Tree.{Tree, Node, IsTree, node_count, node_at, parent_of, is_child_of, children_of, first_number, first_child_of, next_sibling_of}
+use Rattle.game_tree.specs.Tree.{Tree, Node, IsTree, node_count, parent_of, is_child_of, children_of, first_number, first_child_of, next_sibling_of}
 use Rattle.game_tree.specs.Stored.{siblings_from}
 use Rattle.game_tree.proofs.Ranges.{first_number-is, first_number-found, first_number-missing, filter_none, filter-filter, IsAscending-range, first_and_later, filter-twice_later}
 

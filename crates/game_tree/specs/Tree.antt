@@ -6,7 +6,7 @@ use Rattle.node_paths.specs.Parents.{AreParents}
 use Rattle.node_paths.specs.Paths.{path_to}
 use Rattle.kb_geometry.specs.declared.shape.Shape.{Shape}
 use Rattle.kb_geometry.specs.declared.shape.Point.{Point}
-use Rattle.kb_geometry.specs.Board.{IsOnBoard, IsRectOnBoard}
+use Rattle.kb_geometry.specs.Board.{IsOnBoard, IsOrderedRectOnBoard}
 use Rattle.game_tree.specs.declared.node.Setup.{Setup}
 use Rattle.game_tree.specs.declared.node.Move.{Move}
 use Rattle.game_tree.specs.Information.{Information, HasSimpleTexts}
@@ -35,7 +35,7 @@ parent_of tree n = (node_at tree n).parent
 
 -- what a node sets up and plays lies on the board
 pub record IsNodeOnBoard (shape : Shape) (node : Node) : Type 0 where
-  pub setups : All (λ (s : Setup). IsRectOnBoard shape s.rect) node.setups
+  pub setups : All (λ (s : Setup). IsOrderedRectOnBoard shape s.rect) node.setups
   pub played : IfSome node.played (λ (m : Move). IfSome m.point (λ (p : Point). IsOnBoard shape p))
 
 -- the node's parent is m
@@ -60,17 +60,19 @@ abbrev pub next_sibling_of : Tree → ℕ → Option ℕ
 next_sibling_of tree n =
     option_and_then (λ m. first_number (filter (nat_lt n) (children_of tree m))) (parent_of tree n)
 
--- how many nodes on the path from the root to the node, both ends among them, have more than one child
+-- how many nodes on the path from the root to the node, both ends among them, have more than one
+-- child
 abbrev pub branchings_to : Tree → ℕ → ℕ
-branchings_to tree n = count_by (λ m. nat_lt 1 (length (children_of tree m))) (path_to (parent_of tree) n)
+branchings_to tree n =
+    count_by (λ m. nat_lt 1 (length (children_of tree m))) (path_to (parent_of tree) n)
 
 -- the number of moves and passes on the path from the root to the node, both ends among them
 abbrev pub move_number_of : Tree → ℕ → ℕ
 move_number_of tree n = count_by (λ m. is_some (node_at tree m).played) (path_to (parent_of tree) n)
 
--- There is a root, and each other node hangs below the node before it or below an ancestor of that.
--- Behind a node with more than one child each child's text stands in brackets, so of the brackets of the written text
--- at most 1,024 are open at one time, that of the whole tree among them.
+-- There is a root, and the parent of each other node is the node before it, or an ancestor of that.
+-- Behind a node with more than one child each child's text stands in brackets, so of the brackets of
+-- the written text at most 1,024 are open at one time, that of the whole tree among them.
 pub record IsTree (tree : Tree) : Type 0 where
   pub some : 1 ≤ node_count tree
   pub most : node_count tree ≤ 65536

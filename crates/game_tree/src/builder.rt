@@ -34,7 +34,7 @@ impl Model for TreeBuilder {
 
 impl TreeBuilder {
     ghost use Rattle.kb_geometry.specs.declared.shape.Point.{Point};
-    ghost use Rattle.kb_geometry.specs.Board.{IsOnBoard, IsRectOnBoard};
+    ghost use Rattle.kb_geometry.specs.Board.{IsOnBoard, IsOrderedRectOnBoard};
     ghost use Rattle.game_tree.specs.declared.node.Setup.{Setup};
     ghost use Rattle.game_tree.specs.declared.node.Move.{Move};
     ghost use Rattle.game_tree.specs.Built.{Built, nothing_built, with_setup, with_node, tree_of, tree_so_far, IsNextParent, IsGrown};
@@ -63,7 +63,7 @@ impl TreeBuilder {
     // One setup more of the node that is being read. After `NoMemory` all is as before.
     pub(crate) fn add_setup(&mut self, setup: Setup) -> Result<(), NoMemory>
         requires room { self.old.setup_count < 4294967295 }
-        requires on_board { IsRectOnBoard self.old.shape setup.rect }
+        requires on_board { IsOrderedRectOnBoard self.old.shape setup.rect }
         ensures ok { IfOk result (λ _. self.new ≡ with_setup self.old setup) }
         ensures error { IfErr result (λ _. self.new ≡ self.old) }
     {

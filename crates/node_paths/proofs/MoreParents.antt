@@ -1,8 +1,7 @@
 -- The parents of one node more.
-use Rattle.std.proofs.Common.{◌≡◌, ℕ, ◌+◌, ◌-◌, ◌<◌, ◌≤◌, Option, Some, None, refl, sym, ◌∙◌, subst, arith, inl, inr}
+use Rattle.std.proofs.Common.{◌≡◌, ℕ, ◌+◌, ◌<◌, ◌≤◌, Option, Some, None, subst, arith, inl, inr}
 use Rattle.std.proofs.lemmas.Bool.{cases_lt}
-use Rattle.node_paths.specs.Parents.{AreParents, IsOnPathTo, MayHaveParent}
-use Rattle.node_paths.proofs.Ancestors.{parent-lt}
+use Rattle.node_paths.specs.Parents.{AreParents, MayHaveParent}
 use Rattle.node_paths.proofs.PathLists.{IsOnPathTo-same}
 
 -- two parent functions that are the same below a number: each node up to that number may have the same parents
@@ -28,13 +27,4 @@ AreParents-more {p} {count} q more are next counted agree past = record {
         subst (λ (i : ℕ). MayHaveParent q i (q i)) here (may_have-same q count are agree count (q count) (omega arith) next)
   ];
   past = past;
-}
-
--- the same parents by another function
-pub AreParents-same : {p : ℕ → Option ℕ} {count : ℕ} (q : ℕ → Option ℕ) →
-    AreParents p count → ((n : ℕ) → p n ≡ q n) → AreParents q count
-AreParents-same {p} {count} q are agree = record {
-  each = λ n h. may_have-same q count are (λ k l. agree k) n (q n) (omega arith)
-      (subst (λ (o : Option ℕ). MayHaveParent p n o) (agree n) (are.each n h));
-  past = λ n h. sym (agree n) ∙ are.past n h;
 }

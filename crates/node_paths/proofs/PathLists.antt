@@ -5,7 +5,7 @@ use Rattle.std.proofs.lemmas.List.Elements.{All-cons, All-nil}
 use Rattle.std.specs.Option.{option_map_or}
 use Rattle.node_paths.specs.Parents.{AreParents, IsOnPathTo, itself, higher}
 use Rattle.node_paths.specs.Paths.{path_within, path_to}
-use Rattle.node_paths.proofs.Ancestors.{cases_Option, parent-lt, later-parent, may_have-none, IsOnPathTo-le}
+use Rattle.node_paths.proofs.Ancestors.{cases_Option, parent-lt, may_have-none}
 
 -- ---- a path step by step
 

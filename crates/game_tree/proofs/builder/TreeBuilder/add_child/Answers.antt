@@ -8,7 +8,7 @@ use Rattle.kb_geometry.specs.Board.{IsOnBoard}
 use Rattle.game_tree.specs.declared.node.Move.{Move}
 use Rattle.game_tree.specs.declared.stored.TreeNode.{TreeNode}
 use Rattle.game_tree.specs.Built.{Built, IsNextParent, tree_so_far, with_node}
-use Rattle.game_tree.specs.Stored.{IsBeginning, node_in, shown_built}
+use Rattle.game_tree.specs.Stored.{IsBeginning, tree_node, shown_built}
 use Rattle.game_tree.specs.Tree.{parent_of, next_sibling_of}
 use Rattle.game_tree.proofs.Growth.{main-longer, main-same}
 use Rattle.game_tree.proofs.Paths.{move_number-le}
@@ -49,9 +49,9 @@ invariant_of-self-in-Some c =
     (c.from-2.ensures ∙ ap (λ t. bool_byte t) c.is_some.ensures) in
     let same_parent : (m : ℕ) → Some c.args.parent ≡ Some m → c.args.parent ≡ m = λ m e. same_Some c.args.parent m e in
     let found = subst (λ (d : Built). (c.in-Some.sibling < length d.nodes) × (parent_of (tree_so_far d) c.in-Some.sibling ≡ Some c.args.parent) × (next_sibling_of (tree_so_far d) c.in-Some.sibling ≡ None)) (sym c.self.view_is) c.in-Some.ensures.some in
-    let node = node_read c.push.new.self.items c.in-Some.sibling c.index_mut.result.now (omega (arith, ap length c.in_ok-push.ensures.items, length_push ts x, found.0, length-shown ts ss)) c.index_mut.ensures.value ∙ ap (λ (us : List TreeNode). node_in us c.in-Some.sibling) c.in_ok-push.ensures.items in
+    let node = node_read c.push.new.self.items c.in-Some.sibling c.index_mut.result.now (omega (arith, ap length c.in_ok-push.ensures.items, length_push ts x, found.0, length-shown ts ss)) c.index_mut.ensures.value ∙ ap (λ (us : List TreeNode). tree_node us c.in-Some.sibling) c.in_ok-push.ensures.items in
     let y : TreeNode = record { setups_end = c.index_mut.result.now.setups_end; parent = c.index_mut.result.now.parent; next_sibling = c.len-number.result; moves_above = c.index_mut.result.now.moves_above; played = c.index_mut.result.now.played } in
-    let looks : LooksSame y (node_in (ts ++ x ∷ []) c.in-Some.sibling) = record { parent = ap (λ (t : TreeNode). t.parent) node; setups_end = ap (λ (t : TreeNode). t.setups_end) node; played = ap (λ (t : TreeNode). t.played) node } in
+    let looks : LooksSame y (tree_node (ts ++ x ∷ []) c.in-Some.sibling) = record { parent = ap (λ (t : TreeNode). t.parent) node; setups_end = ap (λ (t : TreeNode). t.setups_end) node; played = ap (λ (t : TreeNode). t.played) node } in
     let number = c.len-number.ensures ∙ c.self.inside.nodes.ok.0 in
     let end = main-same b (Some c.args.parent) c.args.played c.self.invariant.grown next c.self.inside.main_line c.self.invariant.links.main_end c.args.parent refl
     (λ behind. absurd (omega (arith, behind, found.0, parent-lt c.self.invariant.grown.parents c.in-Some.sibling c.args.parent found.1))) in
@@ -122,9 +122,9 @@ returns-in-Some-clause-ok c =
     (c.from-2.ensures ∙ ap (λ t. bool_byte t) c.is_some.ensures) in
     let same_parent : (m : ℕ) → Some c.args.parent ≡ Some m → c.args.parent ≡ m = λ m e. same_Some c.args.parent m e in
     let found = subst (λ (d : Built). (c.in-Some.sibling < length d.nodes) × (parent_of (tree_so_far d) c.in-Some.sibling ≡ Some c.args.parent) × (next_sibling_of (tree_so_far d) c.in-Some.sibling ≡ None)) (sym c.self.view_is) c.in-Some.ensures.some in
-    let node = node_read c.push.new.self.items c.in-Some.sibling c.index_mut.result.now (omega (arith, ap length c.in_ok-push.ensures.items, length_push ts x, found.0, length-shown ts ss)) c.index_mut.ensures.value ∙ ap (λ (us : List TreeNode). node_in us c.in-Some.sibling) c.in_ok-push.ensures.items in
+    let node = node_read c.push.new.self.items c.in-Some.sibling c.index_mut.result.now (omega (arith, ap length c.in_ok-push.ensures.items, length_push ts x, found.0, length-shown ts ss)) c.index_mut.ensures.value ∙ ap (λ (us : List TreeNode). tree_node us c.in-Some.sibling) c.in_ok-push.ensures.items in
     let y : TreeNode = record { setups_end = c.index_mut.result.now.setups_end; parent = c.index_mut.result.now.parent; next_sibling = c.len-number.result; moves_above = c.index_mut.result.now.moves_above; played = c.index_mut.result.now.played } in
-    let looks : LooksSame y (node_in (ts ++ x ∷ []) c.in-Some.sibling) = record { parent = ap (λ (t : TreeNode). t.parent) node; setups_end = ap (λ (t : TreeNode). t.setups_end) node; played = ap (λ (t : TreeNode). t.played) node } in
+    let looks : LooksSame y (tree_node (ts ++ x ∷ []) c.in-Some.sibling) = record { parent = ap (λ (t : TreeNode). t.parent) node; setups_end = ap (λ (t : TreeNode). t.setups_end) node; played = ap (λ (t : TreeNode). t.played) node } in
     let number = c.len-number.ensures ∙ c.self.inside.nodes.ok.0 in
     ap (λ (us : List TreeNode). shown_built shape (set us c.in-Some.sibling y) ss) c.in_ok-push.ensures.items
     ∙ shown_built-set shape ts ss x (Some c.args.parent) next same_parent ending c.self.invariant.ends c.self.inside.main_line c.self.invariant refl (omega (arith, c.requires.room, count)) on moves

@@ -1,7 +1,7 @@
 use Rattle.std.proofs.Common.{◌≡◌, ℕ, ◌-◌, length, Some, subst, sym, ◌∙◌, ap, arith}
 use Rattle.node_paths.proofs.Ancestors.{parent-lt}
 use Rattle.game_tree.specs.Built.{tree_so_far}
-use Rattle.game_tree.specs.Stored.{node_in}
+use Rattle.game_tree.specs.Stored.{tree_node}
 use Rattle.game_tree.specs.Tree.{parent_of}
 use Rattle.game_tree.proofs.Climbs.{IsClimbed, IsClimbed-none, IsClimbed-more, IsClimbed-all}
 use Rattle.game_tree.proofs.StoredBuilds.{grown_built, count_built, parent_built}
@@ -30,7 +30,7 @@ bounds-nodes-n-in-loop-n c =
 parent_read : (c : goal.After-from-n) → parent_of (tree_so_far c.args.self.now) c.loop-n.n ≡ Some c.from-n.result
 parent_read c =
     parent_built _ _ _ _ _ c.self.view_is c.self.invariant c.loop-n.n (omega (arith, c.loop-n.invariant.lower)) c.loop-n.invariant.within
-    ∙ ap (λ (ts : _). Some (node_in ts c.loop-n.n).parent) (sym c.as_slice-nodes.ensures.value)
+    ∙ ap (λ (ts : _). Some (tree_node ts c.loop-n.n).parent) (sym c.as_slice-nodes.ensures.value)
     ∙ ap (λ i. Some i) (sym c.from-n.ensures)
 
 pub loop-n-smaller : goal.loop-n-smaller
@@ -46,6 +46,6 @@ pub returns-clause-some : goal.returns-clause-some
 returns-clause-some c =
     let parent =
     parent_built _ _ _ _ _ c.self.view_is c.self.invariant c.loop-n.n (omega (arith, c.loop-n.invariant.lower)) c.loop-n.invariant.within
-    ∙ ap (λ (ts : _). Some (node_in ts c.loop-n.n).parent) (sym c.as_slice-nodes.ensures.value)
+    ∙ ap (λ (ts : _). Some (tree_node ts c.loop-n.n).parent) (sym c.as_slice-nodes.ensures.value)
     ∙ ap (λ i. Some i) c.loop-n-test.false in
     (c.loop-n.invariant.within, parent, IsClimbed-all (tree_so_far c.args.self.now) (grown_built _ _ _ _ _ c.self.view_is c.self.invariant) c.args.parent c.loop-n.n c.loop-n.invariant parent)

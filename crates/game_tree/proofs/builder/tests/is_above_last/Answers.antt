@@ -1,8 +1,8 @@
 use Rattle.std.proofs.Common.{◌≡◌, ◌-◌, length, ℕ, Some, subst, sym, ◌∙◌, ap, arith}
-use Rattle.node_paths.proofs.Ancestors.{IsOnPathTo-trans, parent-lt}
 use Rattle.node_paths.specs.Parents.{IsOnPathTo, higher, itself}
+use Rattle.node_paths.proofs.Ancestors.{IsOnPathTo-trans, parent-lt}
 use Rattle.game_tree.specs.Built.{tree_so_far}
-use Rattle.game_tree.specs.Stored.{node_in}
+use Rattle.game_tree.specs.Stored.{tree_node}
 use Rattle.game_tree.specs.Tree.{parent_of}
 use Rattle.game_tree.proofs.StoredBuilds.{grown_built, count_built, parent_built}
 use Rattle.game_tree.proofs.builder.tests.is_above_last.Goals as goal
@@ -19,7 +19,7 @@ bounds-nodes-n c =
 parent_read : (c : goal.After-from-n) → parent_of (tree_so_far c.args.builder.now) c.loop-n.n ≡ Some c.from-n.result
 parent_read c =
     parent_built _ _ _ _ _ c.builder.view_is c.builder.invariant c.loop-n.n (omega (arith, c.loop-n-test.true)) c.loop-n.invariant.0
-    ∙ ap (λ (ts : _). Some (node_in ts c.loop-n.n).parent) (sym c.as_slice-nodes.ensures.value)
+    ∙ ap (λ (ts : _). Some (tree_node ts c.loop-n.n).parent) (sym c.as_slice-nodes.ensures.value)
     ∙ ap (λ i. Some i) (sym c.from-n.ensures)
 
 pub loop-n-smaller : goal.loop-n-smaller
