@@ -5,55 +5,57 @@ use Rattle.std.proofs.lemmas.List.{take_more}
 use Rattle.std.proofs.lemmas.List.Elements.{All-nil, All-push, All-weaker}
 use Rattle.std.proofs.lemmas.List.Quantifiers.{all_pairs_push}
 use Rattle.std.specs.Prelude.{IfSome}
+use Rattle.node_paths.specs.Parents.{IsOnPathTo, itself, higher}
+use Rattle.node_paths.proofs.Ancestors.{IsOnPathTo-trans}
 use Rattle.kb_geometry.specs.declared.stone.Cell.{Cell}
 use Rattle.kb_geometry.specs.declared.stone.Change.{Change}
 use Rattle.kb_geometry.specs.Board.{point_count}
 use Rattle.kb_geometry.specs.Capture.{Position, cell_at}
 use Rattle.capture_board.specs.Changes.{AreChangesOf}
-use Rattle.capture_board.specs.Deltas.{Deltas, IsAbove, itself, higher, IsNextParent, node_count, parent_of}
+use Rattle.capture_board.specs.Deltas.{Deltas, IsNextParent, node_count, parent_of}
 use Rattle.capture_board.specs.Walking.{WalkerState, StandsIn, node_before, parent_here}
-use Rattle.capture_board.proofs.DeltaPaths.{IsAbove-trans, length-position_where}
+use Rattle.capture_board.proofs.DeltaPaths.{length-position_where}
 
 -- ---- from the last node up to the next one's parent
 
 -- the walker stands at the last node, above it, or above the root
 pub record IsGoingUp (deltas : Deltas) (walker : WalkerState) : Type 0 where
   pub stands : StandsIn deltas walker
-  pub on_path : IfSome walker.here (λ n. IsAbove deltas n (node_count deltas - 1))
+  pub on_path : IfSome walker.here (λ n. IsOnPathTo (parent_of deltas) n (node_count deltas - 1))
 
 module _ (deltas : Deltas) (walker : WalkerState) where
-  last_on_path : (count : ℕ) → node_count deltas ≡ count → IfSome (node_before count) (λ n. IsAbove deltas n (node_count deltas - 1))
+  last_on_path : (count : ℕ) → node_count deltas ≡ count → IfSome (node_before count) (λ n. IsOnPathTo (parent_of deltas) n (node_count deltas - 1))
   last_on_path zero e = tt
   last_on_path (suc n) e =
       let last : n ≡ node_count deltas - 1 = omega (arith, e) in
-      subst (λ (i : ℕ). IsAbove deltas n i) last itself
+      subst (λ (i : ℕ). IsOnPathTo (parent_of deltas) n i) last itself
 
   pub IsGoingUp-start : StandsIn deltas walker → walker.here ≡ node_before (node_count deltas) → IsGoingUp deltas walker
   IsGoingUp-start stands last = record {
     stands = stands;
-    on_path = subst (λ (o : Option ℕ). IfSome o (λ n. IsAbove deltas n (node_count deltas - 1))) (sym last) (last_on_path (node_count deltas) refl);
+    on_path = subst (λ (o : Option ℕ). IfSome o (λ n. IsOnPathTo (parent_of deltas) n (node_count deltas - 1))) (sym last) (last_on_path (node_count deltas) refl);
   }
 
   pub nowhere : walker.here ≡ node_before (node_count deltas) → node_count deltas ≡ 0 → walker.here ≡ None
   nowhere last none = last ∙ ap node_before none
 
   module _ (going : IsGoingUp deltas walker) (n : ℕ) (here : walker.here ≡ Some n) where
-    path_here : IsAbove deltas n (node_count deltas - 1)
-    path_here = subst (λ (o : Option ℕ). IfSome o (λ m. IsAbove deltas m (node_count deltas - 1))) here going.on_path
+    path_here : IsOnPathTo (parent_of deltas) n (node_count deltas - 1)
+    path_here = subst (λ (o : Option ℕ). IfSome o (λ m. IsOnPathTo (parent_of deltas) m (node_count deltas - 1))) here going.on_path
 
     pub found_parent : (above : ℕ) → n ≡ above → IsNextParent deltas (Some above)
     found_parent above e =
         let within : n < node_count deltas = subst (λ (o : Option ℕ). IfSome o (λ m. m < node_count deltas)) here going.stands.in_range in
-        (omega arith, subst (λ (i : ℕ). IsAbove deltas i (node_count deltas - 1)) e path_here)
+        (omega arith, subst (λ (i : ℕ). IsOnPathTo (parent_of deltas) i (node_count deltas - 1)) e path_here)
 
-    parent_on_path : (o : Option ℕ) → parent_of deltas n ≡ o → IfSome o (λ m. IsAbove deltas m (node_count deltas - 1))
+    parent_on_path : (o : Option ℕ) → parent_of deltas n ≡ o → IfSome o (λ m. IsOnPathTo (parent_of deltas) m (node_count deltas - 1))
     parent_on_path None e = tt
-    parent_on_path (Some m) e = IsAbove-trans deltas (higher e itself) path_here
+    parent_on_path (Some m) e = IsOnPathTo-trans (parent_of deltas) (higher e itself) path_here
 
     pub IsGoingUp-more : (next : WalkerState) → next.here ≡ parent_here deltas walker.here → StandsIn deltas next → IsGoingUp deltas next
     IsGoingUp-more next e stands = record {
       stands = stands;
-      on_path = subst (λ (o : Option ℕ). IfSome o (λ m. IsAbove deltas m (node_count deltas - 1))) (sym (e ∙ ap (parent_here deltas) here)) (parent_on_path (parent_of deltas n) refl);
+      on_path = subst (λ (o : Option ℕ). IfSome o (λ m. IsOnPathTo (parent_of deltas) m (node_count deltas - 1))) (sym (e ∙ ap (parent_here deltas) here)) (parent_on_path (parent_of deltas n) refl);
     }
 
 -- ---- changes, one after another

@@ -10,7 +10,7 @@ use Rattle.kb_geometry.specs.declared.shape.Shape.{Shape}
 use Rattle.kb_geometry.specs.declared.shape.Rect.{Rect}
 use Rattle.kb_geometry.specs.declared.stone.Cell.{Cell}
 use Rattle.kb_geometry.specs.declared.stone.Cell.TheVariants as cell
-use Rattle.kb_geometry.specs.Board.{IsRectOnBoard, cols_of, point_count}
+use Rattle.kb_geometry.specs.Board.{IsOrderedRectOnBoard, cols_of, point_count}
 use Rattle.kb_geometry.specs.Capture.{Position, cell_at, is_inside, with_rect}
 use Rattle.capture_board.specs.Runs.{IsRunSet}
 
@@ -27,7 +27,7 @@ pub record AreRowsSet (shape : Shape) (rect : Rect) (stone : Cell) (end : ℕ) (
   pub inside : (q : ℕ) → IsInRows shape rect end q → cell_at after q ≡ stone
   pub outside : (q : ℕ) → ¬ IsInRows shape rect end q → cell_at after q ≡ cell_at before q
 
-module _ (shape : Shape) (rect : Rect) (stone : Cell) (before : Position) (on_board : IsRectOnBoard shape rect) where
+module _ (shape : Shape) (rect : Rect) (stone : Cell) (before : Position) (on_board : IsOrderedRectOnBoard shape rect) where
   pub AreRowsSet-none : AreRowsSet shape rect stone rect.y0 before before
   AreRowsSet-none = record {
     same_length = refl;

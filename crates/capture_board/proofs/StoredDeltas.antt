@@ -1,11 +1,13 @@
 -- What the stored nodes say of the changes that they show.
 use Prim.Native.Nat.{zero}
 use Rattle.std.proofs.Common.{◌≡◌, ◌≢◌, ℕ, ◌+◌, ◌*◌, ◌-◌, ◌<◌, ◌≤◌, suc, List, [], ◌∷◌, ◌++◌, length, get_or, take, drop, Option, Some, None, refl, sym, ◌∙◌, ap, subst, arith, inl, inr}
-use Rattle.std.proofs.lemmas.Bool.{cases_lt}
 use Rattle.std.proofs.lemmas.List.{get_or_read, get_or_append_left, get_or_push, length_push, length-append, length-drop, drop-append-le, take-append-le, drop_at, take_all}
 use Rattle.std.proofs.lemmas.List.FromFn.{length-map-range_with_len, get_or-map-range_with_len, map-range_with_len_more}
 use Rattle.std.specs.Prelude.{map, unwrap_or}
 use Rattle.std.specs.List.{range_with_len, between}
+use Rattle.node_paths.specs.StoredNodes.{stored_parent}
+use Rattle.node_paths.proofs.Ancestors.{cases_Option, may_have-none, may_have-some, root-parent}
+use Rattle.node_paths.proofs.StoredNodes.{AreParts-more, map_same, part_start-same, stored_parent-same, stored_parent-suc, stored_parent-zero}
 use Rattle.kb_geometry.specs.declared.shape.Shape.{Shape}
 use Rattle.kb_geometry.specs.declared.shape.TheConstants.{MAX_POINTS}
 use Rattle.kb_geometry.specs.declared.stone.Change.{Change}
@@ -13,9 +15,9 @@ use Rattle.kb_geometry.specs.Board.{point_count}
 use Rattle.capture_board.specs.declared.deltas.StoredNode.{StoredNode}
 use Rattle.capture_board.specs.Changes.{AreChangesOf}
 use Rattle.capture_board.specs.Deltas.{Deltas, NodeChanges, AreDeltas, IsNextParent, changes_of, node_at, node_count, parent_of, position_where, with_node}
-use Rattle.capture_board.specs.StoredDeltas.{node_in, changes_start, shown_parent, shown_node, shown_nodes, shown_deltas, AreEnds, IsStored}
-use Rattle.capture_board.proofs.DeltaGrowth.{next_parent-none, next_parent-some, parent-there, AreDeltas-more}
-use Rattle.capture_board.proofs.DeltaPaths.{cases_Option, length-position_where}
+use Rattle.capture_board.specs.StoredDeltas.{stored_node, end_of_changes, changes_start, shown_node, shown_nodes, shown_deltas, AreChangeEnds, IsStored}
+use Rattle.capture_board.proofs.DeltaGrowth.{parent-there, AreDeltas-more}
+use Rattle.capture_board.proofs.DeltaPaths.{length-position_where}
 use Rattle.capture_board.proofs.MadeChanges.{AreChangesOf-count}
 use Rattle.kb_geometry.proofs.Shapes.{point_count-le-most}
 
@@ -28,7 +30,7 @@ node_at-shown : (shape : Shape) (ts : List StoredNode) (changes : List Change) (
 node_at-shown shape ts changes n h = get_or-map-range_with_len (shown_node ts changes) 0 (length ts) n n _ h (omega arith)
 
 -- a node that was read is the stored one
-pub node_read : (ts : List StoredNode) (n : ℕ) (t : StoredNode) → n < length ts → t ≡ get_or ts n t → t ≡ node_in ts n
+pub node_read : (ts : List StoredNode) (n : ℕ) (t : StoredNode) → n < length ts → t ≡ get_or ts n t → t ≡ stored_node ts n
 node_read ts n t h e = get_or_read ts n t h e _
 
 -- ---- the changes that are shown
@@ -46,14 +48,14 @@ module _ (shape : Shape) (ts : List StoredNode) (changes : List Change) (deltas 
   node_shown : (n : ℕ) → n < node_count deltas → node_at deltas n ≡ shown_node ts changes n
   node_shown n h = sym (ap (λ d. node_at d n) shown) ∙ node_at-shown shape ts changes n (within_shown n h)
 
-  pub parent_shown : (n : ℕ) → n ≢ 0 → n < node_count deltas → Some (node_in ts n).parent ≡ parent_of deltas n
+  pub parent_shown : (n : ℕ) → n ≢ 0 → n < node_count deltas → Some (stored_node ts n).parent ≡ parent_of deltas n
   parent_shown zero ne h = absurd (ne refl)
   parent_shown (suc n) ne h = sym (ap (λ (d : NodeChanges). d.parent) (node_shown (suc n) h))
 
   pub root_shown : (n : ℕ) → n ≡ 0 → None ≡ parent_of deltas n
-  root_shown n e = sym (ap (parent_of deltas) e ∙ deltas_shown.root)
+  root_shown n e = sym (ap (parent_of deltas) e ∙ root-parent deltas_shown.parents)
 
-  pub changes_shown : (n : ℕ) → n < node_count deltas → between (changes_start ts n) (node_in ts n).changes_end changes ≡ changes_of deltas n
+  pub changes_shown : (n : ℕ) → n < node_count deltas → between (changes_start ts n) (stored_node ts n).changes_end changes ≡ changes_of deltas n
   changes_shown n h = sym (ap (λ (d : NodeChanges). d.changes) (node_shown n h))
 
   pub changes_fit : (n : ℕ) (found : List Change) → n < node_count deltas → found ≡ changes_of deltas n → AreChangesOf (position_where deltas (parent_of deltas n)) found
@@ -61,84 +63,67 @@ module _ (shape : Shape) (ts : List StoredNode) (changes : List Change) (deltas 
 
 -- ---- one node more
 
-map_same : {X : Type 0} (f g : ℕ → X) (a n : ℕ) → ((k : ℕ) → a ≤ k → k < a + n → f k ≡ g k) → map f (range_with_len a n) ≡ map g (range_with_len a n)
-map_same f g a zero same = refl
-map_same f g a (suc n) same =
-    ap (λ y. y ∷ map f (range_with_len (a + 1) n)) (same a (omega arith) (omega arith))
-    ∙ ap (λ ys. g a ∷ ys) (map_same f g (a + 1) n (λ k low high. same k (omega arith) (omega arith)))
-
-shown_parent-zero : (ts : List StoredNode) (n : ℕ) → n ≡ 0 → shown_parent ts n ≡ None
-shown_parent-zero ts n e = ap (shown_parent ts) e
-
-shown_parent-suc : (ts : List StoredNode) (n : ℕ) → n ≢ 0 → shown_parent ts n ≡ Some (node_in ts n).parent
-shown_parent-suc ts zero ne = absurd (ne refl)
-shown_parent-suc ts (suc n) ne = refl
-
-shown_parent-same : (us ts : List StoredNode) (n : ℕ) → node_in us n ≡ node_in ts n → shown_parent us n ≡ shown_parent ts n
-shown_parent-same us ts zero same = refl
-shown_parent-same us ts (suc n) same = ap (λ (t : StoredNode). Some t.parent) same
-
-changes_start-same : (us ts : List StoredNode) (n : ℕ) → ((k : ℕ) → k < n → node_in us k ≡ node_in ts k) → changes_start us n ≡ changes_start ts n
-changes_start-same us ts zero same = refl
-changes_start-same us ts (suc n) same = ap (λ (t : StoredNode). t.changes_end) (same n (omega arith))
-
 module _ (shape : Shape) (ts : List StoredNode) (changes more : List Change) (x : StoredNode) (parent : Option ℕ) (stored : IsStored shape ts changes) (next : IsNextParent (shown_deltas shape ts changes) parent) (same_parent : (m : ℕ) → parent ≡ Some m → x.parent ≡ m) (ending : x.changes_end ≡ length (changes ++ more)) where
-  node_in-before : (n : ℕ) → n < length ts → node_in (ts ++ x ∷ []) n ≡ node_in ts n
-  node_in-before n h = get_or_append_left ts (x ∷ []) _ n h
+  stored_node-before : (n : ℕ) → n < length ts → stored_node (ts ++ x ∷ []) n ≡ stored_node ts n
+  stored_node-before n h = get_or_append_left ts (x ∷ []) _ n h
 
-  node_in-last : node_in (ts ++ x ∷ []) (length ts) ≡ x
-  node_in-last = get_or_push ts x _ (length ts) refl
+  end-before : (n : ℕ) → n < length ts → end_of_changes (ts ++ x ∷ []) n ≡ end_of_changes ts n
+  end-before n h = ap (λ (t : StoredNode). t.changes_end) (stored_node-before n h)
+
+  stored_node-last : stored_node (ts ++ x ∷ []) (length ts) ≡ x
+  stored_node-last = get_or_push ts x _ (length ts) refl
 
   start-before : (n : ℕ) → n ≤ length ts → changes_start (ts ++ x ∷ []) n ≡ changes_start ts n
-  start-before n h = changes_start-same (ts ++ x ∷ []) ts n (λ k low. node_in-before k (omega arith))
+  start-before n h =
+      part_start-same (end_of_changes (ts ++ x ∷ [])) (end_of_changes ts) n (λ k low. end-before k (omega arith))
 
-  end-last : (node_in (ts ++ x ∷ []) (length ts)).changes_end ≡ length (changes ++ more)
-  end-last = ap (λ (t : StoredNode). t.changes_end) node_in-last ∙ ending
+  end-last : (stored_node (ts ++ x ∷ []) (length ts)).changes_end ≡ length (changes ++ more)
+  end-last = ap (λ (t : StoredNode). t.changes_end) stored_node-last ∙ ending
 
   -- the nodes before it keep their changes
-  changes-before : (n : ℕ) → n < length ts → between (changes_start ts n) (node_in ts n).changes_end (changes ++ more) ≡ between (changes_start ts n) (node_in ts n).changes_end changes
+  changes-before : (n : ℕ) → n < length ts → between (changes_start ts n) (stored_node ts n).changes_end (changes ++ more) ≡ between (changes_start ts n) (stored_node ts n).changes_end changes
   changes-before n h =
-      let start = stored.ends.starts n h in
-      let end = stored.ends.ends n h in
-      ap (take ((node_in ts n).changes_end - changes_start ts n)) (drop-append-le (changes_start ts n) changes more (omega (arith, start, end)))
-      ∙ take-append-le ((node_in ts n).changes_end - changes_start ts n) (drop (changes_start ts n) changes) more (omega (arith, length-drop (changes_start ts n) changes, start, end))
+      let start = stored.ends.parts.starts n h in
+      let end = stored.ends.parts.ends n h in
+      ap (take ((stored_node ts n).changes_end - changes_start ts n)) (drop-append-le (changes_start ts n) changes more (omega (arith, start, end)))
+      ∙ take-append-le ((stored_node ts n).changes_end - changes_start ts n) (drop (changes_start ts n) changes) more (omega (arith, length-drop (changes_start ts n) changes, start, end))
 
   node-before : (n : ℕ) → n < length ts → shown_node (ts ++ x ∷ []) (changes ++ more) n ≡ shown_node ts changes n
   node-before n h =
-      ap (λ p. record { parent = p; changes = between (changes_start (ts ++ x ∷ []) n) (node_in (ts ++ x ∷ []) n).changes_end (changes ++ more) }) (shown_parent-same (ts ++ x ∷ []) ts n (node_in-before n h))
-      ∙ ap (λ s. record { parent = shown_parent ts n; changes = between s (node_in (ts ++ x ∷ []) n).changes_end (changes ++ more) }) (start-before n (omega arith))
-      ∙ ap (λ (t : StoredNode). record { parent = shown_parent ts n; changes = between (changes_start ts n) t.changes_end (changes ++ more) }) (node_in-before n h)
-      ∙ ap (λ cs. record { parent = shown_parent ts n; changes = cs }) (changes-before n h)
+      ap (λ p. record { parent = p; changes = between (changes_start (ts ++ x ∷ []) n) (stored_node (ts ++ x ∷ []) n).changes_end (changes ++ more) }) (stored_parent-same (λ (k : ℕ). (stored_node (ts ++ x ∷ []) k).parent) (λ (k : ℕ). (stored_node ts k).parent) n (ap (λ (t : StoredNode). t.parent) (stored_node-before n h)))
+      ∙ ap (λ s. record { parent = stored_parent (λ (k : ℕ). (stored_node ts k).parent) n; changes = between s (stored_node (ts ++ x ∷ []) n).changes_end (changes ++ more) }) (start-before n (omega arith))
+      ∙ ap (λ (t : StoredNode). record { parent = stored_parent (λ (k : ℕ). (stored_node ts k).parent) n; changes = between (changes_start ts n) t.changes_end (changes ++ more) }) (stored_node-before n h)
+      ∙ ap (λ cs. record { parent = stored_parent (λ (k : ℕ). (stored_node ts k).parent) n; changes = cs }) (changes-before n h)
 
   count_nodes : length (shown_nodes ts changes) ≡ length ts
   count_nodes = length-shown ts changes
 
-  parent-last : shown_parent (ts ++ x ∷ []) (length ts) ≡ parent
+  parent-last : stored_parent (λ (k : ℕ). (stored_node (ts ++ x ∷ []) k).parent) (length ts) ≡ parent
   parent-last =
       elim (cases_Option parent) [
         | inl e ↦
-            let none : length ts ≡ 0 = sym count_nodes ∙ next_parent-none (shown_deltas shape ts changes) parent next e in
-            shown_parent-zero (ts ++ x ∷ []) (length ts) none ∙ sym e
+            let none : length ts ≡ 0 = sym count_nodes ∙ may_have-none (parent_of (shown_deltas shape ts changes)) (node_count (shown_deltas shape ts changes)) parent next e in
+            stored_parent-zero (λ (k : ℕ). (stored_node (ts ++ x ∷ []) k).parent) (length ts) none ∙ sym e
         | inr p ↦
-            let above = next_parent-some (shown_deltas shape ts changes) parent p.0 next p.1 in
-            shown_parent-suc (ts ++ x ∷ []) (length ts) (omega (arith, above.0, count_nodes))
-            ∙ ap (λ (t : StoredNode). Some t.parent) node_in-last
+            let above = may_have-some (parent_of (shown_deltas shape ts changes)) (node_count (shown_deltas shape ts changes)) parent p.0 next p.1 in
+            stored_parent-suc (λ (k : ℕ). (stored_node (ts ++ x ∷ []) k).parent) (length ts) (omega (arith, above.0, count_nodes))
+            ∙ ap (λ (t : StoredNode). Some t.parent) stored_node-last
             ∙ ap (λ i. Some i) (same_parent p.0 p.1)
             ∙ sym p.1
       ]
 
   -- its own changes are those that were added
-  changes-last : between (changes_start (ts ++ x ∷ []) (length ts)) (node_in (ts ++ x ∷ []) (length ts)).changes_end (changes ++ more) ≡ more
+  changes-last : between (changes_start (ts ++ x ∷ []) (length ts)) (stored_node (ts ++ x ∷ []) (length ts)).changes_end (changes ++ more) ≡ more
   changes-last =
       let start : changes_start (ts ++ x ∷ []) (length ts) ≡ length changes = start-before (length ts) (omega arith) ∙ stored.ends.whole in
-      let end : (node_in (ts ++ x ∷ []) (length ts)).changes_end ≡ length changes + length more = end-last ∙ length-append changes more in
-      ap (λ s. between s (node_in (ts ++ x ∷ []) (length ts)).changes_end (changes ++ more)) start
-      ∙ ap (take ((node_in (ts ++ x ∷ []) (length ts)).changes_end - length changes)) (drop_at changes more (length changes) refl)
-      ∙ take_all ((node_in (ts ++ x ∷ []) (length ts)).changes_end - length changes) more (omega (arith, end))
+      let end : (stored_node (ts ++ x ∷ []) (length ts)).changes_end ≡ length changes + length more = end-last ∙ length-append changes more in
+      ap (λ s. between s (stored_node (ts ++ x ∷ []) (length ts)).changes_end (changes ++ more)) start
+      ∙ ap (take ((stored_node (ts ++ x ∷ []) (length ts)).changes_end - length changes)) (drop_at changes more (length changes) refl)
+      ∙ take_all ((stored_node (ts ++ x ∷ []) (length ts)).changes_end - length changes) more (omega (arith, end))
 
   node-last : shown_node (ts ++ x ∷ []) (changes ++ more) (length ts) ≡ record { parent = parent; changes = more }
   node-last =
-      ap (λ p. record { parent = p; changes = between (changes_start (ts ++ x ∷ []) (length ts)) (node_in (ts ++ x ∷ []) (length ts)).changes_end (changes ++ more) }) parent-last
+      ap (λ p. record { parent = p; changes = between (changes_start (ts ++ x ∷ []) (length ts)) (stored_node (ts ++ x ∷ []) (length ts)).changes_end (changes ++ more) }) parent-last
       ∙ ap (λ cs. record { parent = parent; changes = cs }) changes-last
 
   nodes-push : shown_nodes (ts ++ x ∷ []) (changes ++ more) ≡ shown_nodes ts changes ++ record { parent = parent; changes = more } ∷ []
@@ -158,21 +143,11 @@ module _ (shape : Shape) (ts : List StoredNode) (changes more : List Change) (x 
     pub count-more : length more ≤ MAX_POINTS
     count-more = omega (arith, AreChangesOf-count (position_where (shown_deltas shape ts changes) parent) more of, length-position_where (shown_deltas shape ts changes) parent, small)
 
-    AreEnds-push : AreEnds (ts ++ x ∷ []) (changes ++ more)
-    AreEnds-push = record {
-      starts = λ n h. elim (cases_lt n (length ts)) [
-        | inl l ↦ omega (arith, start-before n (omega arith), ap (λ (t : StoredNode). t.changes_end) (node_in-before n l), stored.ends.starts n l)
-        | inr l ↦
-            let here : length ts ≡ n = omega (arith, length_push ts x) in
-            subst (λ (i : ℕ). changes_start (ts ++ x ∷ []) i ≤ (node_in (ts ++ x ∷ []) i).changes_end) here
-            (omega (arith, start-before (length ts) (omega arith), stored.ends.whole, end-last, length-append changes more))
-      ];
-      ends = λ n h. elim (cases_lt n (length ts)) [
-        | inl l ↦ omega (arith, ap (λ (t : StoredNode). t.changes_end) (node_in-before n l), stored.ends.ends n l, length-append changes more)
-        | inr l ↦
-            let here : length ts ≡ n = omega (arith, length_push ts x) in
-            subst (λ (i : ℕ). (node_in (ts ++ x ∷ []) i).changes_end ≤ length (changes ++ more)) here (omega (arith, end-last))
-      ];
+    AreChangeEnds-push : AreChangeEnds (ts ++ x ∷ []) (changes ++ more)
+    AreChangeEnds-push = record {
+      parts =
+          AreParts-more stored.ends.parts (end_of_changes (ts ++ x ∷ [])) (length (ts ++ x ∷ [])) (length (changes ++ more))
+          (length_push ts x) (omega (arith, length-append changes more)) end-before end-last;
       whole =
           let count : length (ts ++ x ∷ []) ≡ suc (length ts) = omega (arith, length_push ts x) in
           ap (changes_start (ts ++ x ∷ [])) count ∙ end-last;
@@ -184,7 +159,7 @@ module _ (shape : Shape) (ts : List StoredNode) (changes more : List Change) (x 
       deltas =
           subst (λ (d : Deltas). AreDeltas d) (sym shown_deltas-push)
           (AreDeltas-more (shown_deltas shape ts changes) parent more stored.deltas next (omega (arith, count_nodes)) of);
-      ends = AreEnds-push;
+      ends = AreChangeEnds-push;
     }
 
 -- ---- the next node, as `push` stores it
@@ -233,5 +208,5 @@ module _ (shape : Shape) (ts : List StoredNode) (changes more : List Change) (de
 
 -- ---- where the changes of a node begin
 
-pub start_fits : (ts : List StoredNode) (changes : List Change) (n : ℕ) → AreEnds ts changes → length ts ≤ 65536 → n < length ts → (changes_start ts n ≤ length changes) × (length changes ≤ 65536 * MAX_POINTS)
-start_fits ts changes n ends few h = (omega (arith, ends.starts n h, ends.ends n h), omega (arith, ends.most))
+pub start_fits : (ts : List StoredNode) (changes : List Change) (n : ℕ) → AreChangeEnds ts changes → length ts ≤ 65536 → n < length ts → (changes_start ts n ≤ length changes) × (length changes ≤ 65536 * MAX_POINTS)
+start_fits ts changes n ends few h = (omega (arith, ends.parts.starts n h, ends.parts.ends n h), omega (arith, ends.most))

@@ -5,16 +5,18 @@ use Rattle.std.proofs.lemmas.Bool.{both_ways, eq-eqb, false≢true, not-true}
 use Rattle.std.proofs.lemmas.List.Elements.{All-weaker}
 use Rattle.std.specs.Option.{IsSomeAnd, option_eq, option_map_or}
 use Rattle.std.specs.Prelude.{IfSome, IsSome, not}
+use Rattle.node_paths.specs.Parents.{IsOnPathTo}
+use Rattle.node_paths.proofs.Ancestors.{IsOnPathTo-step, later-parent, parent-lt, root-parent}
 use Rattle.kb_geometry.specs.declared.stone.Change.{Change}
 use Rattle.kb_geometry.specs.Board.{point_count}
 use Rattle.capture_board.specs.Board.{ShapedPosition}
 use Rattle.capture_board.specs.Changes.{AreChangesOf, with_changes}
-use Rattle.capture_board.specs.Deltas.{Deltas, AreDeltas, IsAbove, changes_of, node_count, parent_of, position_where, with_node}
+use Rattle.capture_board.specs.Deltas.{Deltas, AreDeltas, changes_of, node_count, parent_of, position_where, with_node}
 use Rattle.capture_board.specs.StoredWalking.{with_old_cells}
 use Rattle.capture_board.specs.Walking.{WalkerState, MayLeaveTo, StandsIn, node_before, parent_here}
 use Rattle.capture_board.proofs.CellSetLemmas.{board_with}
 use Rattle.capture_board.proofs.DeltaGrowth.{node_count-more, position_where-before}
-use Rattle.capture_board.proofs.DeltaPaths.{IsAbove-step, length-position_where, parent-lt, position_at-step}
+use Rattle.capture_board.proofs.DeltaPaths.{length-position_where, position_at-step}
 use Rattle.capture_board.proofs.MadeChanges.{with_old_cells-back}
 
 -- a walker that stands here and shows this board
@@ -43,7 +45,7 @@ module _ (deltas : Deltas) (are : AreDeltas deltas) (here : Option ℕ) (board :
 
   parent_in_range : (n : ℕ) → n < node_count deltas → (o : Option ℕ) → o ≡ parent_of deltas n → IfSome o (λ m. m < node_count deltas)
   parent_in_range n within None e = tt
-  parent_in_range n within (Some m) e = omega (arith, parent-lt deltas are n m (sym e))
+  parent_in_range n within (Some m) e = omega (arith, parent-lt are.parents n m (sym e))
 
   module _ (next : ShapedPosition) (cs : List Change) (n : ℕ) (within : n < node_count deltas) (of_node : cs ≡ changes_of deltas n) where
     pub entered : parent_of deltas n ≡ walker.here → next ≡ board_with board.shape (with_changes board.position cs) → StandsIn deltas (walker_at (Some n) next)
@@ -82,8 +84,8 @@ may_leave_more : (deltas : Deltas) (here above : Option ℕ) → MayLeaveTo delt
 may_leave_more deltas here None may ne = tt
 may_leave_more deltas None (Some a) may ne = absurd may
 may_leave_more deltas (Some n) (Some a) may ne =
-    let step = IsAbove-step deltas may (λ e. ne (ap (λ i. Some i) (sym e))) in
-    subst (λ (o : Option ℕ). IsSomeAnd o (λ m. IsAbove deltas a m)) (sym step.1) step.2
+    let step = IsOnPathTo-step (parent_of deltas) may (λ e. ne (ap (λ i. Some i) (sym e))) in
+    subst (λ (o : Option ℕ). IsSomeAnd o (λ m. IsOnPathTo (parent_of deltas) a m)) (sym step.1) step.2
 
 pub IsLeaving-more : (deltas : Deltas) (above : Option ℕ) (walker next : WalkerState) → IsLeaving deltas above walker → walker.here ≢ above → next.here ≡ parent_here deltas walker.here → StandsIn deltas next → IsLeaving deltas above next
 IsLeaving-more deltas above walker next leaving ne e stands = record {
@@ -115,12 +117,12 @@ other_place one here above r e is t f =
 
 -- from the node before, a walk can go back to the parent of the next one
 pub MayLeaveTo-next : (deltas : Deltas) → AreDeltas deltas → (n : ℕ) (here : Option ℕ) → n < node_count deltas → here ≡ node_before n → MayLeaveTo deltas here (parent_of deltas n)
-MayLeaveTo-next deltas are zero here h e = subst (λ (o : Option ℕ). MayLeaveTo deltas here o) (sym are.root) tt
+MayLeaveTo-next deltas are zero here h e = subst (λ (o : Option ℕ). MayLeaveTo deltas here o) (sym (root-parent are.parents)) tt
 MayLeaveTo-next deltas are (suc n) here h e =
-    let p = are.parents (suc n) (omega arith) h in
+    let p = later-parent are.parents (suc n) (omega arith) h in
     let before : suc n - 1 ≡ n = omega arith in
     subst (λ (o : Option ℕ). MayLeaveTo deltas here o) (sym p.1)
-    (subst (λ (o : Option ℕ). IsSomeAnd o (λ m. IsAbove deltas p.0 m)) (sym e) (subst (λ (i : ℕ). IsAbove deltas p.0 i) before p.3))
+    (subst (λ (o : Option ℕ). IsSomeAnd o (λ m. IsOnPathTo (parent_of deltas) p.0 m)) (sym e) (subst (λ (i : ℕ). IsOnPathTo (parent_of deltas) p.0 i) before p.3))
 
 -- ---- one node more
 

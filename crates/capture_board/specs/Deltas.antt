@@ -1,7 +1,8 @@
 -- The changes at each node of a game, and the position at a node: these changes added along the path from the root.
-use Prim.Native.Nat.{zero}
-use Rattle.std.specs.Prelude.{◌≡◌, ℕ, ◌+◌, ◌-◌, ◌<◌, ◌≤◌, suc, List, [], ◌∷◌, ◌++◌, length, slice_index_or, Option, Some, None}
+use Rattle.std.specs.Prelude.{ℕ, ◌<◌, ◌≤◌, List, [], ◌∷◌, ◌++◌, length, slice_index_or, Option, None}
 use Rattle.std.specs.Option.{option_map_or}
+use Rattle.node_paths.specs.Parents.{AreParents, MayHaveParent}
+use Rattle.node_paths.specs.Paths.{path_to}
 use Rattle.kb_geometry.specs.declared.shape.Shape.{Shape}
 use Rattle.kb_geometry.specs.declared.stone.Change.{Change}
 use Rattle.kb_geometry.specs.Capture.{Position, empty_board}
@@ -30,20 +31,6 @@ parent_of deltas n = (node_at deltas n).parent
 abbrev pub changes_of : Deltas → ℕ → List Change
 changes_of deltas n = (node_at deltas n).changes
 
--- a is n or an ancestor of n
-pub data IsAbove (deltas : Deltas) : ℕ → ℕ → Type 0 where
-  itself : {n : ℕ} → IsAbove deltas n n
-  higher : {a m n : ℕ} → parent_of deltas n ≡ Some m → IsAbove deltas a m → IsAbove deltas a n
-
--- the path from a node up to the root, the node itself first, of at most so many nodes
-abbrev pub path_within : Deltas → ℕ → ℕ → List ℕ
-path_within deltas zero n = []
-path_within deltas (suc most) n = n ∷ option_map_or (path_within deltas most) (parent_of deltas n) []
-
--- the path from a node up to the root: a parent's number is less than its child's
-abbrev pub path_to : Deltas → ℕ → List ℕ
-path_to deltas n = path_within deltas (n + 1) n
-
 -- the changes of the nodes on a path up to the root, added from the root on to the empty board
 abbrev pub position_along : Deltas → List ℕ → Position
 position_along deltas [] = empty_board deltas.shape
@@ -51,25 +38,24 @@ position_along deltas (n ∷ up) = with_changes (position_along deltas up) (chan
 
 -- the position at a node
 abbrev pub position_at : Deltas → ℕ → Position
-position_at deltas n = position_along deltas (path_to deltas n)
+position_at deltas n = position_along deltas (path_to (parent_of deltas) n)
 
 -- the position where a walk stands: at a node, or above the root, where the board is empty
 abbrev pub position_where : Deltas → Option ℕ → Position
 position_where deltas here = option_map_or (position_at deltas) here (empty_board deltas.shape)
 
--- the next node may have this parent: the first node has none, and that of each later one is the node before it, or
--- an ancestor of that
+-- the next node may have this parent
 abbrev pub IsNextParent : Deltas → Option ℕ → Type 0
-IsNextParent deltas None = node_count deltas ≡ 0
-IsNextParent deltas (Some m) = (1 ≤ node_count deltas) × IsAbove deltas m (node_count deltas - 1)
+IsNextParent deltas parent = MayHaveParent (parent_of deltas) (node_count deltas) parent
 
--- The first node has no parent. The parent of each other node is the node before it, or an ancestor of that. The
--- changes of a node are net changes against the position at its parent, or against the empty board at the root.
+-- The parent of each node but the first is the node before it, or an ancestor of that. The changes of
+-- a node are net changes against the position at its parent, or against the empty board at the root.
 pub record AreDeltas (deltas : Deltas) : Type 0 where
   pub most : node_count deltas ≤ 65536
-  pub root : parent_of deltas 0 ≡ None
-  pub parents : (n : ℕ) → 1 ≤ n → n < node_count deltas → (m : ℕ) × (parent_of deltas n ≡ Some m) × (m < n) × IsAbove deltas m (n - 1)
-  pub changes : (n : ℕ) → n < node_count deltas → AreChangesOf (position_where deltas (parent_of deltas n)) (changes_of deltas n)
+  pub parents : AreParents (parent_of deltas) (node_count deltas)
+  pub changes : (n : ℕ) →
+      n < node_count deltas →
+      AreChangesOf (position_where deltas (parent_of deltas n)) (changes_of deltas n)
 
 -- a board without a node yet
 abbrev pub no_nodes : Shape → Deltas
@@ -77,4 +63,7 @@ no_nodes shape = record { shape = shape; nodes = [] }
 
 -- the changes of a game with one node more
 abbrev pub with_node : Deltas → Option ℕ → List Change → Deltas
-with_node deltas parent changes = record { shape = deltas.shape; nodes = deltas.nodes ++ (record { parent = parent; changes = changes } ∷ []) }
+with_node deltas parent changes = record {
+  shape = deltas.shape;
+  nodes = deltas.nodes ++ (record { parent = parent; changes = changes } ∷ []);
+}

@@ -2,9 +2,10 @@
 use Prim.Native.Nat.{zero}
 use Rattle.std.specs.Prelude.{◌≡◌, ℕ, ◌<◌, suc, Option, Some, None, IfSome, option_and_then}
 use Rattle.std.specs.Option.{IsSomeAnd}
+use Rattle.node_paths.specs.Parents.{IsOnPathTo}
 use Rattle.kb_geometry.specs.declared.shape.Shape.{Shape}
 use Rattle.kb_geometry.specs.Capture.{Position}
-use Rattle.capture_board.specs.Deltas.{Deltas, IsAbove, node_count, parent_of, position_where}
+use Rattle.capture_board.specs.Deltas.{Deltas, node_count, parent_of, position_where}
 
 -- a walker as contracts see it: its board, the node where it stands, none above the root, and the position that it shows
 pub record WalkerState : Type 0 where
@@ -26,7 +27,7 @@ parent_here deltas here = option_and_then (parent_of deltas) here
 -- nodes below it.
 abbrev pub MayLeaveTo : Deltas → Option ℕ → Option ℕ → Type 0
 MayLeaveTo deltas here None = Unit {0}
-MayLeaveTo deltas here (Some a) = IsSomeAnd here (λ n. IsAbove deltas a n)
+MayLeaveTo deltas here (Some a) = IsSomeAnd here (λ n. IsOnPathTo (parent_of deltas) a n)
 
 -- the node before this one in order of the text; none before the root
 abbrev pub node_before : ℕ → Option ℕ

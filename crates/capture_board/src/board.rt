@@ -1,6 +1,6 @@
 // A board of fixed room that plays moves by the capture rule.
 ghost use Rattle.std.specs.Prelude.{◌≡◌, ◌<◌, ◌≤◌, [], length, take, IfSome};
-ghost use Rattle.kb_geometry.specs.Board.{point_count, IsRectOnBoard};
+ghost use Rattle.kb_geometry.specs.Board.{point_count, IsOrderedRectOnBoard};
 ghost use Rattle.kb_geometry.specs.Capture.{IsPlayed, Position, empty_board, with_rect};
 ghost use Rattle.capture_board.specs.Changes.{LeadFrom, MayBeUndone, IsUndone};
 ghost use Rattle.capture_board.specs.ChangedPoints.{NotesChanges};
@@ -56,7 +56,7 @@ impl Model for Board {
 
 impl Board {
     ghost use Rattle.kb_geometry.specs.declared.shape.Point.{Point};
-    ghost use Rattle.kb_geometry.specs.Board.{point_count, IsOnBoard, IsRectOnBoard};
+    ghost use Rattle.kb_geometry.specs.Board.{point_count, IsOnBoard, IsOrderedRectOnBoard};
     ghost use Rattle.kb_geometry.specs.Capture.{empty_board, cell_at, with_rect, IsMovePlayed};
 
     /// The board of this shape without a stone.
@@ -123,7 +123,7 @@ impl Board {
     /// Puts a cell on each point of a rectangle, and captures nothing. The list then has the net
     /// changes since it was last cleared.
     pub fn set(&mut self, cell: Cell, rect: Rect, changes: &mut ChangeList)
-        requires on_board { IsRectOnBoard self.old.shape rect }
+        requires on_board { IsOrderedRectOnBoard self.old.shape rect }
         requires leads { (base : Position) × LeadFrom base changes.old self.old.position }
         ensures shape { self.new.shape ≡ self.old.shape }
         ensures position { self.new.position ≡ with_rect self.old.shape self.old.position cell rect }
@@ -210,7 +210,7 @@ fn play_in_room(
 // room.
 fn set_in_room(shape: Shape, room: &mut [Cell], changed: &mut ChangedPoints, cell: Cell, rect: Rect)
     requires fits { point_count shape ≤ length room.old }
-    requires on_board { IsRectOnBoard shape rect }
+    requires on_board { IsOrderedRectOnBoard shape rect }
     ensures set { take (point_count shape) room.new
         ≡ with_rect shape (take (point_count shape) room.old) cell rect }
     ensures noted { NotesChanges (take (point_count shape) room.old) changed.old

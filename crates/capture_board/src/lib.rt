@@ -1,9 +1,9 @@
 //! Boards that play by the capture rule, the changes at each node of a game, and a walker over
 //! them.
 //!
-//! Stands on kb_geometry and kb_bits. The layer above uses that `Board::play` is the capture rule
-//! with its net changes, that `Board::undo` restores, and that a `Walker` shows the position at the
-//! node where it stands.
+//! Stands on kb_geometry, kb_bits and node_paths. The layer above uses that `Board::play` is the
+//! capture rule with its net changes, that `Board::undo` restores, and that a `Walker` shows the
+//! position at the node where it stands.
 #![tactic(auto)]
 
 mod board;

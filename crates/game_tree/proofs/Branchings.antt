@@ -1,32 +1,21 @@
 -- How many nodes with more than one child stand on a path.
-use Prim.Native.Nat.{zero}
-use Rattle.std.proofs.Common.{◌≡◌, ℕ, ◌+◌, ◌-◌, ◌<◌, ◌≤◌, suc, ltb, Bool, false, cond, List, [], ◌∷◌, length, Some, None, refl, sym, ◌∙◌, ap, arith, inl, inr}
+use Rattle.std.proofs.Common.{◌≡◌, ℕ, ◌+◌, ◌-◌, ◌<◌, ◌≤◌, ltb, Bool, false, cond, List, [], ◌∷◌, length, Some, None, refl, sym, ◌∙◌, ap, arith, inl, inr}
 use Rattle.std.proofs.lemmas.Bool.{le-ltb}
 use Rattle.std.proofs.lemmas.Option.{same_Some}
 use Rattle.std.proofs.lemmas.List.Sums.{sum_by-cons, count_by-le-length}
 use Rattle.std.specs.Prelude.{count_by}
-use Rattle.std.specs.Option.{option_map_or}
+use Rattle.node_paths.specs.Paths.{path_to}
+use Rattle.node_paths.proofs.Ancestors.{cases_Option}
+use Rattle.node_paths.proofs.PathLists.{length-path_within}
 use Rattle.game_tree.specs.Built.{IsGrown}
 use Rattle.game_tree.specs.Stored.{IsMainEnd, siblings_from}
-use Rattle.game_tree.specs.Tree.{Tree, node_count, parent_of, children_of, path_within, path_to, branchings_to, first_child_of, next_sibling_of}
-use Rattle.game_tree.proofs.Trees.{cases_Option, parent-in_range, first_child-found, next_sibling-none, siblings_from-first, siblings_from-next}
-
-length-path_within : (tree : Tree) (most n : ℕ) → length (path_within tree most n) ≤ most
-length-path_within tree zero n = omega arith
-length-path_within tree (suc most) n =
-    elim (cases_Option (parent_of tree n)) [
-      | inl e ↦
-          let path : path_within tree (suc most) n ≡ n ∷ [] = ap (λ o. n ∷ option_map_or (path_within tree most) o []) e in
-          omega (arith, ap length path)
-      | inr p ↦
-          let path : path_within tree (suc most) n ≡ n ∷ path_within tree most p.0 = ap (λ o. n ∷ option_map_or (path_within tree most) o []) p.1 in
-          omega (arith, ap length path, length-path_within tree most p.0)
-    ]
+use Rattle.game_tree.specs.Tree.{Tree, node_count, parent_of, children_of, branchings_to, first_child_of, next_sibling_of}
+use Rattle.game_tree.proofs.Trees.{parent-in_range, first_child-found, next_sibling-none, siblings_from-first, siblings_from-next}
 
 -- a path has at most as many branchings as nodes
 pub branchings_to-le : (tree : Tree) (n : ℕ) → branchings_to tree n ≤ n + 1
 branchings_to-le tree n =
-    omega (arith, count_by-le-length (λ m. ltb 1 (length (children_of tree m))) (path_to tree n), length-path_within tree (n + 1) n)
+    omega (arith, count_by-le-length (λ m. ltb 1 (length (children_of tree m))) (path_to (parent_of tree) n), length-path_within (parent_of tree) (n + 1) n)
 
 count_none : (p : ℕ → Bool) → ((k : ℕ) → p k ≡ false) → (xs : List ℕ) → count_by p xs ≡ 0
 count_none p none [] = refl
@@ -60,4 +49,4 @@ module _ (tree : Tree) (grown : IsGrown tree) (main : ℕ) (end : IsMainEnd tree
       ]
 
   pub branchings_to-line : (n : ℕ) → branchings_to tree n ≡ 0
-  branchings_to-line n = count_none (λ m. ltb 1 (length (children_of tree m))) (λ m. le-ltb 1 (length (children_of tree m)) (one_child m)) (path_to tree n)
+  branchings_to-line n = count_none (λ m. ltb 1 (length (children_of tree m))) (λ m. le-ltb 1 (length (children_of tree m)) (one_child m)) (path_to (parent_of tree) n)

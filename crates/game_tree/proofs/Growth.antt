@@ -1,22 +1,18 @@
 -- A tree with one node more.
-use Rattle.std.proofs.Common.{◌≡◌, ◌≢◌, ℕ, ◌+◌, ◌-◌, ◌<◌, ◌≤◌, [], length, Option, Some, None, refl, sym, ◌∙◌, ap, subst, arith, inl, inr}
+use Rattle.std.proofs.Common.{◌≡◌, ◌≢◌, ℕ, ◌+◌, ◌-◌, ◌<◌, ◌≤◌, length, Option, Some, None, refl, sym, ◌∙◌, ap, subst, arith, inl, inr}
 use Rattle.std.proofs.lemmas.Bool.{cases_lt}
 use Rattle.std.proofs.lemmas.List.{get_or_append_left, get_or_push, length_push}
 use Rattle.std.proofs.lemmas.Option.{same_Some}
 use Rattle.std.specs.Prelude.{is_some}
+use Rattle.node_paths.specs.Parents.{MayHaveParent}
+use Rattle.node_paths.proofs.Ancestors.{cases_Option, may_have-none, may_have-some, parent-lt}
+use Rattle.node_paths.proofs.MoreParents.{AreParents-more}
 use Rattle.game_tree.specs.declared.node.Move.{Move}
 use Rattle.game_tree.specs.Built.{Built, IsGrown, IsNextParent, tree_so_far, with_node}
 use Rattle.game_tree.specs.Stored.{IsMainEnd, one_if}
-use Rattle.game_tree.specs.Tree.{Node, IsAbove, IsNodeOnBoard, node_count, node_at, parent_of, next_sibling_of, move_number_of}
-use Rattle.game_tree.proofs.Paths.{IsAbove-same, move_number-same, move_number-parent, move_number-root}
-use Rattle.game_tree.proofs.Trees.{cases_Option, parent-in_range, parent-lt, next_sibling-is, next_sibling-none, next_sibling-found, next_sibling-missing, next_sibling-root}
-
-pub next_parent-none : (b : Built) (parent : Option ℕ) → IsNextParent b parent → parent ≡ None → b.nodes ≡ []
-next_parent-none b None next e = next
-next_parent-none b (Some m) next e = absurd cc
-
-pub next_parent-some : (b : Built) (parent : Option ℕ) (m : ℕ) → IsNextParent b parent → parent ≡ Some m → (1 ≤ length b.nodes) × (m < length b.nodes) × IsAbove (tree_so_far b) m (length b.nodes - 1)
-next_parent-some b parent m next e = subst (λ (o : Option ℕ). IsNextParent b o) e next
+use Rattle.game_tree.specs.Tree.{Node, IsNodeOnBoard, node_count, node_at, parent_of, next_sibling_of, move_number_of}
+use Rattle.game_tree.proofs.Paths.{move_number-same, move_number-parent, move_number-root}
+use Rattle.game_tree.proofs.Trees.{parent-past, parent-in_range, next_sibling-is, next_sibling-none, next_sibling-found, next_sibling-missing, next_sibling-root}
 
 module _ (b : Built) (parent : Option ℕ) (played : Option Move) where
   pub node_count-more : node_count (tree_so_far (with_node b parent played)) ≡ length b.nodes + 1
@@ -38,44 +34,15 @@ module _ (b : Built) (parent : Option ℕ) (played : Option Move) where
   played-before n h = sym (ap (λ (d : Node). d.played) (node_at-before n h))
 
   module _ (grown : IsGrown (tree_so_far b)) (next : IsNextParent b parent) where
-    root-more : parent_of (tree_so_far (with_node b parent played)) 0 ≡ None
-    root-more =
-        elim (cases_lt 0 (length b.nodes)) [
-          | inl h ↦ sym (parent-before 0 h) ∙ grown.root
-          | inr h ↦
-              let none : length b.nodes ≡ 0 = omega arith in
-              elim (cases_Option parent) [
-                | inl e ↦ ap (parent_of (tree_so_far (with_node b parent played))) (sym none) ∙ parent-last ∙ e
-                | inr p ↦ absurd (omega (arith, next_parent-some b parent p.0 next p.1))
-              ]
-        ]
-
-    parents-more : (n : ℕ) → 1 ≤ n → n < node_count (tree_so_far (with_node b parent played)) → (m : ℕ) × (parent_of (tree_so_far (with_node b parent played)) n ≡ Some m) × (m < n) × IsAbove (tree_so_far (with_node b parent played)) m (n - 1)
-    parents-more n low high =
-        elim (cases_lt n (length b.nodes)) [
-          | inl h ↦
-              let p = grown.parents n low h in
-              (p.0, sym (parent-before n h) ∙ p.1, p.2, IsAbove-same (tree_so_far b) (tree_so_far (with_node b parent played)) (length b.nodes) grown parent-before p.3 (omega arith))
-          | inr h ↦
-              let here : length b.nodes ≡ n = omega (arith, node_count-more) in
-              elim (cases_Option parent) [
-                | inl e ↦ absurd (omega (arith, ap length (next_parent-none b parent next e)))
-                | inr p ↦
-                    let q = next_parent-some b parent p.0 next p.1 in (
-                      p.0,
-                      ap (parent_of (tree_so_far (with_node b parent played))) (sym here) ∙ parent-last ∙ p.1,
-                      omega (arith, q.1),
-                      subst (λ (i : ℕ). IsAbove (tree_so_far (with_node b parent played)) p.0 (i - 1)) here
-                          (IsAbove-same (tree_so_far b) (tree_so_far (with_node b parent played)) (length b.nodes) grown parent-before q.2 (omega (arith, q.0))),
-                    )
-              ]
-        ]
+    next_last : MayHaveParent (parent_of (tree_so_far b)) (length b.nodes) (parent_of (tree_so_far (with_node b parent played)) (length b.nodes))
+    next_last = subst (λ (o : Option ℕ). MayHaveParent (parent_of (tree_so_far b)) (length b.nodes) o) (sym parent-last) next
 
     pub IsGrown-more : length b.nodes < 65536 → IsNodeOnBoard b.shape (record { parent = parent; setups = b.pending; played = played }) → IsGrown (tree_so_far (with_node b parent played))
     IsGrown-more room on = record {
       most = omega (arith, node_count-more);
-      root = root-more;
-      parents = parents-more;
+      parents =
+          AreParents-more (parent_of (tree_so_far (with_node b parent played))) (node_count (tree_so_far (with_node b parent played)))
+          grown.parents next_last node_count-more parent-before (parent-past (tree_so_far (with_node b parent played)));
       on_board = λ n h. elim (cases_lt n (length b.nodes)) [
         | inl l ↦ subst (λ (d : Node). IsNodeOnBoard b.shape d) (sym (node_at-before n l)) (grown.on_board n l)
         | inr l ↦
@@ -133,7 +100,7 @@ module _ (b : Built) (parent : Option ℕ) (played : Option Move) where
 
     -- the new node is the first child of the node before it, or the root: the others' next siblings stay
     pub siblings-first : ((m : ℕ) → parent ≡ Some m → m + 1 ≡ length b.nodes) → (n : ℕ) → n < length b.nodes → next_sibling_of (tree_so_far (with_node b parent played)) n ≡ next_sibling_of (tree_so_far b) n
-    siblings-first behind n h = sibling-same n h (λ m e is f. absurd (omega (arith, behind m is, parent-lt (tree_so_far b) grown n m e)))
+    siblings-first behind n h = sibling-same n h (λ m e is f. absurd (omega (arith, behind m is, parent-lt grown.parents n m e)))
 
     -- the new node stands behind the last child c of its parent: the other nodes' next siblings stay
     pub siblings-other : (c m : ℕ) → c < length b.nodes → parent ≡ Some m → parent_of (tree_so_far b) c ≡ Some m → next_sibling_of (tree_so_far b) c ≡ None → (n : ℕ) → n < length b.nodes → n ≢ c → next_sibling_of (tree_so_far (with_node b parent played)) n ≡ next_sibling_of (tree_so_far b) n
@@ -156,8 +123,8 @@ module _ (b : Built) (parent : Option ℕ) (played : Option Move) where
 
       pub moves-last : (m : ℕ) → parent ≡ Some m → move_number_of (tree_so_far (with_node b parent played)) (length b.nodes) ≡ move_number_of (tree_so_far b) m + one_if (is_some played)
       moves-last m is =
-          let above = next_parent-some b parent m next is in
-          omega (arith, move_number-parent (tree_so_far (with_node b parent played)) (IsGrown-more room on) (length b.nodes) m (parent-last ∙ is), moves-before m above.1, played-last)
+          let above = may_have-some (parent_of (tree_so_far b)) (length b.nodes) parent m next is in
+          omega (arith, move_number-parent (tree_so_far (with_node b parent played)) (IsGrown-more room on) (length b.nodes) m (parent-last ∙ is), moves-before m above.0, played-last)
 
       pub moves-root : parent ≡ None → move_number_of (tree_so_far (with_node b parent played)) (length b.nodes) ≡ one_if (is_some played)
       moves-root is = omega (arith, move_number-root (tree_so_far (with_node b parent played)) (IsGrown-more room on) (length b.nodes) (parent-last ∙ is), played-last)
@@ -166,7 +133,7 @@ module _ (b : Built) (parent : Option ℕ) (played : Option Move) where
 
     pub main-root : parent ≡ None → IsMainEnd (tree_so_far (with_node b parent played)) 1
     main-root is =
-        let none = ap length (next_parent-none b parent next is) in
+        let none = may_have-none (parent_of (tree_so_far b)) (length b.nodes) parent next is in
         record {
           within = omega (arith, node_count-more);
           some = λ s. omega arith;
@@ -193,7 +160,7 @@ module _ (b : Built) (parent : Option ℕ) (played : Option Move) where
       -- it does not
       pub main-same : (m + 1 ≡ length b.nodes → main ≢ length b.nodes) → IsMainEnd (tree_so_far (with_node b parent played)) main
       main-same others =
-          let some_before = (next_parent-some b parent m next is).0 in
+          let some_before : 1 ≤ length b.nodes = omega (arith, may_have-some (parent_of (tree_so_far b)) (length b.nodes) parent m next is) in
           record {
             within = omega (arith, node_count-more, end.within);
             some = λ s. end.some some_before;

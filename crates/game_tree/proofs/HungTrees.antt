@@ -1,6 +1,6 @@
 -- Raw nodes hang below each other as the nodes of a tree do.
 use Prim.Native.Nat.{zero}
-use Rattle.std.proofs.Common.{◌≡◌, ℕ, ◌+◌, ◌-◌, ◌<◌, ◌≤◌, suc, ltb, Bool, true, false, cond, List, [], ◌∷◌, length, take, get_or, Option, Some, None, All, refl, sym, ◌∙◌, ap, subst, arith, inl, inr}
+use Rattle.std.proofs.Common.{◌≡◌, ℕ, ◌+◌, ◌-◌, ◌<◌, ◌≤◌, suc, ltb, Bool, true, false, cond, List, [], ◌∷◌, length, take, get_or, Option, Some, None, All, sym, ◌∙◌, ap, subst, arith, inl, inr}
 use Rattle.std.specs.Prelude.{count_by}
 use Rattle.std.proofs.Math.ListN.{get_or-map}
 use Rattle.std.proofs.lemmas.Bool.{cases_eq, cases_lt, le-ltb}
@@ -8,16 +8,19 @@ use Rattle.std.proofs.lemmas.List.{get_or-take, length-map, length-take-le}
 use Rattle.std.proofs.lemmas.List.Elements.{All-head}
 use Rattle.std.proofs.lemmas.List.Sums.{sum_by-cons}
 use Rattle.std.proofs.lemmas.Option.{same_Some}
+use Rattle.node_paths.specs.Parents.{IsOnPathTo, MayHaveParent, higher, itself}
+use Rattle.node_paths.specs.Paths.{path_to}
+use Rattle.node_paths.proofs.Ancestors.{cases_Option, parent-lt}
+use Rattle.node_paths.proofs.PathLists.{path_to-parent, path_to-root}
 use Rattle.sgf_reader.specs.declared.collection.RawGame.{RawGame}
 use Rattle.sgf_reader.proofs.NodeParents.{AreHung, IsAncestor, IsHung, further}
 use Rattle.sgf_reader.proofs.NodeParents as hangs
 use Rattle.game_tree.specs.Built.{Built, IsGrown, IsNextParent, tree_so_far}
-use Rattle.game_tree.specs.Tree.{Node, Tree, IsAbove, itself, higher, node_count, parent_of, children_of, path_to, branchings_to, first_child_of, next_sibling_of}
+use Rattle.game_tree.specs.Tree.{Node, Tree, node_count, parent_of, children_of, branchings_to, first_child_of, next_sibling_of}
 use Rattle.game_tree.specs.Stored.{siblings_from}
-use Rattle.game_tree.proofs.Paths.{path_to-parent, path_to-root}
 use Rattle.game_tree.proofs.ReadCollections.{GameIsRead}
 use Rattle.game_tree.specs.RawGames.{node_parents, raw_parents}
-use Rattle.game_tree.proofs.Trees.{cases_Option, children-each, first_child-found, next_sibling-none, parent-in_range, parent-lt, siblings_from-first, siblings_from-next}
+use Rattle.game_tree.proofs.Trees.{children-each, first_child-found, next_sibling-none, parent-in_range, siblings_from-first, siblings_from-next}
 
 -- the parents of a tree's nodes, one by one
 pub parent-by : (tree : Tree) (n : ℕ) → parent_of tree n ≡ get_or (node_parents tree.nodes) n None
@@ -34,28 +37,27 @@ module _ (parents : List (Option ℕ)) (depths : List ℕ) (hung : AreHung paren
       let own = hung.others (suc n) (omega arith) below in
       omega (arith, same_Some own.0 p (sym own.1 ∙ e), own.2.earlier)
 
-  -- an ancestor among the raw nodes is one in the tree of the first of them
-  pub above-hung : (tree : Tree) (k : ℕ) → k ≤ length parents →
-      ((n : ℕ) → n < k → parent_of tree n ≡ get_or parents n None) → (m n : ℕ) → n < k →
-      IsAncestor parents m n → IsAbove tree m n
-  above-hung tree k most agree m n below hangs.itself = itself
-  above-hung tree k most agree m n below (further {p = p} e above) =
-      higher (agree n below ∙ e) (above-hung tree k most agree m p (omega (arith, raw-parent-lt n p (omega arith) e)) above)
+  -- nodes below a number whose parents are those of the raw nodes: what is an ancestor there is one here
+  above-hung : (parent : ℕ → Option ℕ) (k : ℕ) → k ≤ length parents →
+      ((n : ℕ) → n < k → parent n ≡ get_or parents n None) → (m n : ℕ) → n < k →
+      IsAncestor parents m n → IsOnPathTo parent m n
+  above-hung parent k most agree m n below hangs.itself = itself
+  above-hung parent k most agree m n below (further {p = p} e above) =
+      higher (agree n below ∙ e) (above-hung parent k most agree m p (omega (arith, raw-parent-lt n p (omega arith) e)) above)
 
-  next-hung : (b : Built) → length b.nodes < length parents → ((n : ℕ) → n < length b.nodes → parent_of (tree_so_far b) n ≡ get_or parents n None) → IsNextParent b (get_or parents (length b.nodes) None)
-  next-hung b more agree =
-      elim (cases_eq (length b.nodes) 0) [
+  -- the next one may have the parent that the raw node has
+  pub may-hung : (parent : ℕ → Option ℕ) (k : ℕ) → k < length parents →
+      ((n : ℕ) → n < k → parent n ≡ get_or parents n None) → MayHaveParent parent k (get_or parents k None)
+  may-hung parent k more agree =
+      elim (cases_eq k 0) [
         | inl none ↦
-            let root : get_or parents (length b.nodes) None ≡ None = ap (λ (i : ℕ). get_or parents i None) none ∙ hung.root_parent in
-            subst (IsNextParent b) (sym root) (no_nodes b.nodes none)
+            let root : get_or parents k None ≡ None = ap (λ (i : ℕ). get_or parents i None) none ∙ hung.root_parent in
+            subst (λ (o : Option ℕ). MayHaveParent parent k o) (sym root) none
         | inr some ↦
-            let own = hung.others (length b.nodes) (omega arith) more in
-            subst (IsNextParent b) (sym own.1) (omega arith, own.2.earlier, above-hung (tree_so_far b) (length b.nodes) (omega arith) agree own.0 (length b.nodes - 1) (omega arith) own.2.ancestor)
+            let own = hung.others k (omega arith) more in
+            subst (λ (o : Option ℕ). MayHaveParent parent k o) (sym own.1)
+            (own.2.earlier, above-hung parent k (omega arith) agree own.0 (k - 1) (omega arith) own.2.ancestor)
       ]
-    where
-      no_nodes : (nodes : List Node) → length nodes ≡ 0 → nodes ≡ []
-      no_nodes [] none = refl
-      no_nodes (node ∷ nodes) none = absurd (omega arith)
 
 -- The next raw node's parent can come next.
 pub next_parent : (end : ℕ) (raw : RawGame) → GameIsRead end raw → (b : Built) (k : ℕ) → k < length raw.nodes → node_parents b.nodes ≡ take k (raw_parents raw.nodes) → IsNextParent b (get_or (raw_parents raw.nodes) k None)
@@ -63,7 +65,7 @@ next_parent end raw read b k more first =
     let all : length (raw_parents raw.nodes) ≡ length raw.nodes = length-map raw.nodes _ in
     let count : length b.nodes ≡ k = sym (length-map b.nodes _) ∙ ap length first ∙ length-take-le k (raw_parents raw.nodes) (omega arith) in
     subst (λ (i : ℕ). IsNextParent b (get_or (raw_parents raw.nodes) i None)) count
-    (next-hung (raw_parents raw.nodes) read.depths read.hung b (omega arith)
+    (may-hung (raw_parents raw.nodes) read.depths read.hung (parent_of (tree_so_far b)) (length b.nodes) (omega arith)
     (λ n below. parent-by (tree_so_far b) n ∙ ap (λ parents. get_or parents n None) first ∙ get_or-take k (raw_parents raw.nodes) n None (omega arith)))
 
 -- ---- brackets
@@ -98,19 +100,19 @@ module _ (tree : Tree) (grown : IsGrown tree) where
 
   branchings_to-parent : (n m : ℕ) → parent_of tree n ≡ Some m → branchings_to tree n ≡ branches n + branchings_to tree m
   branchings_to-parent n m e =
-      ap (count_by (λ k. ltb 1 (length (children_of tree k)))) (path_to-parent tree grown n m e)
-      ∙ sum_by-cons (λ k. cond (ltb 1 (length (children_of tree k))) 1 0) n (path_to tree m)
+      ap (count_by (λ k. ltb 1 (length (children_of tree k)))) (path_to-parent grown.parents n m e)
+      ∙ sum_by-cons (λ k. cond (ltb 1 (length (children_of tree k))) 1 0) n (path_to (parent_of tree) m)
 
   branchings_to-root : (n : ℕ) → parent_of tree n ≡ None → branchings_to tree n ≡ branches n
   branchings_to-root n e =
-      ap (count_by (λ k. ltb 1 (length (children_of tree k)))) (path_to-root tree grown n e)
+      ap (count_by (λ k. ltb 1 (length (children_of tree k)))) (path_to-root grown.parents n e)
       ∙ sum_by-cons (λ k. cond (ltb 1 (length (children_of tree k))) 1 0) n []
       ∙ omega arith
 
   module _ (parents : List (Option ℕ)) (depths : List ℕ) (hung : AreHung parents depths) (agree : (n : ℕ) → parent_of tree n ≡ get_or parents n None) (as_many : node_count tree ≡ length parents) where
     hung-by : (n m : ℕ) → parent_of tree n ≡ Some m → IsHung parents depths n m
     hung-by n m e =
-        let own = hung.others n (omega (arith, parent-lt tree grown n m e)) (omega (arith, parent-in_range tree n m e)) in
+        let own = hung.others n (omega (arith, parent-lt grown.parents n m e)) (omega (arith, parent-in_range tree n m e)) in
         subst (λ (i : ℕ). IsHung parents depths n i) (same_Some own.0 m (sym own.1 ∙ sym (agree n) ∙ e)) own.2
 
     -- a child is as deep as its parent only where it is the only one
@@ -134,7 +136,7 @@ module _ (tree : Tree) (grown : IsGrown tree) where
                     let none : None ≡ Some own.0 = sym e ∙ agree n ∙ own.1 in absurd (cc)
               ]
           | inr p ↦
-              let before = parent-lt tree grown n p.0 p.1 in
+              let before = parent-lt grown.parents n p.0 p.1 in
               let above = branchings-within most p.0 (omega arith) (omega arith) in
               omega (arith, branchings_to-parent n p.0 p.1, above, branch-deeper n p.0 p.1)
         ]

@@ -2,11 +2,12 @@
 use Prim.Native.Nat.{zero}
 use Rattle.std.proofs.Common.{◌≡◌, ℕ, ◌+◌, ◌-◌, ◌<◌, ◌≤◌, ◌↔◌, suc, Some, None, sym, ◌∙◌, ap, arith, inl, inr, add-one}
 use Rattle.std.proofs.lemmas.Bool.{cases_eq, cases_lt}
+use Rattle.node_paths.proofs.Ancestors.{cases_Option}
 use Rattle.game_tree.specs.Built.{IsGrown}
 use Rattle.game_tree.specs.MainLine.{IsOnMainLine}
 use Rattle.game_tree.specs.Tree.{Tree, node_count, parent_of}
 use Rattle.game_tree.specs.Stored.{IsMainEnd}
-use Rattle.game_tree.proofs.Trees.{cases_Option, parent-in_range, first_child-behind, first_child-found}
+use Rattle.game_tree.proofs.Trees.{parent-in_range, first_child-behind, first_child-found}
 
 module _ (tree : Tree) (grown : IsGrown tree) (main : ℕ) (is_end : IsMainEnd tree main) where
   on_main_line : (n : ℕ) → n < main → IsOnMainLine tree n

@@ -1,12 +1,13 @@
 -- The trees of a collection that was read are trees.
-use Rattle.std.proofs.Common.{◌≡◌, ◌∙◌, ℕ, ◌-◌, ◌<◌, ◌≤◌, List, [], ◌∷◌, All, Option, Some, None, IfSome, refl, sym, ap, arith, length, get_or}
+use Rattle.std.proofs.Common.{◌≡◌, ◌∙◌, ℕ, List, [], ◌∷◌, All, Option, Some, None, IfSome, refl, sym, ap, subst, arith, length, get_or}
 use Rattle.std.specs.List.{AllZip}
 use Rattle.std.proofs.lemmas.List.{length-map}
 use Rattle.std.proofs.lemmas.List.Elements.{All-cons, All-get_or, All-head, All-nil, All-tail}
+use Rattle.node_paths.specs.Parents.{AreParents, MayHaveParent}
 use Rattle.kb_geometry.specs.declared.shape.Point.{Point}
 use Rattle.kb_geometry.specs.declared.shape.Rect.{Rect}
 use Rattle.kb_geometry.specs.declared.shape.Shape.{Shape}
-use Rattle.kb_geometry.specs.Board.{IsOnBoard, IsRectOnBoard}
+use Rattle.kb_geometry.specs.Board.{IsOnBoard, IsOrderedRectOnBoard}
 use Rattle.sgf_reader.specs.declared.collection.Collection.{Collection}
 use Rattle.sgf_reader.specs.declared.collection.Pair.{Pair}
 use Rattle.sgf_reader.specs.declared.collection.RawGame.{RawGame}
@@ -18,13 +19,14 @@ use Rattle.game_tree.specs.Built.{IsGrown}
 use Rattle.game_tree.specs.Information.{HasSimpleTexts, Information}
 use Rattle.game_tree.specs.Property.{root_pairs}
 use Rattle.game_tree.specs.RawGames.{node_parents, raw_parents}
-use Rattle.game_tree.specs.Tree.{IsAbove, IsNodeOnBoard, IsTree, Node, Tree, node_count, parent_of}
+use Rattle.game_tree.specs.Tree.{IsNodeOnBoard, IsTree, Node, Tree, node_count, parent_of}
 use Rattle.game_tree.specs.Trees.{AreSetups, AreTreesOf, IsInformation, IsNodeOf, IsPlayedBy, IsTreeOf}
 use Rattle.game_tree.specs.Trees as told
 use Rattle.game_tree.specs.Value.{IsMoveText, IsPoint, IsSetupText, one_point, rect_of, rectangle}
-use Rattle.game_tree.proofs.HungTrees.{above-hung, few_branchings, parent-by}
+use Rattle.game_tree.proofs.HungTrees.{few_branchings, may-hung, parent-by}
 use Rattle.game_tree.proofs.Passes.{point_text_of}
 use Rattle.game_tree.proofs.ReadCollections.{GameIsRead, games-read}
+use Rattle.game_tree.proofs.Trees.{parent-past}
 use Rattle.game_tree.proofs.Values.{point_letters}
 use Rattle.game_tree.proofs.WholeGames.{simple-texts}
 
@@ -36,11 +38,11 @@ point-on_board shape text p at =
     let (column, row, is, x, y, on) = point_letters shape text p at in on
 
 corners-on_board : (shape : Shape) (p q : Point) → IsOnBoard shape p → IsOnBoard shape q →
-    IsRectOnBoard shape (rect_of p q)
+    IsOrderedRectOnBoard shape (rect_of p q)
 corners-on_board shape p q at_p at_q = (omega arith, omega arith, omega arith, omega arith)
 
 setup-on_board : (shape : Shape) (text : List ℕ) (r : Rect) → IsSetupText shape text (Some r) →
-    IsRectOnBoard shape r
+    IsOrderedRectOnBoard shape r
 setup-on_board shape text _ (one_point {p = p} at) =
     let on = point-on_board shape text p at in
     corners-on_board shape p p on on
@@ -57,13 +59,13 @@ move-on_board shape text (Some p) is = point-on_board shape text p (point_text_o
 
 module _ (text : List ℕ) (shape : Shape) where
   setups-on_board : (pairs : List Pair) (setups : List Setup) →
-      AreSetups text shape pairs setups → All (λ (s : Setup). IsRectOnBoard shape s.rect) setups
-  setups-on_board _ _ told.none = All-nil (λ (s : Setup). IsRectOnBoard shape s.rect)
+      AreSetups text shape pairs setups → All (λ (s : Setup). IsOrderedRectOnBoard shape s.rect) setups
+  setups-on_board _ _ told.none = All-nil (λ (s : Setup). IsOrderedRectOnBoard shape s.rect)
   setups-on_board _ setups (told.other {pairs = pairs} e rest) = setups-on_board pairs setups rest
   setups-on_board _ setups (told.ignored {pairs = pairs} cell e v rest) =
       setups-on_board pairs setups rest
   setups-on_board _ _ (told.set {pairs = pairs} {setups = setups} cell rect e (inner, _, is) rest) =
-      All-cons (λ (s : Setup). IsRectOnBoard shape s.rect) (record { cell = cell; rect = rect }) setups
+      All-cons (λ (s : Setup). IsOrderedRectOnBoard shape s.rect) (record { cell = cell; rect = rect }) setups
       (setup-on_board shape inner rect is) (setups-on_board pairs setups rest)
 
   played-on_board : (pairs : List Pair) (played : Option Move) →
@@ -126,20 +128,18 @@ module _ (end : ℕ) (raw : RawGame) (read : GameIsRead end raw) (tree : Tree)
   agree : (n : ℕ) → parent_of tree n ≡ get_or (raw_parents raw.nodes) n None
   agree n = parent-by tree n ∙ ap (λ parents. get_or parents n None) same
 
-  earlier-parents : (n : ℕ) → 1 ≤ n → n < node_count tree →
-      (m : ℕ) × (parent_of tree n ≡ Some m) × (m < n) × IsAbove tree m (n - 1)
-  earlier-parents n later below =
-      let own = read.hung.others n later (omega (arith, as_many)) in
-      let above =
-      above-hung (raw_parents raw.nodes) read.depths read.hung tree (node_count tree)
-      (omega (arith, as_many)) (λ k inside. agree k) own.0 (n - 1) (omega arith) own.2.ancestor in
-      (own.0, agree n ∙ own.1, own.2.earlier, above)
+  hung-parents : AreParents (parent_of tree) (node_count tree)
+  hung-parents = record {
+    each = λ n below.
+        subst (λ (o : Option ℕ). MayHaveParent (parent_of tree) n o) (sym (agree n))
+        (may-hung (raw_parents raw.nodes) read.depths read.hung (parent_of tree) n (omega (arith, as_many)) (λ k inside. agree k));
+    past = parent-past tree;
+  }
 
   hung-grown : All (IsNodeOnBoard tree.shape) tree.nodes → IsGrown tree
   hung-grown on = record {
     most = omega (arith, count, read.few);
-    root = agree 0 ∙ read.hung.root_parent;
-    parents = earlier-parents;
+    parents = hung-parents;
     on_board = λ n below. All-get_or (IsNodeOnBoard tree.shape) tree.nodes n _ below on;
   }
 
@@ -149,7 +149,6 @@ module _ (end : ℕ) (raw : RawGame) (read : GameIsRead end raw) (tree : Tree)
       record {
         some = omega (arith, count, read.some);
         most = grown.most;
-        root = grown.root;
         parents = grown.parents;
         on_board = grown.on_board;
         depth = few_branchings end raw read tree grown same;

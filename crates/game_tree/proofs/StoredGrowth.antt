@@ -10,28 +10,24 @@ use mir.Val.{bool_byte}
 use Rattle.std.specs.Prelude.{is_some, All, IfSome, map}
 use Rattle.std.specs.List.{range_with_len, between}
 use Rattle.std.specs.Option.{option_map_or}
+use Rattle.node_paths.specs.StoredNodes.{stored_parent}
+use Rattle.node_paths.proofs.Ancestors.{cases_Option, may_have-none, may_have-some}
+use Rattle.node_paths.proofs.StoredNodes.{AreParts-more, AreParts-same, map_same, part_start-same, part_start-within, stored_parent-suc, stored_parent-zero}
 use Rattle.kb_geometry.specs.declared.shape.Shape.{Shape}
 use Rattle.kb_geometry.specs.declared.shape.Point.{Point}
-use Rattle.kb_geometry.specs.Board.{IsOnBoard, IsRectOnBoard}
+use Rattle.kb_geometry.specs.Board.{IsOnBoard, IsOrderedRectOnBoard}
 use Rattle.game_tree.specs.declared.node.Move.{Move}
 use Rattle.game_tree.specs.declared.node.Setup.{Setup}
 use Rattle.game_tree.specs.declared.stored.TreeNode.{TreeNode}
 use Rattle.game_tree.specs.Built.{Built, IsGrown, IsNextParent, tree_of, tree_so_far, with_setup, with_node}
 use Rattle.game_tree.specs.Information.{Information, HasSimpleTexts}
 use Rattle.game_tree.specs.Tree.{IsTree, IsNodeOnBoard, node_count, parent_of, next_sibling_of, move_number_of, branchings_to}
-use Rattle.game_tree.specs.Stored.{node_in, setups_start, shown_parent, shown_node, shown_nodes, shown_built, or_zero, one_if, IsBeginning, IsMainEnd, AreEnds, AreLinks}
-use Rattle.game_tree.proofs.Growth.{next_parent-none, next_parent-some, IsGrown-more, sibling-new, sibling-last, siblings-first, siblings-other, moves-before, moves-last, moves-root}
-use Rattle.game_tree.proofs.Paths.{IsAbove-same, move_number-same}
+use Rattle.game_tree.specs.Stored.{tree_node, end_of_setups, setups_start, shown_node, shown_nodes, shown_built, or_zero, one_if, IsBeginning, IsMainEnd, AreSetupEnds, AreLinks}
+use Rattle.game_tree.proofs.Growth.{IsGrown-more, sibling-new, sibling-last, siblings-first, siblings-other, moves-before, moves-last, moves-root}
+use Rattle.game_tree.proofs.Paths.{move_number-same}
 use Rattle.game_tree.proofs.StoredTrees.{length-shown, node_read, bool_byte-one_if}
-use Rattle.game_tree.proofs.Trees.{cases_Option}
 
 -- ---- lists of nodes
-
-map_same : {X : Type 0} (f g : ℕ → X) (a n : ℕ) → ((k : ℕ) → a ≤ k → k < a + n → f k ≡ g k) → map f (range_with_len a n) ≡ map g (range_with_len a n)
-map_same f g a zero same = refl
-map_same f g a (suc n) same =
-    ap (λ y. y ∷ map f (range_with_len (a + 1) n)) (same a (omega arith) (omega arith))
-    ∙ ap (λ ys. g a ∷ ys) (map_same f g (a + 1) n (λ k low high. same k (omega arith) (omega arith)))
 
 -- two stored nodes differ at most in their next siblings and the moves above them
 pub record LooksSame (s t : TreeNode) : Type 0 where
@@ -42,35 +38,23 @@ pub record LooksSame (s t : TreeNode) : Type 0 where
 LooksSame-itself : (s t : TreeNode) → s ≡ t → LooksSame s t
 LooksSame-itself s t e = record { parent = ap (λ (x : TreeNode). x.parent) e; setups_end = ap (λ (x : TreeNode). x.setups_end) e; played = ap (λ (x : TreeNode). x.played) e }
 
-shown_node-same : (us ts : List TreeNode) (setups : List Setup) (n : ℕ) → ((k : ℕ) → k ≤ n → LooksSame (node_in us k) (node_in ts k)) → shown_node us setups n ≡ shown_node ts setups n
+shown_node-same : (us ts : List TreeNode) (setups : List Setup) (n : ℕ) → ((k : ℕ) → k ≤ n → LooksSame (tree_node us k) (tree_node ts k)) → shown_node us setups n ≡ shown_node ts setups n
 shown_node-same us ts setups zero same =
     let here = same 0 (omega arith) in
-    ap (λ e. record { parent = None; setups = between 0 e setups; played = (node_in us 0).played }) here.setups_end
-    ∙ ap (λ p. record { parent = None; setups = between 0 (node_in ts 0).setups_end setups; played = p }) here.played
+    ap (λ e. record { parent = None; setups = between 0 e setups; played = (tree_node us 0).played }) here.setups_end
+    ∙ ap (λ p. record { parent = None; setups = between 0 (tree_node ts 0).setups_end setups; played = p }) here.played
 shown_node-same us ts setups (suc n) same =
     let here = same (suc n) (omega arith) in
     let before = same n (omega arith) in
-    ap (λ m. record { parent = Some m; setups = between (node_in us n).setups_end (node_in us (suc n)).setups_end setups; played = (node_in us (suc n)).played }) here.parent
-    ∙ ap (λ s. record { parent = Some (node_in ts (suc n)).parent; setups = between s (node_in us (suc n)).setups_end setups; played = (node_in us (suc n)).played }) before.setups_end
-    ∙ ap (λ e. record { parent = Some (node_in ts (suc n)).parent; setups = between (node_in ts n).setups_end e setups; played = (node_in us (suc n)).played }) here.setups_end
-    ∙ ap (λ p. record { parent = Some (node_in ts (suc n)).parent; setups = between (node_in ts n).setups_end (node_in ts (suc n)).setups_end setups; played = p }) here.played
+    ap (λ m. record { parent = Some m; setups = between (tree_node us n).setups_end (tree_node us (suc n)).setups_end setups; played = (tree_node us (suc n)).played }) here.parent
+    ∙ ap (λ s. record { parent = Some (tree_node ts (suc n)).parent; setups = between s (tree_node us (suc n)).setups_end setups; played = (tree_node us (suc n)).played }) before.setups_end
+    ∙ ap (λ e. record { parent = Some (tree_node ts (suc n)).parent; setups = between (tree_node ts n).setups_end e setups; played = (tree_node us (suc n)).played }) here.setups_end
+    ∙ ap (λ p. record { parent = Some (tree_node ts (suc n)).parent; setups = between (tree_node ts n).setups_end (tree_node ts (suc n)).setups_end setups; played = p }) here.played
 
-setups_start-same : (us ts : List TreeNode) (n : ℕ) → ((k : ℕ) → k < n → LooksSame (node_in us k) (node_in ts k)) → setups_start us n ≡ setups_start ts n
-setups_start-same us ts zero same = refl
-setups_start-same us ts (suc n) same = (same n (omega arith)).setups_end
+setups_start-same : (us ts : List TreeNode) (n : ℕ) → ((k : ℕ) → k < n → LooksSame (tree_node us k) (tree_node ts k)) → setups_start us n ≡ setups_start ts n
+setups_start-same us ts n same = part_start-same (end_of_setups us) (end_of_setups ts) n (λ k low. (same k low).setups_end)
 
-shown_parent-zero : (ts : List TreeNode) (n : ℕ) → n ≡ 0 → shown_parent ts n ≡ None
-shown_parent-zero ts n e = ap (shown_parent ts) e
-
-shown_parent-suc : (ts : List TreeNode) (n : ℕ) → n ≢ 0 → shown_parent ts n ≡ Some (node_in ts n).parent
-shown_parent-suc ts zero ne = absurd (ne refl)
-shown_parent-suc ts (suc n) ne = refl
-
-module _ (ts : List TreeNode) (setups : List Setup) (ends : AreEnds ts setups) where
-  setups_start-within : (n : ℕ) → n ≤ length ts → setups_start ts n ≤ length setups
-  setups_start-within zero h = omega arith
-  setups_start-within (suc n) h = ends.ends n (omega arith)
-
+module _ (ts : List TreeNode) (setups : List Setup) (ends : AreSetupEnds ts setups) where
   -- ---- one setup more
 
   module _ (s : Setup) where
@@ -79,10 +63,10 @@ module _ (ts : List TreeNode) (setups : List Setup) (ends : AreEnds ts setups) w
         let start = ends.starts n h in
         let end = ends.ends n h in
         let dropped : drop (setups_start ts n) (setups ++ s ∷ []) ≡ drop (setups_start ts n) setups ++ s ∷ [] = drop-append-le (setups_start ts n) setups (s ∷ []) (omega (arith, start, end)) in
-        let taken : between (setups_start ts n) (node_in ts n).setups_end (setups ++ s ∷ []) ≡ between (setups_start ts n) (node_in ts n).setups_end setups =
-        ap (take ((node_in ts n).setups_end - setups_start ts n)) dropped
-        ∙ take-append-le ((node_in ts n).setups_end - setups_start ts n) (drop (setups_start ts n) setups) (s ∷ []) (omega (arith, length-drop (setups_start ts n) setups, start, end)) in
-        ap (λ ss. record { parent = shown_parent ts n; setups = ss; played = (node_in ts n).played }) taken
+        let taken : between (setups_start ts n) (tree_node ts n).setups_end (setups ++ s ∷ []) ≡ between (setups_start ts n) (tree_node ts n).setups_end setups =
+        ap (take ((tree_node ts n).setups_end - setups_start ts n)) dropped
+        ∙ take-append-le ((tree_node ts n).setups_end - setups_start ts n) (drop (setups_start ts n) setups) (s ∷ []) (omega (arith, length-drop (setups_start ts n) setups, start, end)) in
+        ap (λ ss. record { parent = stored_parent (λ (k : ℕ). (tree_node ts k).parent) n; setups = ss; played = (tree_node ts n).played }) taken
 
     shown_nodes-setup : shown_nodes ts (setups ++ s ∷ []) ≡ shown_nodes ts setups
     shown_nodes-setup = map_same (shown_node ts (setups ++ s ∷ [])) (shown_node ts setups) 0 (length ts) (λ k low high. shown_node-setup k (omega arith))
@@ -90,10 +74,10 @@ module _ (ts : List TreeNode) (setups : List Setup) (ends : AreEnds ts setups) w
     pub shown_built-setup : (shape : Shape) → shown_built shape ts (setups ++ s ∷ []) ≡ with_setup (shown_built shape ts setups) s
     shown_built-setup shape =
         ap (λ ns. record { shape = shape; nodes = ns; pending = drop (setups_start ts (length ts)) (setups ++ s ∷ []); setup_count = length (setups ++ s ∷ []) }) shown_nodes-setup
-        ∙ ap (λ ss. record { shape = shape; nodes = shown_nodes ts setups; pending = ss; setup_count = length (setups ++ s ∷ []) }) (drop-append-le (setups_start ts (length ts)) setups (s ∷ []) (setups_start-within (length ts) (omega arith)))
+        ∙ ap (λ ss. record { shape = shape; nodes = shown_nodes ts setups; pending = ss; setup_count = length (setups ++ s ∷ []) }) (drop-append-le (setups_start ts (length ts)) setups (s ∷ []) (part_start-within ends (length ts) (omega arith)))
         ∙ ap (λ k. record { shape = shape; nodes = shown_nodes ts setups; pending = drop (setups_start ts (length ts)) setups ++ s ∷ []; setup_count = k }) (length_push setups s)
 
-pub IsBeginning-setup : (shape : Shape) (ts : List TreeNode) (setups : List Setup) (main : ℕ) → IsBeginning shape ts setups main → (s : Setup) → length setups < 4294967295 → IsRectOnBoard shape s.rect → IsBeginning shape ts (setups ++ s ∷ []) main
+pub IsBeginning-setup : (shape : Shape) (ts : List TreeNode) (setups : List Setup) (main : ℕ) → IsBeginning shape ts setups main → (s : Setup) → length setups < 4294967295 → IsOrderedRectOnBoard shape s.rect → IsBeginning shape ts (setups ++ s ∷ []) main
 IsBeginning-setup shape ts setups main begun s room on =
     let view = shown_built-setup ts setups begun.ends s shape in
     record {
@@ -101,8 +85,8 @@ IsBeginning-setup shape ts setups main begun s room on =
       ends = record { starts = begun.ends.starts; ends = λ n h. omega (arith, begun.ends.ends n h, length_push setups s) };
       links = subst (λ (c : Built). AreLinks (tree_so_far c) ts main) (sym view) begun.links;
       pending =
-          subst (λ (ss : List Setup). All (λ (t : Setup). IsRectOnBoard shape t.rect) ss) (sym (drop-append-le (setups_start ts (length ts)) setups (s ∷ []) (setups_start-within ts setups begun.ends (length ts) (omega arith))))
-          (All-push (λ (t : Setup). IsRectOnBoard shape t.rect) (drop (setups_start ts (length ts)) setups) s begun.pending on);
+          subst (λ (ss : List Setup). All (λ (t : Setup). IsOrderedRectOnBoard shape t.rect) ss) (sym (drop-append-le (setups_start ts (length ts)) setups (s ∷ []) (part_start-within begun.ends (length ts) (omega arith))))
+          (All-push (λ (t : Setup). IsOrderedRectOnBoard shape t.rect) (drop (setups_start ts (length ts)) setups) s begun.pending on);
       room = omega (arith, length_push setups s);
     }
 
@@ -112,9 +96,7 @@ module _ (b : Built) (info : Information) (grown : IsGrown (tree_so_far b)) wher
   pub IsGrown-info : IsGrown (tree_of b info)
   IsGrown-info = record {
     most = grown.most;
-    root = grown.root;
-    parents = λ n low high. let p = grown.parents n low high in
-        (p.0, p.1, p.2, IsAbove-same (tree_so_far b) (tree_of b info) (node_count (tree_so_far b)) grown (λ k h. refl) p.3 (omega arith));
+    parents = grown.parents;
     on_board = grown.on_board;
   }
 
@@ -122,7 +104,6 @@ module _ (b : Built) (info : Information) (grown : IsGrown (tree_so_far b)) wher
   IsTree-info some depth texts = record {
     some = some;
     most = IsGrown-info.most;
-    root = IsGrown-info.root;
     parents = IsGrown-info.parents;
     on_board = IsGrown-info.on_board;
     depth = depth;
@@ -139,35 +120,35 @@ module _ (b : Built) (info : Information) (grown : IsGrown (tree_so_far b)) wher
 -- the moves above a child of a stored node
 pub moves_below : (shape : Shape) (ts : List TreeNode) (setups : List Setup) (main : ℕ) → IsBeginning shape ts setups main → (p k : ℕ) (t : TreeNode) (one : ℕ) → p < length ts → k ≡ p → t ≡ get_or ts k t → one ≡ bool_byte (is_some t.played) → t.moves_above + one ≡ move_number_of (tree_so_far (shown_built shape ts setups)) p
 moves_below shape ts setups main begun p k t one within here read own =
-    let node : t ≡ node_in ts p = node_read ts p t within (read ∙ ap (λ i. get_or ts i t) here) in
-    let plays : ◌≡◌ {A = ℕ} one (one_if (is_some (node_in ts p).played)) = own ∙ bool_byte-one_if (is_some t.played) ∙ ap (λ (u : TreeNode). one_if (is_some u.played)) node in
+    let node : t ≡ tree_node ts p = node_read ts p t within (read ∙ ap (λ i. get_or ts i t) here) in
+    let plays : ◌≡◌ {A = ℕ} one (one_if (is_some (tree_node ts p).played)) = own ∙ bool_byte-one_if (is_some t.played) ∙ ap (λ (u : TreeNode). one_if (is_some u.played)) node in
     omega (arith, ap (λ (u : TreeNode). u.moves_above) node, plays, begun.links.moves p within)
 
 -- ---- one node more
 
-module _ (shape : Shape) (ts : List TreeNode) (setups : List Setup) (x : TreeNode) (parent : Option ℕ) (next : IsNextParent (shown_built shape ts setups) parent) (same_parent : (m : ℕ) → parent ≡ Some m → x.parent ≡ m) (ending : x.setups_end ≡ length setups) (ends : AreEnds ts setups) where
-  node_in-before : (n : ℕ) → n < length ts → node_in (ts ++ x ∷ []) n ≡ node_in ts n
-  node_in-before n h = get_or_append_left ts (x ∷ []) _ n h
+module _ (shape : Shape) (ts : List TreeNode) (setups : List Setup) (x : TreeNode) (parent : Option ℕ) (next : IsNextParent (shown_built shape ts setups) parent) (same_parent : (m : ℕ) → parent ≡ Some m → x.parent ≡ m) (ending : x.setups_end ≡ length setups) (ends : AreSetupEnds ts setups) where
+  tree_node-before : (n : ℕ) → n < length ts → tree_node (ts ++ x ∷ []) n ≡ tree_node ts n
+  tree_node-before n h = get_or_append_left ts (x ∷ []) _ n h
 
-  node_in-last : node_in (ts ++ x ∷ []) (length ts) ≡ x
-  node_in-last = get_or_push ts x _ (length ts) refl
+  tree_node-last : tree_node (ts ++ x ∷ []) (length ts) ≡ x
+  tree_node-last = get_or_push ts x _ (length ts) refl
 
-  looks_before : (n : ℕ) → n < length ts → LooksSame (node_in (ts ++ x ∷ []) n) (node_in ts n)
-  looks_before n h = LooksSame-itself _ _ (node_in-before n h)
+  looks_before : (n : ℕ) → n < length ts → LooksSame (tree_node (ts ++ x ∷ []) n) (tree_node ts n)
+  looks_before n h = LooksSame-itself _ _ (tree_node-before n h)
 
   count_nodes : length (shown_nodes ts setups) ≡ length ts
   count_nodes = length-shown ts setups
 
-  parent-push : shown_parent (ts ++ x ∷ []) (length ts) ≡ parent
+  parent-push : stored_parent (λ (k : ℕ). (tree_node (ts ++ x ∷ []) k).parent) (length ts) ≡ parent
   parent-push =
       elim (cases_Option parent) [
         | inl e ↦
-            let none : length ts ≡ 0 = sym count_nodes ∙ ap length (next_parent-none (shown_built shape ts setups) parent next e) in
-            shown_parent-zero (ts ++ x ∷ []) (length ts) none ∙ sym e
+            let none : length ts ≡ 0 = sym count_nodes ∙ may_have-none (parent_of (tree_so_far (shown_built shape ts setups))) (length (shown_nodes ts setups)) parent next e in
+            stored_parent-zero (λ (k : ℕ). (tree_node (ts ++ x ∷ []) k).parent) (length ts) none ∙ sym e
         | inr p ↦
-            let above = next_parent-some (shown_built shape ts setups) parent p.0 next p.1 in
-            shown_parent-suc (ts ++ x ∷ []) (length ts) (omega (arith, above.0, count_nodes))
-            ∙ ap (λ (t : TreeNode). Some t.parent) node_in-last
+            let above = may_have-some (parent_of (tree_so_far (shown_built shape ts setups))) (length (shown_nodes ts setups)) parent p.0 next p.1 in
+            stored_parent-suc (λ (k : ℕ). (tree_node (ts ++ x ∷ []) k).parent) (length ts) (omega (arith, above.0, count_nodes))
+            ∙ ap (λ (t : TreeNode). Some t.parent) tree_node-last
             ∙ ap (λ i. Some i) (same_parent p.0 p.1)
             ∙ sym p.1
       ]
@@ -175,13 +156,13 @@ module _ (shape : Shape) (ts : List TreeNode) (setups : List Setup) (x : TreeNod
   shown_node-push : shown_node (ts ++ x ∷ []) setups (length ts) ≡ record { parent = parent; setups = drop (setups_start ts (length ts)) setups; played = x.played }
   shown_node-push =
       let start = setups_start-same (ts ++ x ∷ []) ts (length ts) looks_before in
-      let end : (node_in (ts ++ x ∷ []) (length ts)).setups_end ≡ length setups = ap (λ (t : TreeNode). t.setups_end) node_in-last ∙ ending in
-      let plays = ap (λ (t : TreeNode). t.played) node_in-last in
-      let own : between (setups_start (ts ++ x ∷ []) (length ts)) (node_in (ts ++ x ∷ []) (length ts)).setups_end setups ≡ drop (setups_start ts (length ts)) setups =
-      ap (λ s. between s (node_in (ts ++ x ∷ []) (length ts)).setups_end setups) start
-      ∙ between_to_end setups (setups_start ts (length ts)) (node_in (ts ++ x ∷ []) (length ts)).setups_end (omega (arith, end)) in
-      ap (λ o. record { parent = o; setups = between (setups_start (ts ++ x ∷ []) (length ts)) (node_in (ts ++ x ∷ []) (length ts)).setups_end setups; played = (node_in (ts ++ x ∷ []) (length ts)).played }) parent-push
-      ∙ ap (λ ss. record { parent = parent; setups = ss; played = (node_in (ts ++ x ∷ []) (length ts)).played }) own
+      let end : (tree_node (ts ++ x ∷ []) (length ts)).setups_end ≡ length setups = ap (λ (t : TreeNode). t.setups_end) tree_node-last ∙ ending in
+      let plays = ap (λ (t : TreeNode). t.played) tree_node-last in
+      let own : between (setups_start (ts ++ x ∷ []) (length ts)) (tree_node (ts ++ x ∷ []) (length ts)).setups_end setups ≡ drop (setups_start ts (length ts)) setups =
+      ap (λ s. between s (tree_node (ts ++ x ∷ []) (length ts)).setups_end setups) start
+      ∙ between_to_end setups (setups_start ts (length ts)) (tree_node (ts ++ x ∷ []) (length ts)).setups_end (omega (arith, end)) in
+      ap (λ o. record { parent = o; setups = between (setups_start (ts ++ x ∷ []) (length ts)) (tree_node (ts ++ x ∷ []) (length ts)).setups_end setups; played = (tree_node (ts ++ x ∷ []) (length ts)).played }) parent-push
+      ∙ ap (λ ss. record { parent = parent; setups = ss; played = (tree_node (ts ++ x ∷ []) (length ts)).played }) own
       ∙ ap (λ p. record { parent = parent; setups = drop (setups_start ts (length ts)) setups; played = p }) plays
 
   shown_nodes-push : shown_nodes (ts ++ x ∷ []) setups ≡ shown_nodes ts setups ++ record { parent = parent; setups = drop (setups_start ts (length ts)) setups; played = x.played } ∷ []
@@ -195,7 +176,7 @@ module _ (shape : Shape) (ts : List TreeNode) (setups : List Setup) (x : TreeNod
   start-push : setups_start (ts ++ x ∷ []) (length (ts ++ x ∷ [])) ≡ length setups
   start-push =
       let count : length (ts ++ x ∷ []) ≡ suc (length ts) = omega (arith, length_push ts x) in
-      ap (setups_start (ts ++ x ∷ [])) count ∙ ap (λ (t : TreeNode). t.setups_end) node_in-last ∙ ending
+      ap (setups_start (ts ++ x ∷ [])) count ∙ ap (λ (t : TreeNode). t.setups_end) tree_node-last ∙ ending
 
   pub shown_built-push : shown_built shape (ts ++ x ∷ []) setups ≡ with_node (shown_built shape ts setups) parent x.played
   shown_built-push =
@@ -203,24 +184,10 @@ module _ (shape : Shape) (ts : List TreeNode) (setups : List Setup) (x : TreeNod
       ∙ ap (λ ss. record { shape = shape; nodes = shown_nodes ts setups ++ record { parent = parent; setups = drop (setups_start ts (length ts)) setups; played = x.played } ∷ []; pending = ss; setup_count = length setups })
       (drop_all (setups_start (ts ++ x ∷ []) (length (ts ++ x ∷ []))) setups (omega (arith, start-push)))
 
-  AreEnds-push : AreEnds (ts ++ x ∷ []) setups
-  AreEnds-push = record {
-    starts = λ n h. elim (cases_lt n (length ts)) [
-      | inl l ↦
-          omega (arith, setups_start-same (ts ++ x ∷ []) ts n (λ k low. looks_before k (omega arith)), ap (λ (t : TreeNode). t.setups_end) (node_in-before n l), ends.starts n l)
-      | inr l ↦
-          let here : length ts ≡ n = omega (arith, length_push ts x) in
-          let last : (node_in (ts ++ x ∷ []) n).setups_end ≡ length setups = sym (ap (λ i. (node_in (ts ++ x ∷ []) i).setups_end) here) ∙ ap (λ (t : TreeNode). t.setups_end) node_in-last ∙ ending in
-          omega (arith, last, setups_start-same (ts ++ x ∷ []) ts n (λ k low. looks_before k (omega arith)), setups_start-within ts setups ends n (omega arith))
-    ];
-    ends = λ n h. elim (cases_lt n (length ts)) [
-      | inl l ↦ omega (arith, ap (λ (t : TreeNode). t.setups_end) (node_in-before n l), ends.ends n l)
-      | inr l ↦
-          let here : length ts ≡ n = omega (arith, length_push ts x) in
-          let last : (node_in (ts ++ x ∷ []) n).setups_end ≡ length setups = sym (ap (λ i. (node_in (ts ++ x ∷ []) i).setups_end) here) ∙ ap (λ (t : TreeNode). t.setups_end) node_in-last ∙ ending in
-          omega (arith, last)
-    ];
-  }
+  AreSetupEnds-push : AreSetupEnds (ts ++ x ∷ []) setups
+  AreSetupEnds-push =
+      AreParts-more ends (end_of_setups (ts ++ x ∷ [])) (length (ts ++ x ∷ [])) (length setups) (length_push ts x) (omega arith)
+      (λ n h. (looks_before n h).setups_end) (ap (λ (t : TreeNode). t.setups_end) tree_node-last ∙ ending)
 
   -- ---- the links
 
@@ -245,27 +212,27 @@ module _ (shape : Shape) (ts : List TreeNode) (setups : List Setup) (x : TreeNod
               omega (arith, moves, above, moves-last (shown_built shape ts setups) parent x.played begun.grown next room_nodes node_on_board p.0 p.1)
         ]
 
-    moves-push : (n : ℕ) → n < length (ts ++ x ∷ []) → (node_in (ts ++ x ∷ []) n).moves_above + one_if (is_some (node_in (ts ++ x ∷ []) n).played) ≡ move_number_of (tree_so_far (with_node (shown_built shape ts setups) parent x.played)) n
+    moves-push : (n : ℕ) → n < length (ts ++ x ∷ []) → (tree_node (ts ++ x ∷ []) n).moves_above + one_if (is_some (tree_node (ts ++ x ∷ []) n).played) ≡ move_number_of (tree_so_far (with_node (shown_built shape ts setups) parent x.played)) n
     moves-push n h =
         elim (cases_lt n (length ts)) [
           | inl l ↦
-              ap (λ (t : TreeNode). t.moves_above + one_if (is_some t.played)) (node_in-before n l)
+              ap (λ (t : TreeNode). t.moves_above + one_if (is_some t.played)) (tree_node-before n l)
               ∙ begun.links.moves n l
               ∙ sym (moves-before (shown_built shape ts setups) parent x.played begun.grown next room_nodes node_on_board n (omega (arith, count_nodes)))
           | inr l ↦
               let here : length ts ≡ n = omega (arith, length_push ts x) in
               let shown : length (shown_nodes ts setups) ≡ n = omega (arith, here, count_nodes) in
-              sym (ap (λ i. (node_in (ts ++ x ∷ []) i).moves_above + one_if (is_some (node_in (ts ++ x ∷ []) i).played)) here)
-              ∙ ap (λ (t : TreeNode). t.moves_above + one_if (is_some t.played)) node_in-last
+              sym (ap (λ i. (tree_node (ts ++ x ∷ []) i).moves_above + one_if (is_some (tree_node (ts ++ x ∷ []) i).played)) here)
+              ∙ ap (λ (t : TreeNode). t.moves_above + one_if (is_some t.played)) tree_node-last
               ∙ number-last
               ∙ ap (move_number_of (tree_so_far (with_node (shown_built shape ts setups) parent x.played))) shown
         ]
 
-    sibling-push : (n : ℕ) → length ts ≡ n → (node_in (ts ++ x ∷ []) n).next_sibling ≡ or_zero (next_sibling_of (tree_so_far (with_node (shown_built shape ts setups) parent x.played)) n)
+    sibling-push : (n : ℕ) → length ts ≡ n → (tree_node (ts ++ x ∷ []) n).next_sibling ≡ or_zero (next_sibling_of (tree_so_far (with_node (shown_built shape ts setups) parent x.played)) n)
     sibling-push n here =
         let shown : length (shown_nodes ts setups) ≡ n = omega (arith, here, count_nodes) in
-        sym (ap (λ i. (node_in (ts ++ x ∷ []) i).next_sibling) here)
-        ∙ ap (λ (t : TreeNode). t.next_sibling) node_in-last
+        sym (ap (λ i. (tree_node (ts ++ x ∷ []) i).next_sibling) here)
+        ∙ ap (λ (t : TreeNode). t.next_sibling) tree_node-last
         ∙ no_next
         ∙ sym (ap or_zero (sym (ap (next_sibling_of (tree_so_far (with_node (shown_built shape ts setups) parent x.played))) shown) ∙ sibling-last (shown_built shape ts setups) parent x.played begun.grown next))
 
@@ -273,11 +240,11 @@ module _ (shape : Shape) (ts : List TreeNode) (setups : List Setup) (x : TreeNod
     pub IsBeginning-first : ((m : ℕ) → parent ≡ Some m → m + 1 ≡ length ts) → (main_after : ℕ) → IsMainEnd (tree_so_far (with_node (shown_built shape ts setups) parent x.played)) main_after → IsBeginning shape (ts ++ x ∷ []) setups main_after
     IsBeginning-first behind main_after end = record {
       grown = subst (λ (c : Built). IsGrown (tree_so_far c)) (sym shown_built-push) grown-push;
-      ends = AreEnds-push;
+      ends = AreSetupEnds-push;
       links = subst (λ (c : Built). AreLinks (tree_so_far c) (ts ++ x ∷ []) main_after) (sym shown_built-push) (record {
         siblings = λ n h. elim (cases_lt n (length ts)) [
           | inl l ↦
-              ap (λ (t : TreeNode). t.next_sibling) (node_in-before n l)
+              ap (λ (t : TreeNode). t.next_sibling) (tree_node-before n l)
               ∙ begun.links.siblings n l
               ∙ sym (ap or_zero (siblings-first (shown_built shape ts setups) parent x.played begun.grown next (λ m e. behind m e ∙ sym count_nodes) n (omega (arith, count_nodes))))
           | inr l ↦ sibling-push n (omega (arith, length_push ts x))
@@ -285,23 +252,23 @@ module _ (shape : Shape) (ts : List TreeNode) (setups : List Setup) (x : TreeNod
         moves = moves-push;
         main_end = end;
       });
-      pending = subst (λ (c : Built). All (λ (s : Setup). IsRectOnBoard c.shape s.rect) c.pending) (sym shown_built-push) (All-nil (λ (s : Setup). IsRectOnBoard shape s.rect));
+      pending = subst (λ (c : Built). All (λ (s : Setup). IsOrderedRectOnBoard c.shape s.rect) c.pending) (sym shown_built-push) (All-nil (λ (s : Setup). IsOrderedRectOnBoard shape s.rect));
       room = begun.room;
     }
 
     -- it stands behind the last child c of its parent, which gets it as its next sibling
-    module _ (c m : ℕ) (within : c < length ts) (is : parent ≡ Some m) (below : parent_of (tree_so_far (shown_built shape ts setups)) c ≡ Some m) (last : next_sibling_of (tree_so_far (shown_built shape ts setups)) c ≡ None) (y : TreeNode) (looks : LooksSame y (node_in (ts ++ x ∷ []) c)) (above : y.moves_above ≡ (node_in (ts ++ x ∷ []) c).moves_above) (sibling : y.next_sibling ≡ length ts) where
-      node_in-c : node_in (set (ts ++ x ∷ []) c y) c ≡ y
-      node_in-c = get_or-set_same (ts ++ x ∷ []) c y _ (omega (arith, length_push ts x))
+    module _ (c m : ℕ) (within : c < length ts) (is : parent ≡ Some m) (below : parent_of (tree_so_far (shown_built shape ts setups)) c ≡ Some m) (last : next_sibling_of (tree_so_far (shown_built shape ts setups)) c ≡ None) (y : TreeNode) (looks : LooksSame y (tree_node (ts ++ x ∷ []) c)) (above : y.moves_above ≡ (tree_node (ts ++ x ∷ []) c).moves_above) (sibling : y.next_sibling ≡ length ts) where
+      tree_node-c : tree_node (set (ts ++ x ∷ []) c y) c ≡ y
+      tree_node-c = get_or-set_same (ts ++ x ∷ []) c y _ (omega (arith, length_push ts x))
 
-      node_in-other : (n : ℕ) → n ≢ c → node_in (set (ts ++ x ∷ []) c y) n ≡ node_in (ts ++ x ∷ []) n
-      node_in-other n ne = get_or-set_other (ts ++ x ∷ []) c n y _ ne
+      tree_node-other : (n : ℕ) → n ≢ c → tree_node (set (ts ++ x ∷ []) c y) n ≡ tree_node (ts ++ x ∷ []) n
+      tree_node-other n ne = get_or-set_other (ts ++ x ∷ []) c n y _ ne
 
-      looks_set : (n : ℕ) → LooksSame (node_in (set (ts ++ x ∷ []) c y) n) (node_in (ts ++ x ∷ []) n)
+      looks_set : (n : ℕ) → LooksSame (tree_node (set (ts ++ x ∷ []) c y) n) (tree_node (ts ++ x ∷ []) n)
       looks_set n =
           elim (cases_eq n c) [
-            | inl e ↦ subst (λ (i : ℕ). LooksSame (node_in (set (ts ++ x ∷ []) c y) i) (node_in (ts ++ x ∷ []) i)) (sym e) (subst (λ (t : TreeNode). LooksSame t (node_in (ts ++ x ∷ []) c)) (sym node_in-c) looks)
-            | inr ne ↦ LooksSame-itself _ _ (node_in-other n ne)
+            | inl e ↦ subst (λ (i : ℕ). LooksSame (tree_node (set (ts ++ x ∷ []) c y) i) (tree_node (ts ++ x ∷ []) i)) (sym e) (subst (λ (t : TreeNode). LooksSame t (tree_node (ts ++ x ∷ []) c)) (sym tree_node-c) looks)
+            | inr ne ↦ LooksSame-itself _ _ (tree_node-other n ne)
           ]
 
       count_set : length (set (ts ++ x ∷ []) c y) ≡ length (ts ++ x ∷ [])
@@ -316,53 +283,52 @@ module _ (shape : Shape) (ts : List TreeNode) (setups : List Setup) (x : TreeNod
           (setups_start-same (set (ts ++ x ∷ []) c y) (ts ++ x ∷ []) (length (ts ++ x ∷ [])) (λ j l. looks_set j))
           ∙ shown_built-push
 
-      AreEnds-set : AreEnds (set (ts ++ x ∷ []) c y) setups
-      AreEnds-set = record {
-        starts = λ n h. omega (arith, setups_start-same (set (ts ++ x ∷ []) c y) (ts ++ x ∷ []) n (λ j l. looks_set j), (looks_set n).setups_end, AreEnds-push.starts n (omega (arith, count_set)));
-        ends = λ n h. omega (arith, (looks_set n).setups_end, AreEnds-push.ends n (omega (arith, count_set)));
-      }
+      AreSetupEnds-set : AreSetupEnds (set (ts ++ x ∷ []) c y) setups
+      AreSetupEnds-set =
+          AreParts-same AreSetupEnds-push (end_of_setups (set (ts ++ x ∷ []) c y)) (length (set (ts ++ x ∷ []) c y)) count_set
+          (λ n. (looks_set n).setups_end)
 
-      siblings-set : (n : ℕ) → n < length (set (ts ++ x ∷ []) c y) → (node_in (set (ts ++ x ∷ []) c y) n).next_sibling ≡ or_zero (next_sibling_of (tree_so_far (with_node (shown_built shape ts setups) parent x.played)) n)
+      siblings-set : (n : ℕ) → n < length (set (ts ++ x ∷ []) c y) → (tree_node (set (ts ++ x ∷ []) c y) n).next_sibling ≡ or_zero (next_sibling_of (tree_so_far (with_node (shown_built shape ts setups) parent x.played)) n)
       siblings-set n h =
           elim (cases_eq n c) [
             | inl e ↦
-                ap (λ i. (node_in (set (ts ++ x ∷ []) c y) i).next_sibling) e
-                ∙ ap (λ (t : TreeNode). t.next_sibling) node_in-c
+                ap (λ i. (tree_node (set (ts ++ x ∷ []) c y) i).next_sibling) e
+                ∙ ap (λ (t : TreeNode). t.next_sibling) tree_node-c
                 ∙ sibling
                 ∙ sym count_nodes
                 ∙ sym (ap or_zero (ap (next_sibling_of (tree_so_far (with_node (shown_built shape ts setups) parent x.played))) e ∙ sibling-new (shown_built shape ts setups) parent x.played begun.grown next c m (omega (arith, count_nodes)) below last is))
             | inr ne ↦
-                ap (λ (t : TreeNode). t.next_sibling) (node_in-other n ne)
+                ap (λ (t : TreeNode). t.next_sibling) (tree_node-other n ne)
                 ∙ elim (cases_lt n (length ts)) [
                   | inl l ↦
-                      ap (λ (t : TreeNode). t.next_sibling) (node_in-before n l)
+                      ap (λ (t : TreeNode). t.next_sibling) (tree_node-before n l)
                       ∙ begun.links.siblings n l
                       ∙ sym (ap or_zero (siblings-other (shown_built shape ts setups) parent x.played begun.grown next c m (omega (arith, count_nodes)) is below last n (omega (arith, count_nodes)) ne))
                   | inr l ↦ sibling-push n (omega (arith, length_push ts x, count_set))
                 ]
           ]
 
-      moves-set : (n : ℕ) → n < length (set (ts ++ x ∷ []) c y) → (node_in (set (ts ++ x ∷ []) c y) n).moves_above + one_if (is_some (node_in (set (ts ++ x ∷ []) c y) n).played) ≡ move_number_of (tree_so_far (with_node (shown_built shape ts setups) parent x.played)) n
+      moves-set : (n : ℕ) → n < length (set (ts ++ x ∷ []) c y) → (tree_node (set (ts ++ x ∷ []) c y) n).moves_above + one_if (is_some (tree_node (set (ts ++ x ∷ []) c y) n).played) ≡ move_number_of (tree_so_far (with_node (shown_built shape ts setups) parent x.played)) n
       moves-set n h =
           elim (cases_eq n c) [
             | inl e ↦
                 let old = moves-push n (omega (arith, count_set)) in
-                ap (λ i. (node_in (set (ts ++ x ∷ []) c y) i).moves_above + one_if (is_some (node_in (set (ts ++ x ∷ []) c y) i).played)) e
-                ∙ ap (λ (t : TreeNode). t.moves_above + one_if (is_some t.played)) node_in-c
+                ap (λ i. (tree_node (set (ts ++ x ∷ []) c y) i).moves_above + one_if (is_some (tree_node (set (ts ++ x ∷ []) c y) i).played)) e
+                ∙ ap (λ (t : TreeNode). t.moves_above + one_if (is_some t.played)) tree_node-c
                 ∙ ap (λ k. k + one_if (is_some y.played)) above
-                ∙ ap (λ o. (node_in (ts ++ x ∷ []) c).moves_above + one_if (is_some o)) looks.played
-                ∙ sym (ap (λ i. (node_in (ts ++ x ∷ []) i).moves_above + one_if (is_some (node_in (ts ++ x ∷ []) i).played)) e)
+                ∙ ap (λ o. (tree_node (ts ++ x ∷ []) c).moves_above + one_if (is_some o)) looks.played
+                ∙ sym (ap (λ i. (tree_node (ts ++ x ∷ []) i).moves_above + one_if (is_some (tree_node (ts ++ x ∷ []) i).played)) e)
                 ∙ old
             | inr ne ↦
-                ap (λ (t : TreeNode). t.moves_above + one_if (is_some t.played)) (node_in-other n ne)
+                ap (λ (t : TreeNode). t.moves_above + one_if (is_some t.played)) (tree_node-other n ne)
                 ∙ moves-push n (omega (arith, count_set))
           ]
 
       pub IsBeginning-later : (main_after : ℕ) → IsMainEnd (tree_so_far (with_node (shown_built shape ts setups) parent x.played)) main_after → IsBeginning shape (set (ts ++ x ∷ []) c y) setups main_after
       IsBeginning-later main_after end = record {
         grown = subst (λ (b : Built). IsGrown (tree_so_far b)) (sym shown_built-set) grown-push;
-        ends = AreEnds-set;
+        ends = AreSetupEnds-set;
         links = subst (λ (b : Built). AreLinks (tree_so_far b) (set (ts ++ x ∷ []) c y) main_after) (sym shown_built-set) (record { siblings = siblings-set; moves = moves-set; main_end = end });
-        pending = subst (λ (b : Built). All (λ (s : Setup). IsRectOnBoard b.shape s.rect) b.pending) (sym shown_built-set) (All-nil (λ (s : Setup). IsRectOnBoard shape s.rect));
+        pending = subst (λ (b : Built). All (λ (s : Setup). IsOrderedRectOnBoard b.shape s.rect) b.pending) (sym shown_built-set) (All-nil (λ (s : Setup). IsOrderedRectOnBoard shape s.rect));
         room = begun.room;
       }

@@ -1,36 +1,28 @@
 -- The order of a tree's nodes: ancestors, children and siblings by their numbers.
-use Prim.Native.Nat.{zero}
-use Rattle.std.proofs.Common.{◌≡◌, ◌≢◌, ℕ, ◌+◌, ◌-◌, ◌<◌, ◌≤◌, ◌⊎◌, suc, eqb, ltb, Bool, true, false, [], ◌∷◌, Option, Some, None, All, refl, sym, ◌∙◌, ap, subst, arith, inl, inr}
-use Rattle.std.proofs.lemmas.Bool.{cases_eq, cases_lt, eq-eqb, eqb-true, lt-ltb, ltb-true, and_from, and_parts, false_from_ne_true, both_ways}
+use Rattle.std.proofs.Common.{◌≡◌, ◌≢◌, ℕ, ◌+◌, ◌<◌, ◌≤◌, eqb, ltb, Bool, true, false, [], ◌∷◌, Option, Some, None, All, refl, sym, ◌∙◌, ap, arith, inl, inr}
+use Rattle.std.proofs.lemmas.Bool.{eq-eqb, eqb-true, lt-ltb, ltb-true, and_from, and_parts, false_from_ne_true, both_ways}
 use Rattle.std.proofs.lemmas.List.{get_or_past}
 use Rattle.std.proofs.lemmas.List.Elements.{filter_passes, All-weaker}
 use Rattle.std.proofs.lemmas.Option.{same_Some}
 use Rattle.std.specs.Prelude.{filter, option_and_then, ◌&&◌}
 use Rattle.std.specs.List.{range_with_len}
 use Rattle.std.specs.Option.{option_map_or}
+use Rattle.node_paths.proofs.Ancestors.{cases_Option, child_behind, in_range_from, parent-lt}
 use Rattle.game_tree.specs.Built.{IsGrown}
-use Rattle.game_tree.specs.Tree.{Tree, Node, IsTree, IsAbove, itself, higher, node_count, node_at, parent_of, is_child_of, children_of, first_number, first_child_of, next_sibling_of}
+use Rattle.game_tree.specs.Tree.{Tree, Node, IsTree, node_count, parent_of, is_child_of, children_of, first_number, first_child_of, next_sibling_of}
 use Rattle.game_tree.specs.Stored.{siblings_from}
 use Rattle.game_tree.proofs.Ranges.{first_number-is, first_number-found, first_number-missing, filter_none, filter-filter, IsAscending-range, first_and_later, filter-twice_later}
 
--- an option is None or Some
-pub cases_Option : (o : Option ℕ) → (o ≡ None) ⊎ ((m : ℕ) × (o ≡ Some m))
-cases_Option None = inl refl
-cases_Option (Some m) = inr (m, refl)
-
 pub IsGrown-tree : (tree : Tree) → IsTree tree → IsGrown tree
-IsGrown-tree tree t = record { most = t.most; root = t.root; parents = t.parents; on_board = t.on_board }
+IsGrown-tree tree t = record { most = t.most; parents = t.parents; on_board = t.on_board }
+
+-- behind the last node none has a parent
+pub parent-past : (tree : Tree) (n : ℕ) → node_count tree ≤ n → parent_of tree n ≡ None
+parent-past tree n h = ap (λ (d : Node). d.parent) (get_or_past tree.nodes n _ h)
 
 -- only nodes of the tree have a parent
 pub parent-in_range : (tree : Tree) (n m : ℕ) → parent_of tree n ≡ Some m → n < node_count tree
-parent-in_range tree n m e =
-    elim (cases_lt n (node_count tree)) [
-      | inl h ↦ h
-      | inr h ↦
-          let past : node_at tree n ≡ record { parent = None; setups = []; played = None } = get_or_past tree.nodes n _ h in
-          let none : None ≡ Some m = sym (ap (λ (d : Node). d.parent) past) ∙ e in
-          absurd cc
-    ]
+parent-in_range tree = in_range_from (parent_of tree) (node_count tree) (parent-past tree)
 
 -- ---- tests for children
 
@@ -50,78 +42,16 @@ is_child-false tree m n ne = false_from_ne_true (is_child_of tree m n) (λ e. ne
 pub not_child : (tree : Tree) (m n : ℕ) → is_child_of tree m n ≡ false → parent_of tree n ≢ Some m
 not_child tree m n f e = both_ways (is_child_of tree m n) f (is_child-true tree m n e)
 
--- ---- ancestors
-
-pub IsAbove-trans : (tree : Tree) {a b c : ℕ} → IsAbove tree a b → IsAbove tree b c → IsAbove tree a c
-IsAbove-trans tree up itself = up
-IsAbove-trans tree up (higher e above) = higher e (IsAbove-trans tree up above)
-
--- an ancestor of a node is above its parent
-pub IsAbove-step : (tree : Tree) {a n : ℕ} → IsAbove tree a n → a ≢ n → (m : ℕ) × (parent_of tree n ≡ Some m) × IsAbove tree a m
-IsAbove-step tree itself ne = absurd (ne refl)
-IsAbove-step tree (higher e above) ne = (_, e, above)
+-- ---- the first child
 
 module _ (tree : Tree) (grown : IsGrown tree) where
-  pub parent-lt : (n m : ℕ) → parent_of tree n ≡ Some m → m < n
-  parent-lt zero m e = let none : None ≡ Some m = sym grown.root ∙ e in absurd cc
-  parent-lt (suc n) m e =
-      let p = grown.parents (suc n) (omega arith) (parent-in_range tree (suc n) m e) in
-      let same : p.0 ≡ m = same_Some p.0 m (sym p.1 ∙ e) in
-      omega (arith, p.2)
-
-  -- a parent is the node before, or above it
-  pub parent-above : (n m : ℕ) → parent_of tree (suc n) ≡ Some m → IsAbove tree m n
-  parent-above n m e =
-      let p = grown.parents (suc n) (omega arith) (parent-in_range tree (suc n) m e) in
-      let same : p.0 ≡ m = same_Some p.0 m (sym p.1 ∙ e) in
-      let before : suc n - 1 ≡ n = omega arith in
-      subst (λ (i : ℕ). IsAbove tree i n) same (subst (λ (j : ℕ). IsAbove tree p.0 j) before p.3)
-
-  pub IsAbove-le : {a n : ℕ} → IsAbove tree a n → a ≤ n
-  IsAbove-le itself = omega arith
-  IsAbove-le (higher {a = a} {m = m} {n = n} e above) = omega (arith, parent-lt n m e, IsAbove-le above)
-
-  -- the nodes from a node to one below it are all below it
-  pub IsAbove-between : (a n j : ℕ) → IsAbove tree a n → a ≤ j → j ≤ n → IsAbove tree a j
-  IsAbove-between a zero j up low high =
-      let here : zero ≡ j = omega arith in subst (λ (i : ℕ). IsAbove tree a i) here up
-  IsAbove-between a (suc n) j up low high =
-      elim (cases_eq j (suc n)) [
-        | inl e ↦ subst (λ (i : ℕ). IsAbove tree a i) (sym e) up
-        | inr ne ↦
-            let p = IsAbove-step tree up (omega arith) in
-            IsAbove-between a n j (IsAbove-trans tree p.2 (parent-above n p.0 p.1)) low (omega arith)
-      ]
-
-  -- a child's subtree has no child of the same parent but itself
-  pub not_below_sibling : (m c j : ℕ) → parent_of tree c ≡ Some m → parent_of tree j ≡ Some m → IsAbove tree c j → c ≡ j
-  not_below_sibling m c j ec ej up =
-      elim (cases_eq c j) [
-        | inl e ↦ e
-        | inr ne ↦
-            let p = IsAbove-step tree up ne in
-            let same : p.0 ≡ m = same_Some p.0 m (sym p.1 ∙ ej) in
-            absurd (omega (arith, IsAbove-le p.2, parent-lt c m ec))
-      ]
-
-  -- ---- the first child
-
-  -- where a node has a child, the node behind it is one
-  pub child_behind : (n c : ℕ) → parent_of tree c ≡ Some n → parent_of tree (n + 1) ≡ Some n
-  child_behind n c e =
-      let later = parent-lt c n e in
-      let up : IsAbove tree n c = higher e itself in
-      let p = IsAbove-step tree (IsAbove-between n c (n + 1) up (omega arith) (omega arith)) (omega arith) in
-      let same : p.0 ≡ n = omega (arith, IsAbove-le p.2, parent-lt (n + 1) p.0 p.1) in
-      p.1 ∙ ap (λ i. Some i) same
-
   pub first_child-behind : (n : ℕ) → parent_of tree (n + 1) ≡ Some n → first_child_of tree n ≡ Some (n + 1)
   first_child-behind n e =
       first_number-is (is_child_of tree n) (n + 1) 0 (node_count tree) (omega arith) (omega (arith, parent-in_range tree (n + 1) n e)) (is_child-true tree n (n + 1) e)
-      (λ k low high. is_child-false tree n k (λ f. absurd (omega (arith, parent-lt k n f))))
+      (λ k low high. is_child-false tree n k (λ f. absurd (omega (arith, parent-lt grown.parents k n f))))
 
   pub children-none : (n : ℕ) → parent_of tree (n + 1) ≢ Some n → children_of tree n ≡ []
-  children-none n ne = filter_none (is_child_of tree n) 0 (node_count tree) (λ k low high. is_child-false tree n k (λ f. ne (child_behind n k f)))
+  children-none n ne = filter_none (is_child_of tree n) 0 (node_count tree) (λ k low high. is_child-false tree n k (λ f. ne (child_behind grown.parents n k f)))
 
   pub first_child-none : (n : ℕ) → parent_of tree (n + 1) ≢ Some n → first_child_of tree n ≡ None
   first_child-none n ne = ap first_number (children-none n ne)
@@ -130,7 +60,7 @@ module _ (tree : Tree) (grown : IsGrown tree) where
   pub first_child-found : (n c : ℕ) → first_child_of tree n ≡ Some c → (c ≡ n + 1) × (parent_of tree (n + 1) ≡ Some n)
   first_child-found n c e =
       let f = first_number-found (is_child_of tree n) c 0 (node_count tree) e in
-      let behind = child_behind n c (is_child-found tree n c f.0) in
+      let behind = child_behind grown.parents n c (is_child-found tree n c f.0) in
       (same_Some c (n + 1) (sym e ∙ first_child-behind n behind), behind)
 
 -- ---- the list of children
@@ -143,7 +73,7 @@ children-each tree n =
 pub children-in_range : (tree : Tree) → IsGrown tree → (n : ℕ) → All (λ (c : ℕ). (n < c) × (c < node_count tree)) (children_of tree n)
 children-in_range tree grown n =
     All-weaker (λ (c : ℕ). parent_of tree c ≡ Some n) (λ (c : ℕ). (n < c) × (c < node_count tree))
-    (λ c e. (parent-lt tree grown c n e, parent-in_range tree c n e)) (children_of tree n) (children-each tree n)
+    (λ c e. (parent-lt grown.parents c n e, parent-in_range tree c n e)) (children_of tree n) (children-each tree n)
 
 -- ---- siblings
 

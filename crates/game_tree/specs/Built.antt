@@ -1,10 +1,11 @@
 -- A tree that is being built, node by node in order of the text.
-use Rattle.std.specs.Prelude.{◌≡◌, ℕ, ◌+◌, ◌-◌, ◌<◌, ◌≤◌, List, [], ◌∷◌, ◌++◌, length, Option, Some, None}
+use Rattle.std.specs.Prelude.{ℕ, ◌+◌, ◌<◌, ◌≤◌, List, [], ◌∷◌, ◌++◌, length, Option}
+use Rattle.node_paths.specs.Parents.{AreParents, MayHaveParent}
 use Rattle.kb_geometry.specs.declared.shape.Shape.{Shape}
 use Rattle.game_tree.specs.declared.node.Setup.{Setup}
 use Rattle.game_tree.specs.declared.node.Move.{Move}
 use Rattle.game_tree.specs.Information.{Information, no_information}
-use Rattle.game_tree.specs.Tree.{Tree, Node, IsAbove, IsNodeOnBoard, node_count, node_at, parent_of}
+use Rattle.game_tree.specs.Tree.{Tree, Node, IsNodeOnBoard, node_count, node_at, parent_of}
 
 -- the board, the nodes that were read, the setups so far of the node that is being read, and the number of all setups
 pub record Built : Type 0 where
@@ -43,19 +44,12 @@ tree_of b info = record { shape = b.shape; info = info; nodes = b.nodes }
 abbrev pub tree_so_far : Built → Tree
 tree_so_far b = tree_of b no_information
 
--- The node with this parent can come next: the first node has no parent, and each other one's is the node before it,
--- or an ancestor of that.
+-- the node with this parent can come next
 abbrev pub IsNextParent : Built → Option ℕ → Type 0
-IsNextParent b None = b.nodes ≡ []
-IsNextParent b (Some m) =
-    (1 ≤ length b.nodes) × (m < length b.nodes) × IsAbove (tree_so_far b) m (length b.nodes - 1)
+IsNextParent b parent = MayHaveParent (parent_of (tree_so_far b)) (length b.nodes) parent
 
 -- The nodes of the list make up a tree but for its bounds on brackets and its texts.
 pub record IsGrown (tree : Tree) : Type 0 where
   pub most : node_count tree ≤ 65536
-  pub root : parent_of tree 0 ≡ None
-  pub parents : (n : ℕ) →
-      1 ≤ n →
-      n < node_count tree →
-      (m : ℕ) × (parent_of tree n ≡ Some m) × (m < n) × IsAbove tree m (n - 1)
+  pub parents : AreParents (parent_of tree) (node_count tree)
   pub on_board : (n : ℕ) → n < node_count tree → IsNodeOnBoard tree.shape (node_at tree n)

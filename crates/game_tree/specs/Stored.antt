@@ -1,36 +1,36 @@
 -- How a tree is stored: words for the private functions of trees.
-use Prim.Native.Nat.{zero}
-use Rattle.std.specs.Prelude.{◌≡◌, ◌≢◌, ℕ, ◌+◌, ◌-◌, ◌<◌, ◌≤◌, suc, Bool, nat_lt, filter, List, [], ◌∷◌, length, map, drop, slice_index_or, Option, Some, None, All, is_some, if◌then◌else◌}
+use Rattle.std.specs.Prelude.{◌≡◌, ◌≢◌, ℕ, ◌+◌, ◌-◌, ◌<◌, ◌≤◌, Bool, nat_lt, filter, List, [], ◌∷◌, length, map, drop, slice_index_or, Option, Some, None, All, is_some, if◌then◌else◌}
 use Rattle.std.specs.List.{range_with_len, between}
 use Rattle.std.specs.Option.{option_map_or}
+use Rattle.node_paths.specs.StoredNodes.{AreParts, part_start, stored_parent}
 use Rattle.kb_geometry.specs.declared.shape.Shape.{Shape}
 use Rattle.game_tree.specs.declared.node.Setup.{Setup}
 use Rattle.game_tree.specs.declared.stored.TreeNode.{TreeNode}
 use Rattle.game_tree.specs.Built.{Built, IsGrown, tree_so_far}
 use Rattle.game_tree.specs.Information.{Information}
 use Rattle.game_tree.specs.Tree.{Tree, Node, IsTree, node_count, parent_of, children_of, next_sibling_of, move_number_of}
-use Rattle.kb_geometry.specs.Board.{IsRectOnBoard}
+use Rattle.kb_geometry.specs.Board.{IsOrderedRectOnBoard}
 
 -- the stored node with this number
-abbrev pub node_in : List TreeNode → ℕ → TreeNode
-node_in ts n = slice_index_or ts n (record { parent = 0; next_sibling = 0; moves_above = 0; setups_end = 0; played = None })
+abbrev pub tree_node : List TreeNode → ℕ → TreeNode
+tree_node ts n =
+    slice_index_or ts n
+    (record { parent = 0; next_sibling = 0; moves_above = 0; setups_end = 0; played = None })
+
+-- where the setups of a node end
+abbrev pub end_of_setups : List TreeNode → ℕ → ℕ
+end_of_setups ts n = (tree_node ts n).setups_end
 
 -- where the setups of a node begin: where those of the node before it end
 abbrev pub setups_start : List TreeNode → ℕ → ℕ
-setups_start ts zero = 0
-setups_start ts (suc n) = (node_in ts n).setups_end
-
--- the parent of a node, which the root does not have
-abbrev pub shown_parent : List TreeNode → ℕ → Option ℕ
-shown_parent ts zero = None
-shown_parent ts (suc n) = Some (node_in ts (suc n)).parent
+setups_start ts n = part_start (end_of_setups ts) n
 
 -- the node with this number
 abbrev pub shown_node : List TreeNode → List Setup → ℕ → Node
 shown_node ts setups n = record {
-  parent = shown_parent ts n;
-  setups = between (setups_start ts n) (node_in ts n).setups_end setups;
-  played = (node_in ts n).played;
+  parent = stored_parent (λ (k : ℕ). (tree_node ts k).parent) n;
+  setups = between (setups_start ts n) (end_of_setups ts n) setups;
+  played = (tree_node ts n).played;
 }
 
 -- the nodes
@@ -39,7 +39,11 @@ shown_nodes ts setups = map (shown_node ts setups) (range_with_len 0 (length ts)
 
 -- the tree
 abbrev pub shown_tree : Shape → Information → List TreeNode → List Setup → Tree
-shown_tree shape info ts setups = record { shape = shape; info = info; nodes = shown_nodes ts setups }
+shown_tree shape info ts setups = record {
+  shape = shape;
+  info = info;
+  nodes = shown_nodes ts setups;
+}
 
 -- what is being built: the setups behind those of the last node are those of the node that is being read
 abbrev pub shown_built : Shape → List TreeNode → List Setup → Built
@@ -65,31 +69,37 @@ pub record IsMainEnd (tree : Tree) (main : ℕ) : Type 0 where
   pub line : (n : ℕ) → n + 1 < main → parent_of tree (n + 1) ≡ Some n
   pub ended : main < node_count tree → parent_of tree main ≢ Some (main - 1)
 
--- the setups of each node end behind its start and within the list
-pub record AreEnds (ts : List TreeNode) (setups : List Setup) : Type 0 where
-  pub starts : (n : ℕ) → n < length ts → setups_start ts n ≤ (node_in ts n).setups_end
-  pub ends : (n : ℕ) → n < length ts → (node_in ts n).setups_end ≤ length setups
+-- the nodes' setups are parts of the list
+abbrev pub AreSetupEnds : List TreeNode → List Setup → Type 0
+AreSetupEnds ts setups = AreParts (end_of_setups ts) (length ts) (length setups)
 
 -- the stored numbers are those of the tree: the next siblings, the moves above each node, and the end of the main line
 pub record AreLinks (tree : Tree) (ts : List TreeNode) (main : ℕ) : Type 0 where
-  pub siblings : (n : ℕ) → n < length ts → (node_in ts n).next_sibling ≡ or_zero (next_sibling_of tree n)
+  pub siblings : (n : ℕ) →
+      n < length ts →
+      (tree_node ts n).next_sibling ≡ or_zero (next_sibling_of tree n)
   pub moves : (n : ℕ) →
       n < length ts →
-      (node_in ts n).moves_above + one_if (is_some (node_in ts n).played) ≡ move_number_of tree n
+      (tree_node ts n).moves_above + one_if (is_some (tree_node ts n).played)
+      ≡ move_number_of tree n
   pub main_end : IsMainEnd tree main
 
 -- a whole tree is stored
-pub record IsStored (shape : Shape) (info : Information) (ts : List TreeNode) (setups : List Setup) (main : ℕ) : Type 0 where
+pub record IsStored (shape : Shape) (info : Information) (ts : List TreeNode)
+    (setups : List Setup) (main : ℕ) : Type 0 where
   pub tree : IsTree (shown_tree shape info ts setups)
-  pub ends : AreEnds ts setups
+  pub ends : AreSetupEnds ts setups
   pub links : AreLinks (shown_tree shape info ts setups) ts main
 
 -- the beginning of a tree is stored, and perhaps setups of its next node
-pub record IsBeginning (shape : Shape) (ts : List TreeNode) (setups : List Setup) (main : ℕ) : Type 0 where
+pub record IsBeginning (shape : Shape) (ts : List TreeNode) (setups : List Setup)
+    (main : ℕ) : Type 0 where
   pub grown : IsGrown (tree_so_far (shown_built shape ts setups))
-  pub ends : AreEnds ts setups
+  pub ends : AreSetupEnds ts setups
   pub links : AreLinks (tree_so_far (shown_built shape ts setups)) ts main
-  pub pending : All (λ (s : Setup). IsRectOnBoard shape s.rect) (drop (setups_start ts (length ts)) setups)
+  pub pending :
+      All (λ (s : Setup). IsOrderedRectOnBoard shape s.rect)
+      (drop (setups_start ts (length ts)) setups)
   pub room : length setups < 4294967296
 
 -- a node, if there is one, and then the later children of its parent

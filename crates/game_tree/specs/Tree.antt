@@ -1,11 +1,12 @@
 -- A game tree: its nodes in order of the text, each with its parent, its setups and its move.
-use Prim.Native.Nat.{zero}
-use Rattle.std.specs.Prelude.{◌≡◌, ℕ, ◌+◌, ◌-◌, ◌<◌, ◌≤◌, suc, ◌==◌, nat_lt, Bool, false, List, length, slice_index_or, [], ◌∷◌, Option, Some, None, IfSome, All, filter, count_by, is_some, option_and_then}
+use Rattle.std.specs.Prelude.{ℕ, ◌<◌, ◌≤◌, ◌==◌, nat_lt, Bool, false, List, length, slice_index_or, [], ◌∷◌, Option, Some, None, IfSome, All, filter, count_by, is_some, option_and_then}
 use Rattle.std.specs.Option.{option_map_or}
 use Rattle.std.specs.List.{range_with_len}
+use Rattle.node_paths.specs.Parents.{AreParents}
+use Rattle.node_paths.specs.Paths.{path_to}
 use Rattle.kb_geometry.specs.declared.shape.Shape.{Shape}
 use Rattle.kb_geometry.specs.declared.shape.Point.{Point}
-use Rattle.kb_geometry.specs.Board.{IsOnBoard, IsRectOnBoard}
+use Rattle.kb_geometry.specs.Board.{IsOnBoard, IsOrderedRectOnBoard}
 use Rattle.game_tree.specs.declared.node.Setup.{Setup}
 use Rattle.game_tree.specs.declared.node.Move.{Move}
 use Rattle.game_tree.specs.Information.{Information, HasSimpleTexts}
@@ -32,14 +33,9 @@ node_at tree n = slice_index_or tree.nodes n (record { parent = None; setups = [
 abbrev pub parent_of : Tree → ℕ → Option ℕ
 parent_of tree n = (node_at tree n).parent
 
--- a is n or an ancestor of n
-pub data IsAbove (tree : Tree) : ℕ → ℕ → Type 0 where
-  itself : {n : ℕ} → IsAbove tree n n
-  higher : {a m n : ℕ} → parent_of tree n ≡ Some m → IsAbove tree a m → IsAbove tree a n
-
 -- what a node sets up and plays lies on the board
 pub record IsNodeOnBoard (shape : Shape) (node : Node) : Type 0 where
-  pub setups : All (λ (s : Setup). IsRectOnBoard shape s.rect) node.setups
+  pub setups : All (λ (s : Setup). IsOrderedRectOnBoard shape s.rect) node.setups
   pub played : IfSome node.played (λ (m : Move). IfSome m.point (λ (p : Point). IsOnBoard shape p))
 
 -- the node's parent is m
@@ -64,34 +60,23 @@ abbrev pub next_sibling_of : Tree → ℕ → Option ℕ
 next_sibling_of tree n =
     option_and_then (λ m. first_number (filter (nat_lt n) (children_of tree m))) (parent_of tree n)
 
--- the path from a node up to the root, the node itself first, of at most so many nodes
-abbrev pub path_within : Tree → ℕ → ℕ → List ℕ
-path_within tree zero n = []
-path_within tree (suc most) n = n ∷ option_map_or (path_within tree most) (parent_of tree n) []
-
--- the path from a node up to the root: a parent's number is less than its child's
-abbrev pub path_to : Tree → ℕ → List ℕ
-path_to tree n = path_within tree (n + 1) n
-
--- how many nodes on the path from the root to the node, both ends among them, have more than one child
+-- how many nodes on the path from the root to the node, both ends among them, have more than one
+-- child
 abbrev pub branchings_to : Tree → ℕ → ℕ
-branchings_to tree n = count_by (λ m. nat_lt 1 (length (children_of tree m))) (path_to tree n)
+branchings_to tree n =
+    count_by (λ m. nat_lt 1 (length (children_of tree m))) (path_to (parent_of tree) n)
 
 -- the number of moves and passes on the path from the root to the node, both ends among them
 abbrev pub move_number_of : Tree → ℕ → ℕ
-move_number_of tree n = count_by (λ m. is_some (node_at tree m).played) (path_to tree n)
+move_number_of tree n = count_by (λ m. is_some (node_at tree m).played) (path_to (parent_of tree) n)
 
--- There is a root, which has no parent. The parent of each other node is the node before it, or an ancestor of that.
--- Behind a node with more than one child each child's text stands in brackets, so of the brackets of the written text
--- at most 1,024 are open at one time, that of the whole tree among them.
+-- There is a root, and the parent of each other node is the node before it, or an ancestor of that.
+-- Behind a node with more than one child each child's text stands in brackets, so of the brackets of
+-- the written text at most 1,024 are open at one time, that of the whole tree among them.
 pub record IsTree (tree : Tree) : Type 0 where
   pub some : 1 ≤ node_count tree
   pub most : node_count tree ≤ 65536
-  pub root : parent_of tree 0 ≡ None
-  pub parents : (n : ℕ) →
-      1 ≤ n →
-      n < node_count tree →
-      (m : ℕ) × (parent_of tree n ≡ Some m) × (m < n) × IsAbove tree m (n - 1)
+  pub parents : AreParents (parent_of tree) (node_count tree)
   pub on_board : (n : ℕ) → n < node_count tree → IsNodeOnBoard tree.shape (node_at tree n)
   pub depth : (n : ℕ) → n < node_count tree → branchings_to tree n < 1024
   pub texts : HasSimpleTexts tree.info

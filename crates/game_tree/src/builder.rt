@@ -1,5 +1,5 @@
 // A tree that is built node by node.
-ghost use Rattle.std.specs.Prelude.{◌≡◌, ℕ, ◌+◌, ◌-◌, ◌<◌, ◌≤◌, List, [], length, IfOk, IfErr, IfSome};
+ghost use Rattle.std.specs.Prelude.{◌≡◌, ℕ, ◌+◌, ◌-◌, ◌<◌, ◌≤◌, List, length, IfOk, IfErr, IfSome};
 
 use crate::stored::TreeNode;
 use crate::{GameTree, Info, Move, Setup};
@@ -34,12 +34,12 @@ impl Model for TreeBuilder {
 
 impl TreeBuilder {
     ghost use Rattle.kb_geometry.specs.declared.shape.Point.{Point};
-    ghost use Rattle.kb_geometry.specs.Board.{IsOnBoard, IsRectOnBoard};
+    ghost use Rattle.kb_geometry.specs.Board.{IsOnBoard, IsOrderedRectOnBoard};
     ghost use Rattle.game_tree.specs.declared.node.Setup.{Setup};
     ghost use Rattle.game_tree.specs.declared.node.Move.{Move};
     ghost use Rattle.game_tree.specs.Built.{Built, nothing_built, with_setup, with_node, tree_of, tree_so_far, IsNextParent, IsGrown};
     ghost use Rattle.game_tree.specs.Information.{HasSimpleTexts};
-    ghost use Rattle.game_tree.specs.Tree.{IsTree, IsAbove, branchings_to, next_sibling_of, parent_of};
+    ghost use Rattle.game_tree.specs.Tree.{IsTree, branchings_to, next_sibling_of, parent_of};
 
     // Nothing is read yet of a game on this board.
     pub(crate) fn new(alloc: Global, shape: Shape) -> Self
@@ -63,7 +63,7 @@ impl TreeBuilder {
     // One setup more of the node that is being read. After `NoMemory` all is as before.
     pub(crate) fn add_setup(&mut self, setup: Setup) -> Result<(), NoMemory>
         requires room { self.old.setup_count < 4294967295 }
-        requires on_board { IsRectOnBoard self.old.shape setup.rect }
+        requires on_board { IsOrderedRectOnBoard self.old.shape setup.rect }
         ensures ok { IfOk result (λ _. self.new ≡ with_setup self.old setup) }
         ensures error { IfErr result (λ _. self.new ≡ self.old) }
     {
@@ -103,7 +103,7 @@ impl TreeBuilder {
 
     // The first node, which has no parent.
     fn add_root(&mut self, played: Option<Move>) -> Result<(), NoMemory>
-        requires first { self.old.nodes ≡ [] }
+        requires first { IsNextParent self.old None }
         requires on_board { IfSome played (λ (m : Move).
             IfSome m.point (λ (p : Point). IsOnBoard self.old.shape p)) }
         ensures ok { IfOk result (λ _. self.new ≡ with_node self.old None played) }

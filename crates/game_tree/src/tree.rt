@@ -36,7 +36,7 @@ impl Model for GameTree {
 impl GameTree {
     ghost use Rattle.kb_geometry.specs.declared.shape.Shape.{Shape};
     ghost use Rattle.kb_geometry.specs.declared.shape.Point.{Point};
-    ghost use Rattle.kb_geometry.specs.Board.{IsOnBoard, IsRectOnBoard};
+    ghost use Rattle.kb_geometry.specs.Board.{IsOnBoard, IsOrderedRectOnBoard};
     ghost use Rattle.game_tree.specs.declared.node.Setup.{Setup};
     ghost use Rattle.game_tree.specs.declared.node.Move.{Move};
     ghost use Rattle.game_tree.specs.MainLine.{IsOnMainLine};
@@ -138,7 +138,7 @@ impl GameTree {
     pub fn setups(&self, n: u32) -> &[Setup]
         requires { n < node_count self.now }
         ensures value { result.now ≡ (node_at self.now n).setups }
-        ensures on_board { All (λ (s : Setup). IsRectOnBoard self.now.shape s.rect) result.now }
+        ensures on_board { All (λ (s : Setup). IsOrderedRectOnBoard self.now.shape s.rect) result.now }
     {
         let nodes = self.nodes.as_slice();
         let start = setups_start(nodes, n as usize);

@@ -4,7 +4,7 @@ ghost use Rattle.std.specs.Str.Parse.{AllDigits, digits_value};
 ghost use Rattle.kb_geometry.specs.declared.shape.Point.{Point};
 ghost use Rattle.kb_geometry.specs.declared.shape.Rect.{Rect};
 ghost use Rattle.kb_geometry.specs.declared.shape.Shape.{Shape};
-ghost use Rattle.kb_geometry.specs.Board.{IsOnBoard, cols_of, rows_of, IsRectOnBoard};
+ghost use Rattle.kb_geometry.specs.Board.{IsOnBoard, cols_of, rows_of, IsOrderedRectOnBoard};
 ghost use Rattle.kb_geometry.specs.Side.{IsSide};
 ghost use Rattle.sgf_reader.specs.Bytes.{colon, digit_nine, digit_zero, space};
 ghost use Rattle.game_tree.specs.Property.{IsTrimmed};
@@ -224,7 +224,7 @@ fn rect_of(p: Point, q: Point) -> Rect
 // The rectangle that a setup's text names: one point, or two opposite corners with a colon.
 fn rect_at(shape: Shape, text: &[u8]) -> Option<Rect>
     ensures some { IfSome result (λ r. IsSetupText shape text.now (Some r)) }
-    ensures on_board { IfSome result (λ r. IsRectOnBoard shape r) }
+    ensures on_board { IfSome result (λ r. IsOrderedRectOnBoard shape r) }
     ensures none { result ≡ None → (r : Rect) → ¬ IsSetupText shape text.now (Some r) }
 {
     match around_colon(text) {
@@ -243,7 +243,7 @@ fn rect_at(shape: Shape, text: &[u8]) -> Option<Rect>
 // What a setup's value says: a rectangle, or nothing where it is empty. None is answered where it says neither.
 pub(crate) fn setup_of(shape: Shape, value: &[u8]) -> Option<Option<Rect>>
     ensures some { IfSome result (λ rect. IsSetupValue shape value.now rect) }
-    ensures on_board { IfSome result (λ rect. IfSome rect (λ (r : Rect). IsRectOnBoard shape r)) }
+    ensures on_board { IfSome result (λ rect. IfSome rect (λ (r : Rect). IsOrderedRectOnBoard shape r)) }
     ensures none { result ≡ None → (rect : Option Rect) → ¬ IsSetupValue shape value.now rect }
 {
     let text = trimmed(value);

@@ -5,7 +5,7 @@ use Prim.Native.Nat.{min, max}
 use Rattle.kb_geometry.specs.declared.shape.Shape.{Shape}
 use Rattle.kb_geometry.specs.declared.shape.Point.{Point}
 use Rattle.kb_geometry.specs.declared.shape.Rect.{Rect}
-use Rattle.kb_geometry.specs.Board.{cols_of, rows_of, IsOnBoard, IsRectOnBoard, IsInside}
+use Rattle.kb_geometry.specs.Board.{cols_of, rows_of, IsOnBoard, IsOrderedRectOnBoard, IsInside}
 use Rattle.kb_geometry.specs.Symmetry.{moved, inverse_number, turned_cols, turned_rows, IsAllowed, point_of}
 
 -- what holds for each of the eight symmetries
@@ -67,9 +67,9 @@ between p q = record { x0 = min p.x q.x; y0 = min p.y q.y; x1 = max p.x q.x; y1 
 abbrev pub moved_rect : ℕ → Shape → Rect → Rect
 moved_rect n shape r = between (moved n shape (point_of r.x0 r.y0)) (moved n shape (point_of r.x1 r.y1))
 
-module _ (shape : Shape) (r : Rect) (on_board : IsRectOnBoard shape r) where
-  pub moved_rect-on_board : (n : ℕ) → n < 8 → IsAllowed n shape → IsRectOnBoard shape (moved_rect n shape r)
-  moved_rect-on_board = each_symmetry (λ n. IsAllowed n shape → IsRectOnBoard shape (moved_rect n shape r))
+module _ (shape : Shape) (r : Rect) (on_board : IsOrderedRectOnBoard shape r) where
+  pub moved_rect-on_board : (n : ℕ) → n < 8 → IsAllowed n shape → IsOrderedRectOnBoard shape (moved_rect n shape r)
+  moved_rect-on_board = each_symmetry (λ n. IsAllowed n shape → IsOrderedRectOnBoard shape (moved_rect n shape r))
       (λ a. (omega arith, omega arith, omega arith, omega arith))
       (λ a. (omega arith, omega arith, omega arith, omega arith))
       (λ a. (omega arith, omega arith, omega arith, omega arith))
@@ -104,9 +104,9 @@ module _ (shape : Shape) (r : Rect) (on_board : IsRectOnBoard shape r) where
       (λ a h. (omega arith, omega arith, omega arith, omega arith))
 
 -- the points of the rectangle between the images are the images of the points of the rectangle
-pub moved_rect-image : (shape : Shape) (r : Rect) (n : ℕ) → n < 8 → IsAllowed n shape → IsRectOnBoard shape r → (q : Point) → IsInside (moved_rect n shape r) q ↔ ((p : Point) × IsInside r p × (moved n shape p ≡ q))
+pub moved_rect-image : (shape : Shape) (r : Rect) (n : ℕ) → n < 8 → IsAllowed n shape → IsOrderedRectOnBoard shape r → (q : Point) → IsInside (moved_rect n shape r) q ↔ ((p : Point) × IsInside r p × (moved n shape p ≡ q))
 moved_rect-image shape r n lt allowed on_board q =
-    let on : IsRectOnBoard shape (moved_rect n shape r) = moved_rect-on_board shape r on_board n lt allowed in (
+    let on : IsOrderedRectOnBoard shape (moved_rect n shape r) = moved_rect-on_board shape r on_board n lt allowed in (
       (λ inside. let q_on : IsOnBoard shape q = (omega arith, omega arith) in
           (moved (inverse_number n) shape q, inside-moved shape r on_board q n lt allowed inside, inverse-moved shape q q_on n lt allowed)),
       (λ h. subst (λ (q : Point). IsInside (moved_rect n shape r) q) h.2 (moved-inside shape r on_board h.0 h.1 n lt allowed)),

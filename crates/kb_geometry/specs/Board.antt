@@ -21,8 +21,9 @@ abbrev pub IsOnBoard : Shape → Point → Type 0
 IsOnBoard shape p = (p.x < cols_of shape) × (p.y < rows_of shape)
 
 -- the rectangle lies on the board, and its first corner is the upper left one
-abbrev pub IsRectOnBoard : Shape → Rect → Type 0
-IsRectOnBoard shape r = (r.x0 ≤ r.x1) × (r.y0 ≤ r.y1) × (r.x1 < cols_of shape) × (r.y1 < rows_of shape)
+abbrev pub IsOrderedRectOnBoard : Shape → Rect → Type 0
+IsOrderedRectOnBoard shape r =
+    (r.x0 ≤ r.x1) × (r.y0 ≤ r.y1) × (r.x1 < cols_of shape) × (r.y1 < rows_of shape)
 
 -- the point lies in the rectangle, to which both corners belong
 abbrev pub IsInside : Rect → Point → Type 0

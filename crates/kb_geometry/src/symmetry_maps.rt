@@ -2,7 +2,8 @@
 ghost use Rattle.std.specs.Prelude.{◌≡◌, ◌<◌, ◌↔◌};
 ghost use Rattle.kb_geometry.specs.declared.shape.Shape.{Shape};
 ghost use Rattle.kb_geometry.specs.declared.shape.Point.{Point};
-ghost use Rattle.kb_geometry.specs.Board.{cols_of, rows_of, IsOnBoard, IsRectOnBoard, IsInside};
+ghost use Rattle.kb_geometry.specs.Board.{IsInside, IsOnBoard, IsOrderedRectOnBoard};
+ghost use Rattle.kb_geometry.specs.Board.{cols_of, rows_of};
 ghost use Rattle.kb_geometry.specs.Symmetry.{number_of_symmetry, moved, inverse_number, turned_cols, turned_rows, IsAllowed};
 
 use crate::shape::{Point, Rect, Shape};
@@ -34,8 +35,8 @@ pub fn inverse(s: Symmetry) -> Symmetry
 /// The rectangle of the points to which a symmetry moves the points of a rectangle of the board.
 pub fn apply_rect(s: Symmetry, shape: Shape, r: Rect) -> Rect
     requires allowed { IsAllowed (number_of_symmetry s) shape }
-    requires on_board { IsRectOnBoard shape r }
-    ensures on_board { IsRectOnBoard shape result }
+    requires on_board { IsOrderedRectOnBoard shape r }
+    ensures on_board { IsOrderedRectOnBoard shape result }
     ensures image { (q : Point) → IsInside result q ↔ ((p : Point) × IsInside r p × (moved (number_of_symmetry s) shape p ≡ q)) }
 {
     let first = apply(s, shape, Point { x: r.x0, y: r.y0 });

@@ -5,7 +5,7 @@ use Rattle.std.proofs.Math.Nat.{mul-le-mul_right}
 use Rattle.std.proofs.lemmas.Bool.{cases_lt, cases_order, false_from_ne_true}
 use Rattle.kb_geometry.specs.declared.shape.Shape.{Shape}
 use Rattle.kb_geometry.specs.declared.shape.Rect.{Rect}
-use Rattle.kb_geometry.specs.Board.{cols_of, rows_of, point_count, IsInside, IsRectOnBoard}
+use Rattle.kb_geometry.specs.Board.{cols_of, rows_of, point_count, IsInside, IsOrderedRectOnBoard}
 use Rattle.kb_geometry.specs.Symmetry.{point_of}
 use Rattle.pattern_images.specs.ImageList.{ImageList, IsPlacedOn, no_grid, placement_at}
 use Rattle.pattern_images.specs.Placements.{Placement}
@@ -110,7 +110,7 @@ module _ (images : ImageList) (placed : All (IsPlacedOn images.shape) images.pla
     outside i lt out = false_from_ne_true (test (at i)) (λ t. out (near.inside i lt t))
 
     -- ---- one row
-    module _ (on_board : IsRectOnBoard images.shape area) (y : ℕ) (row : y < rows_of images.shape) where
+    module _ (on_board : IsOrderedRectOnBoard images.shape area) (y : ℕ) (row : y < rows_of images.shape) where
       abbrev row_start : ℕ
       row_start = y * cols_of images.shape
 
@@ -140,7 +140,7 @@ module _ (images : ImageList) (placed : All (IsPlacedOn images.shape) images.pla
           outside i before.0 (λ inside. omega (arith, inside.1)))
 
     -- ---- all rows
-    module _ (on_board : IsRectOnBoard images.shape area) where
+    module _ (on_board : IsOrderedRectOnBoard images.shape area) where
       -- the rows above the area
       pub rows_above : (found : List Occurrence) → IsFoundAt images visit 0 (start (area.y0 * cols_of images.shape)) found found
       rows_above found =

@@ -3,7 +3,7 @@ ghost use Rattle.std.specs.Prelude.{◌≡◌, ◌≤◌, ◌↔◌, ◌<◌, �
 ghost use Rattle.kb_geometry.specs.declared.shape.Shape.{Shape};
 ghost use Rattle.kb_geometry.specs.declared.shape.Point.{Point};
 ghost use Rattle.kb_geometry.specs.declared.stone.Change.{Change};
-ghost use Rattle.kb_geometry.specs.Board.{IsInside, IsOnBoard, IsRectOnBoard, cols_of};
+ghost use Rattle.kb_geometry.specs.Board.{IsInside, IsOnBoard, IsOrderedRectOnBoard, cols_of};
 ghost use Rattle.kb_geometry.specs.Board.{number_of, point_count, rows_of};
 ghost use Rattle.line_matcher.specs.Areas.{HoldsChanges, IsWidenedBy, IsReach};
 ghost use Rattle.line_matcher.specs.Concerned.{AreConcerned, Concerns, IsWithChange, no_points};
@@ -71,7 +71,7 @@ fn has_stone(change: Change, stone: Cell) -> bool
 
 // The rectangle of all points of a board.
 pub(crate) fn whole(shape: Shape) -> Rect
-    ensures on_board { IsRectOnBoard shape result }
+    ensures on_board { IsOrderedRectOnBoard shape result }
     ensures all { (p : Point) → IsOnBoard shape p → IsInside result p }
 {
     Rect {
@@ -86,7 +86,7 @@ pub(crate) fn whole(shape: Shape) -> Rect
 pub(crate) fn bounds(shape: Shape, changes: &[Change]) -> Option<Rect>
     requires { All (λ (c : Change). c.point < point_count shape) changes.now }
     ensures { MatchOption result (changes.now ≡ [])
-        (λ r. IsRectOnBoard shape r × HoldsChanges shape changes.now r) }
+        (λ r. IsOrderedRectOnBoard shape r × HoldsChanges shape changes.now r) }
 {
     let Point { x, y } = shape.point(changes.first()?.point);
     let mut rect = Rect {

@@ -1,6 +1,6 @@
 // A matcher: the placements of a query on a board, made ready to be tested.
 ghost use Rattle.std.specs.Prelude.{◌≡◌, ◌+◌, ◌*◌, ◌≤◌, ◌<◌, ℕ, length, slice_index, IfOk, OnOk};
-ghost use Rattle.kb_geometry.specs.Board.{IsRectOnBoard, cols_of, point_count, rows_of};
+ghost use Rattle.kb_geometry.specs.Board.{IsOrderedRectOnBoard, cols_of, point_count, rows_of};
 ghost use Rattle.pattern_images.specs.ImageList.{AreImages, IsPlacedOn, placement_at};
 ghost use Rattle.line_matcher.specs.Areas.{IsReach};
 ghost use Rattle.line_matcher.specs.Begins.{holds_anew, corner_of, may_begin, seen, touches};
@@ -73,7 +73,7 @@ impl<'a> Matcher<'a> {
         area: Rect,
         found: &mut Vec<Occurrence>,
     ) -> Result<(), NoMemory>
-        requires area { IsRectOnBoard self.now.images.now.shape area }
+        requires area { IsOrderedRectOnBoard self.now.images.now.shape area }
         requires near { IsNear self.now.images.now visit.now area }
         requires shape { visit.now.walker.now.shape ≡ self.now.images.now.shape }
         ensures { OnOk result (IsFoundAt self.now.images.now visit.now
@@ -88,8 +88,8 @@ impl<'a> Matcher<'a> {
 
     // Where the placements that have a point in a rectangle have their upper left points.
     pub(crate) fn reach(&self, into: Rect) -> Rect
-        requires { IsRectOnBoard self.now.images.now.shape into }
-        ensures on_board { IsRectOnBoard self.now.images.now.shape result }
+        requires { IsOrderedRectOnBoard self.now.images.now.shape into }
+        ensures on_board { IsOrderedRectOnBoard self.now.images.now.shape result }
         ensures reach { IsReach into self.now.most.cols self.now.most.rows result }
     {
         let _size = self.images.shape();
@@ -106,7 +106,7 @@ impl<'a> Matcher<'a> {
         found: &mut Vec<Occurrence>,
     ) -> Result<(), NoMemory>
         requires row { y < rows_of self.now.images.now.shape }
-        requires area { IsRectOnBoard self.now.images.now.shape area }
+        requires area { IsOrderedRectOnBoard self.now.images.now.shape area }
         requires near { IsNear self.now.images.now visit.now area }
         requires shape { visit.now.walker.now.shape ≡ self.now.images.now.shape }
         ensures { OnOk result (IsFoundAt self.now.images.now visit.now

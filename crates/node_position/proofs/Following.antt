@@ -1,11 +1,14 @@
 -- A tree that is followed node by node: the changes at its nodes so far, and a board that shows the position at the
 -- last one.
 use Prim.Native.Nat.{zero}
-use Rattle.std.proofs.Common.{◌≡◌, ℕ, suc, ◌+◌, ◌-◌, ◌<◌, ◌≤◌, List, [], get_or, map, Option, Some, None, refl, sym, ap, ◌∙◌, below_more, add-one, zero-add, arith}
+use Rattle.std.proofs.Common.{◌≡◌, ℕ, suc, ◌+◌, ◌-◌, ◌<◌, ◌≤◌, List, [], get_or, map, Option, Some, None, refl, sym, ap, subst, ◌∙◌, below_more, add-one, zero-add, arith}
 use Rattle.std.specs.Prelude.{IfSome}
 use Rattle.std.specs.List.{range_with_len}
 use Rattle.std.specs.Option.{option_map_or}
 use Rattle.std.proofs.lemmas.List.FromFn.{get_or-map-range_with_len, length-map-range_with_len}
+use Rattle.node_paths.specs.Parents.{MayHaveParent}
+use Rattle.node_paths.proofs.Ancestors.{parent-lt}
+use Rattle.node_paths.proofs.MoreParents.{may_have-same}
 use Rattle.kb_geometry.specs.declared.stone.Change.{Change}
 use Rattle.kb_geometry.specs.Capture.{Position, empty_board}
 use Rattle.game_tree.specs.Tree as tree
@@ -15,7 +18,7 @@ use Rattle.capture_board.specs.Changes.{AreChangesOf, LeadFrom, with_changes}
 use Rattle.capture_board.specs.Deltas as deltas
 use Rattle.capture_board.specs.Walking.{MayLeaveTo, node_before}
 use Rattle.capture_board.proofs.DeltaGrowth.{AreDeltas-more, changes-last, node_count-more, parent-before, parent-last, position_at-before, position_where-before}
-use Rattle.capture_board.proofs.DeltaPaths.{position_at-step}
+use Rattle.capture_board.proofs.DeltaPaths.{parent-past, position_at-step}
 use Rattle.node_position.specs.Positions.{AreDeltasOf}
 use Rattle.node_position.specs.Standing.{Shows}
 
@@ -37,8 +40,7 @@ pub Followed-start : (game : tree.Tree) (board : ShapedPosition) → board.shape
 Followed-start game board same empty = record {
   good = record {
     most = omega arith;
-    root = refl;
-    parents = λ n low high. absurd (omega arith);
+    parents = record { each = λ n high. absurd (omega arith); past = parent-past (deltas.no_nodes game.shape) };
     changes = λ n high. absurd (omega arith);
   };
   same_shape = refl;
@@ -59,30 +61,19 @@ may_go_back changes (suc k) (Some m) counted next =
 module _ (game : tree.Tree) (is_tree : tree.IsTree game) where
   -- the parent of a node, where it has one, is a node before it
   pub parent_before : (n : ℕ) → n < tree.node_count game → IfSome (tree.parent_of game n) (λ m. m < n)
-  parent_before zero below = rw is_tree.root tt
-  parent_before (suc n) below =
-      let p = is_tree.parents (suc n) (omega arith) below in
-      rw p.1 p.2
+  parent_before n below = go (tree.parent_of game n) refl
+    where
+      go : (o : Option ℕ) → tree.parent_of game n ≡ o → IfSome o (λ m. m < n)
+      go None e = tt
+      go (Some m) e = parent-lt is_tree.parents n m e
 
   module _ (changes : deltas.Deltas) (n : ℕ) (parents : (k : ℕ) → k < n → deltas.parent_of changes k ≡ tree.parent_of game k) (below : n < tree.node_count game) where
-    -- ancestors are the same
-    same_above : {a k : ℕ} → tree.IsAbove game a k → k < n → deltas.IsAbove changes a k
-    same_above tree.itself lt = deltas.itself
-    same_above (tree.higher {a = a} {m = m} {n = k} e up) lt =
-        let less : m < k = rw e at (parent_before k (omega arith)) in
-        deltas.higher (parents k lt ∙ e) (same_above up (omega arith))
-
     -- the next node of the tree may be the next one of the changes
     pub next_parent : deltas.node_count changes ≡ n → deltas.IsNextParent changes (tree.parent_of game n)
-    next_parent counted = next_at n refl counted
-      where
-        next_at : (k : ℕ) → k ≡ n → deltas.node_count changes ≡ k → deltas.IsNextParent changes (tree.parent_of game k)
-        next_at zero same counted = rw is_tree.root counted
-        next_at (suc k) same counted =
-            let p = is_tree.parents (suc k) (omega arith) (omega arith) in
-            let one : suc k - 1 ≡ k = omega arith in
-            let last : deltas.node_count changes - 1 ≡ k = omega arith in
-            rw (p.1, last) (omega arith, same_above (rw one at p.3) (omega arith))
+    next_parent counted =
+        subst (λ (i : ℕ). MayHaveParent (deltas.parent_of changes) i (tree.parent_of game n)) (sym counted)
+        (may_have-same (deltas.parent_of changes) n is_tree.parents (λ k lt. sym (parents k lt)) n (tree.parent_of game n)
+        (omega arith) (is_tree.parents.each n below))
 
   module _ (changes : deltas.Deltas) (board : ShapedPosition) (n : ℕ) (h : Followed game changes board n) (below : n < tree.node_count game) where
     abbrev parent : Option ℕ

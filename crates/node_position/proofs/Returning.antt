@@ -3,11 +3,12 @@ use Rattle.std.proofs.Common.{◌≡◌, ℕ, ◌<◌, Bool, false, not, eqb, Li
 use Rattle.std.proofs.lemmas.Bool.{eqb-true, not-false}
 use Rattle.std.specs.Option.{option_eq}
 use Rattle.std.specs.Prelude.{IfSome}
+use Rattle.node_paths.proofs.Ancestors.{parent-lt}
 use Rattle.kb_geometry.specs.declared.stone.Change.{Change}
 use Rattle.capture_board.specs.Board.{ShapedPosition}
 use Rattle.capture_board.specs.Changes.{LeadFrom, MayBeUndone}
 use Rattle.capture_board.specs.Deltas.{AreDeltas, Deltas, changes_of, node_count, parent_of, position_where}
-use Rattle.capture_board.proofs.DeltaPaths.{parent-lt, position_at-step}
+use Rattle.capture_board.proofs.DeltaPaths.{position_at-step}
 use Rattle.capture_board.proofs.NetChanges.{LeadFrom-may_be_undone}
 use Rattle.node_position.specs.Standing.{Shows}
 
@@ -28,7 +29,7 @@ module _ (changes : Deltas) (good : AreDeltas changes) (n : ℕ) (here : Option 
 
   in_range : (o : Option ℕ) → o ≡ parent_of changes n → IfSome o (λ m. m < node_count changes)
   in_range None e = tt
-  in_range (Some m) e = omega (arith, there, parent-lt changes good n m (sym e))
+  in_range (Some m) e = omega (arith, there, parent-lt good.parents n m (sym e))
 
   -- without them it shows the position at the parent
   pub Shows-parent : (back : ShapedPosition) → back.shape ≡ board.shape → back.position ≡ position_where changes (parent_of changes n) → (o : Option ℕ) → o ≡ parent_of changes n → Shows changes o back

@@ -2,7 +2,7 @@
 ghost use Rattle.std.specs.Prelude.{◌≡◌, ◌<◌, List, All, IfOk, IfSome, IsSome};
 ghost use Rattle.std.specs.Option.{IsSomeAnd};
 ghost use Rattle.kb_geometry.specs.declared.shape.Point.{Point};
-ghost use Rattle.kb_geometry.specs.Board.{IsOnBoard, IsRectOnBoard};
+ghost use Rattle.kb_geometry.specs.Board.{IsOnBoard, IsOrderedRectOnBoard};
 ghost use Rattle.kb_geometry.specs.Capture.{Position};
 ghost use Rattle.game_tree.specs.declared.node.Move.{Move};
 ghost use Rattle.game_tree.specs.declared.node.Setup.{Setup};
@@ -84,7 +84,7 @@ fn take_back(board: &mut Board, deltas: &NodeDeltas, here: Option<u32>) -> Optio
 
 // Applies setups, one after another.
 fn set_up(board: &mut Board, setups: &[Setup], changes: &mut ChangeList)
-    requires on_board { All (λ (s : Setup). IsRectOnBoard board.old.shape s.rect) setups.now }
+    requires on_board { All (λ (s : Setup). IsOrderedRectOnBoard board.old.shape s.rect) setups.now }
     requires leads { (base : Position) × LeadFrom base changes.old board.old.position }
     ensures shape { board.new.shape ≡ board.old.shape }
     ensures position { board.new.position ≡ set_up_all board.old.shape board.old.position setups.now }

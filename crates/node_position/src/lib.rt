@@ -1,7 +1,7 @@
 //! The changes at the nodes of a game tree.
 //!
-//! Stands on game_tree and capture_board. The layer above uses that the changes of [`deltas`],
-//! added along the path from the root to a node, give the position at that node.
+//! Stands on game_tree, capture_board and node_paths. The layer above uses that the changes of
+//! [`deltas`], added along the path from the root to a node, give the position at that node.
 #![tactic(auto)]
 
 mod building;

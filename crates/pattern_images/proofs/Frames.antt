@@ -3,7 +3,7 @@ use Rattle.std.proofs.Common.{◌≡◌, ℕ, ◌+◌, ◌-◌, ◌<◌, ◌≤�
 use Rattle.kb_geometry.specs.declared.shape.Shape.{Shape}
 use Rattle.kb_geometry.specs.declared.shape.Point.{Point}
 use Rattle.kb_geometry.specs.declared.shape.Rect.{Rect}
-use Rattle.kb_geometry.specs.Board.{cols_of, rows_of, IsOnBoard, IsRectOnBoard, IsInside}
+use Rattle.kb_geometry.specs.Board.{cols_of, rows_of, IsOnBoard, IsOrderedRectOnBoard, IsInside}
 use Rattle.kb_geometry.specs.Symmetry.{moved, inverse_number, IsAllowed, point_of}
 use Rattle.kb_geometry.proofs.Symmetries.{each_symmetry, same_point, moved_rect, moved_rect-image, moved_rect-on_board, IsTurned}
 use Rattle.pattern_images.specs.Turned.{upper_left}
@@ -103,10 +103,10 @@ rect_only a b ax ay bx by there back =
     same_rect a b (omega arith) (omega arith) (omega arith) (omega arith)
 
 -- the rectangle of the images of the points of a rectangle is the one between the images of its corners
-pub image_rect : (shape : Shape) (r image : Rect) (n : ℕ) → n < 8 → IsAllowed n shape → IsRectOnBoard shape r → IsRectOnBoard shape image →
+pub image_rect : (shape : Shape) (r image : Rect) (n : ℕ) → n < 8 → IsAllowed n shape → IsOrderedRectOnBoard shape r → IsOrderedRectOnBoard shape image →
     ((q : Point) → IsInside image q ↔ ((p : Point) × IsInside r p × (moved n shape p ≡ q))) → image ≡ moved_rect n shape r
 image_rect shape r image n lt allowed on image_on are =
-    let other_on : IsRectOnBoard shape (moved_rect n shape r) = moved_rect-on_board shape r on n lt allowed in
+    let other_on : IsOrderedRectOnBoard shape (moved_rect n shape r) = moved_rect-on_board shape r on n lt allowed in
     rect_only image (moved_rect n shape r) image_on.0 image_on.1 other_on.0 other_on.1
     (λ q h. (moved_rect-image shape r n lt allowed on q).1 ((are q).0 h))
     (λ q h. (are q).1 ((moved_rect-image shape r n lt allowed on q).0 h))
@@ -114,7 +114,7 @@ image_rect shape r image n lt allowed on image_on are =
 -- ---- what the function that finds the upper left points computes
 
 module _ (shape size to : Shape) (base : Rect) (ordered : (base.x0 ≤ base.x1) × (base.y0 ≤ base.y1)) (fits : Fits shape size (point_of base.x1 base.y1)) where
-  swept-on_board : IsRectOnBoard shape (swept size base)
+  swept-on_board : IsOrderedRectOnBoard shape (swept size base)
   swept-on_board = (omega (arith, size.in_range.0), omega (arith, size.in_range.1), omega (arith, size.in_range.0), omega (arith, size.in_range.1))
 
   -- the covered rectangle is as wide and as high as the turned one, at least
@@ -131,7 +131,7 @@ module _ (shape size to : Shape) (base : Rect) (ordered : (base.x0 ≤ base.x1) 
       (λ a t. (omega arith, omega arith))
 
   module _ (n : ℕ) (lt : n < 8) (allowed : IsAllowed n shape) (turned : IsTurned n size to) (covered : Rect) (w h tw th : ℕ)
-      (w_is : w ≡ cols_of size) (h_is : h ≡ rows_of size) (tw_is : tw ≡ cols_of to) (th_is : th ≡ rows_of to) (on : IsRectOnBoard shape covered)
+      (w_is : w ≡ cols_of size) (h_is : h ≡ rows_of size) (tw_is : tw ≡ cols_of to) (th_is : th ≡ rows_of to) (on : IsOrderedRectOnBoard shape covered)
       (image : (q : Point) → IsInside covered q ↔ ((p : Point) × IsInside (record { x0 = base.x0; y0 = base.y0; x1 = base.x1 + w - 1; y1 = base.y1 + h - 1 }) p × (moved n shape p ≡ q))) where
     covered-is : covered ≡ moved_rect n shape (swept size base)
     covered-is =

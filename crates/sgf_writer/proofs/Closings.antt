@@ -2,9 +2,11 @@
 use Rattle.std.proofs.Common.{◌≡◌, ℕ, ◌<◌, ◌≤◌, List, [], ◌++◌, Option, Some, None, refl, sym, ◌∙◌, ap, arith, inl, inr, append_assoc}
 use Rattle.std.proofs.lemmas.Bool.{cases_lt}
 use Rattle.std.proofs.lemmas.List.{append-nil}
+use Rattle.node_paths.specs.Parents.{IsOnPathTo, higher, itself}
+use Rattle.node_paths.proofs.Ancestors.{IsOnPathTo-between, IsOnPathTo-trans, cases_Option, not_below_sibling, parent-lt, root-parent}
 use Rattle.game_tree.specs.Built.{IsGrown}
-use Rattle.game_tree.specs.Tree.{Tree, IsAbove, higher, itself, first_child_of, next_sibling_of, node_count, parent_of}
-use Rattle.game_tree.proofs.Trees.{IsAbove-between, IsAbove-trans, cases_Option, next_sibling-facts, next_sibling-root, not_below_sibling, parent-lt}
+use Rattle.game_tree.specs.Tree.{Tree, first_child_of, next_sibling_of, node_count, parent_of}
+use Rattle.game_tree.proofs.Trees.{next_sibling-facts, next_sibling-root}
 use Rattle.std.specs.Prelude.{IfOk, Result, Ok, Err}
 use Rattle.sgf_writer.specs.Walk.{Closes, at_end, before_sibling, closing, last_child, Follows, behind_leaf, opening}
 use Rattle.sgf_writer.specs.Written.{IsWritten, node_text}
@@ -13,7 +15,7 @@ use Rattle.sgf_writer.proofs.Walks.{GoesOn, goes_on-more, goes_on-start}
 -- the climb from a leaf has come to node n, and has written what is closed below it
 pub record IsClosing (tree : Tree) (leaf n : ℕ) (before out : List ℕ) : Type 0 where
   pub within : n < node_count tree
-  pub above : IsAbove tree n leaf
+  pub above : IsOnPathTo (parent_of tree) n leaf
   pub so_far : (next : Option ℕ) (text : List ℕ) → Closes tree n next text → (whole : List ℕ) × Closes tree leaf next whole × (out ++ text ≡ before ++ whole)
 
 pub IsClosing-start : (tree : Tree) (leaf : ℕ) (out : List ℕ) → leaf < node_count tree → IsClosing tree leaf leaf out out
@@ -22,8 +24,8 @@ IsClosing-start tree leaf out within = record { within = within; above = itself;
 module _ (tree : Tree) (grown : IsGrown tree) where
   pub IsClosing-more : (leaf n p : ℕ) (before out new : List ℕ) → IsClosing tree leaf n before out → new ≡ out ++ closing tree n → next_sibling_of tree n ≡ None → parent_of tree n ≡ Some p → IsClosing tree leaf p before new
   IsClosing-more leaf n p before out new c e last parent = record {
-    within = omega (arith, parent-lt tree grown n p parent, c.within);
-    above = IsAbove-trans tree (higher parent itself) c.above;
+    within = omega (arith, parent-lt grown.parents n p parent, c.within);
+    above = IsOnPathTo-trans (parent_of tree) (higher parent itself) c.above;
     so_far = λ next text closes.
         let w = c.so_far next (closing tree n ++ text) (last_child last parent closes) in
         (w.0, w.1, ap (λ t. t ++ text) e ∙ append_assoc out (closing tree n) text ∙ w.2);
@@ -48,8 +50,8 @@ module _ (tree : Tree) (grown : IsGrown tree) where
         | inr p ↦ elim (cases_lt leaf s) [
           | inl l ↦ (l, f.1)
           | inr h ↦
-              let below : IsAbove tree n s = IsAbove-between tree grown n leaf s c.above (omega (arith, f.0)) h in
-              absurd (omega (arith, not_below_sibling tree grown p.0 n s p.1 (f.2 ∙ p.1) below, f.0))
+              let below : IsOnPathTo (parent_of tree) n s = IsOnPathTo-between grown.parents n leaf s c.above (omega (arith, f.0)) h in
+              absurd (omega (arith, not_below_sibling grown.parents p.0 n s p.1 (f.2 ∙ p.1) below, f.0))
         ]
       ]
 
@@ -66,7 +68,7 @@ module _ (tree : Tree) (grown : IsGrown tree) where
     within = omega arith;
     done = [];
     appended = sym (append-nil out);
-    goes_on = goes_on-start tree grown grown.root;
+    goes_on = goes_on-start tree grown (root-parent grown.parents);
   }
 
   -- the text with one node more

@@ -12,7 +12,7 @@ use Rattle.kb_geometry.specs.declared.stone.Cell.{Cell}
 use Rattle.kb_geometry.specs.declared.stone.Cell.TheVariants as cell
 use Rattle.kb_geometry.specs.declared.stone.Colour.{Colour}
 use Rattle.kb_geometry.specs.declared.stone.Colour.TheVariants as colour
-use Rattle.kb_geometry.specs.Board.{IsOnBoard, IsRectOnBoard}
+use Rattle.kb_geometry.specs.Board.{IsOnBoard, IsOrderedRectOnBoard}
 use Rattle.sgf_reader.specs.declared.collection.Pair.{Pair}
 use Rattle.game_tree.specs.declared.node.Move.{Move}
 use Rattle.game_tree.specs.declared.node.Setup.{Setup}
@@ -55,11 +55,11 @@ moves-do : (shape : Shape) (played : Option Move) → IfSome played (λ (m : Mov
 moves-do shape None on = EntriesDo.nothing
 moves-do shape (Some m) on = let names = mover-itself m.colour in EntriesDo.move m.colour m.point names.0 names.1 (move-read shape m.point on) EntriesDo.nothing
 
-setups-do : (shape : Shape) (setups : List Setup) (played : Option Move) → All (λ (s : Setup). IsRectOnBoard shape s.rect) setups → EntriesDo shape (move_entries played) [] played → EntriesDo shape (setup_entries setups ++ move_entries played) setups played
+setups-do : (shape : Shape) (setups : List Setup) (played : Option Move) → All (λ (s : Setup). IsOrderedRectOnBoard shape s.rect) setups → EntriesDo shape (move_entries played) [] played → EntriesDo shape (setup_entries setups ++ move_entries played) setups played
 setups-do shape [] played on rest = rest
 setups-do shape (s ∷ setups) played on rest =
     let names = setter-itself s.cell in
-    EntriesDo.set s.cell s.rect names.0 names.1 (setup-read shape s.rect (All-head (λ (s : Setup). IsRectOnBoard shape s.rect) s setups on)) (setups-do shape setups played (All-tail (λ (s : Setup). IsRectOnBoard shape s.rect) s setups on) rest)
+    EntriesDo.set s.cell s.rect names.0 names.1 (setup-read shape s.rect (All-head (λ (s : Setup). IsOrderedRectOnBoard shape s.rect) s setups on)) (setups-do shape setups played (All-tail (λ (s : Setup). IsOrderedRectOnBoard shape s.rect) s setups on) rest)
 
 text-does : (shape : Shape) (name bytes : List ℕ) (entries : List Entry) (setups : List Setup) (played : Option Move) → setter_at name ≡ None → mover_at name ≡ None → EntriesDo shape entries setups played → EntriesDo shape (text_entries name bytes ++ entries) setups played
 text-does shape name [] entries setups played s m rest = rest

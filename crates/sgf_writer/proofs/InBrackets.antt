@@ -3,10 +3,11 @@ use Rattle.std.proofs.Common.{◌≡◌, ◌≢◌, ℕ, ◌+◌, ltb, true, fal
 use Rattle.std.proofs.lemmas.Bool.{lt-ltb, le-ltb}
 use Rattle.std.specs.Prelude.{is_some}
 use Rattle.std.specs.Option.{option_map_or}
+use Rattle.node_paths.proofs.Ancestors.{child_behind, parent-lt}
 use Rattle.game_tree.specs.Built.{IsGrown}
 use Rattle.game_tree.specs.Stored.{siblings_from}
 use Rattle.game_tree.specs.Tree.{Tree, children_of, first_child_of, next_sibling_of, parent_of}
-use Rattle.game_tree.proofs.Trees.{child_behind, first_child-behind, next_sibling-missing, parent-lt, siblings_from-first, siblings_from-next}
+use Rattle.game_tree.proofs.Trees.{first_child-behind, next_sibling-missing, siblings_from-first, siblings_from-next}
 use Rattle.sgf_writer.specs.Walk.{in_brackets}
 
 -- the children of a node, from its first child on
@@ -50,11 +51,11 @@ module _ (tree : Tree) (grown : IsGrown tree) where
   in_brackets-later n c e later = go (next_sibling_of tree (n + 1)) refl
     where
       behind : parent_of tree (n + 1) ≡ Some n
-      behind = child_behind tree grown n c e
+      behind = child_behind grown.parents n c e
 
       all : children_of tree n ≡ (n + 1) ∷ siblings_from tree (next_sibling_of tree (n + 1))
       all = children-first tree n (n + 1) (first_child-behind tree grown n behind)
 
       go : (o : Option ℕ) → next_sibling_of tree (n + 1) ≡ o → true ≡ in_brackets tree c
-      go None none = absurd (next_sibling-missing tree n (n + 1) behind none c (omega (arith, parent-lt tree grown c n e)) e)
+      go None none = absurd (next_sibling-missing tree n (n + 1) behind none c (omega (arith, parent-lt grown.parents c n e)) e)
       go (Some s) next = sym (more_children tree n (n + 1) s all next) ∙ sym (in_brackets-child tree n c e)

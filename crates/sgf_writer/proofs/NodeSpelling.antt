@@ -10,7 +10,7 @@ use Rattle.std.specs.Str.Parse.{AllDigits}
 use Rattle.kb_geometry.specs.declared.shape.Point.{Point}
 use Rattle.kb_geometry.specs.declared.shape.Rect.{Rect}
 use Rattle.kb_geometry.specs.declared.shape.Shape.{Shape}
-use Rattle.kb_geometry.specs.Board.{IsOnBoard, cols_of, rows_of, IsRectOnBoard}
+use Rattle.kb_geometry.specs.Board.{IsOnBoard, cols_of, rows_of, IsOrderedRectOnBoard}
 use Rattle.sgf_reader.specs.Grammar.{IsValue}
 use Rattle.game_tree.specs.declared.node.Move.{Move}
 use Rattle.game_tree.specs.declared.node.Setup.{Setup}
@@ -97,7 +97,7 @@ properties_text tree n = (if n == 0 then root_text tree.shape tree.info else [])
 pub point-letters : (shape : Shape) (p : Point) → IsOnBoard shape p → HasLetter p
 point-letters shape p on = (omega (arith, on.0, (columns-le shape).1), omega (arith, on.1, (rows-le shape).1))
 
-pub rect-letters : (shape : Shape) (r : Rect) → IsRectOnBoard shape r → HasLetters r
+pub rect-letters : (shape : Shape) (r : Rect) → IsOrderedRectOnBoard shape r → HasLetters r
 rect-letters shape r on = (
   omega (arith, on.0, on.2, (columns-le shape).1),
   omega (arith, on.1, on.3, (rows-le shape).1),
@@ -116,7 +116,7 @@ played-letters shape (Some m) h = go m.point h
 pub spell-node : (whole : List ℕ) (tree : Tree) → IsTree tree → (n : ℕ) → n < node_count tree → Spell whole (properties_text tree n) (node_entries tree n)
 spell-node whole tree t n h =
     let on = t.on_board n h in
-    let letters = All-weaker (λ (s : Setup). IsRectOnBoard tree.shape s.rect) (λ (s : Setup). HasLetters s.rect) (λ s r. rect-letters tree.shape s.rect r) (node_at tree n).setups on.setups in
+    let letters = All-weaker (λ (s : Setup). IsOrderedRectOnBoard tree.shape s.rect) (λ (s : Setup). HasLetters s.rect) (λ s r. rect-letters tree.shape s.rect r) (node_at tree n).setups on.setups in
     let rest = spell-setups whole (move_text (node_at tree n).played) (move_entries (node_at tree n).played) (spell-move whole (node_at tree n).played (played-letters tree.shape (node_at tree n).played on.played)) (node_at tree n).setups letters in
     elim (cases_Bool (n == 0)) [
       | inl e ↦ rw e (Spell-as whole _ _ _ (sym (append_assoc (root_text tree.shape tree.info) (setups_text None (node_at tree n).setups) (move_text (node_at tree n).played))) (spell-root whole _ tree.shape tree.info _ rest))

@@ -5,9 +5,11 @@ use Rattle.std.proofs.lemmas.List.{append-nil}
 use Rattle.std.proofs.lemmas.List.Elements.{All-cons, All-contains, All-nil, All-weaker}
 use Rattle.std.specs.List.{AllZip}
 use Rattle.std.specs.Prelude.{Contains, IfSome}
+use Rattle.node_paths.specs.Parents.{higher}
+use Rattle.node_paths.proofs.Ancestors.{later-parent, root-parent}
 use Rattle.kb_geometry.specs.declared.shape.Point.{Point}
 use Rattle.kb_geometry.specs.declared.shape.Shape.{Shape}
-use Rattle.kb_geometry.specs.Board.{IsOnBoard, cols_of, rows_of, IsRectOnBoard}
+use Rattle.kb_geometry.specs.Board.{IsOnBoard, cols_of, rows_of, IsOrderedRectOnBoard}
 use Rattle.sgf_reader.specs.declared.collection.Pair.{Pair}
 use Rattle.sgf_reader.specs.declared.collection.RawGame.{RawGame}
 use Rattle.sgf_reader.specs.declared.collection.RawNode.{RawNode}
@@ -19,7 +21,7 @@ use Rattle.sgf_reader.proofs.WithinLimits.{within_limits-no_fault}
 use Rattle.game_tree.specs.declared.node.Move.{Move}
 use Rattle.game_tree.specs.declared.node.Setup.{Setup}
 use Rattle.game_tree.specs.Property.{IsTrimmed, bytes_of, first_pair}
-use Rattle.game_tree.specs.Tree.{IsNodeOnBoard, IsTree, Node, Tree, higher, node_at, node_count}
+use Rattle.game_tree.specs.Tree.{IsNodeOnBoard, IsTree, Node, Tree, node_at, node_count}
 use Rattle.game_tree.specs.Trees.{AreSetups, IsNodeOf, IsPlayedBy, IsTreeOf}
 use Rattle.game_tree.specs.ValueFaults.{HasValueFault, IsBoard, bad_move, bad_setup, bad_size, not_go, two_moves}
 use Rattle.game_tree.proofs.Subtrees.{IsSubtree}
@@ -47,7 +49,7 @@ played-on shape other c r (Some m) on = target-on shape other c r m.point on
 
 node-on : (shape other : Shape) → cols_of other ≡ cols_of shape → rows_of other ≡ rows_of shape → (node : Node) → IsNodeOnBoard shape node → IsNodeOnBoard other node
 node-on shape other c r node on = record {
-  setups = All-weaker (λ (s : Setup). IsRectOnBoard shape s.rect) (λ (s : Setup). IsRectOnBoard other s.rect) (λ s h. (h.0, h.1, omega (arith, h.2, c), omega (arith, h.3, r))) node.setups on.setups;
+  setups = All-weaker (λ (s : Setup). IsOrderedRectOnBoard shape s.rect) (λ (s : Setup). IsOrderedRectOnBoard other s.rect) (λ s h. (h.0, h.1, omega (arith, h.2, c), omega (arith, h.3, r))) node.setups on.setups;
   played = played-on shape other c r node.played on.played;
 }
 
@@ -192,7 +194,7 @@ root_end : (tree : Tree) → IsTree tree → (end : ℕ) → IsSubtree tree 0 en
 root_end tree is_tree end sub =
     elim (cases_lt end (node_count tree)) [
       | inl l ↦
-          let p = is_tree.parents end sub.later l in
+          let p = later-parent is_tree.parents end sub.later l in
           absurd (omega (arith, sub.only end l (higher p.1 (sub.inside p.0 (omega arith) p.2))))
       | inr h ↦ let e : end ≡ node_count tree = omega (arith, sub.within) in e
     ]
@@ -205,8 +207,8 @@ from_text : (tree : Tree) → IsTree tree → (text : List ℕ) → IsWrittenFro
 from_text tree is_tree text from short =
     let whole : List ℕ = 40 ∷ (text ++ 41 ∷ []) in
     let stands = Stands-front text (41 ∷ []) (Stands-back (40 ∷ []) (text ++ 41 ∷ []) (Stands-whole (40 ∷ (text ++ 41 ∷ [])))) in
-    let above : 1 ≡ suc (branchings_above tree (grown whole tree is_tree) 0) = omega (arith, branchings_above-root tree (grown whole tree is_tree) 0 is_tree.root) in
-    let r = reads-from (40 ∷ (text ++ 41 ∷ [])) tree is_tree 0 text from 1 1 (Some 0) None stands (omega (arith, is_tree.some)) (sym is_tree.root) above in
+    let above : 1 ≡ suc (branchings_above tree (grown whole tree is_tree) 0) = omega (arith, branchings_above-root tree (grown whole tree is_tree) 0 (root-parent is_tree.parents)) in
+    let r = reads-from (40 ∷ (text ++ 41 ∷ [])) tree is_tree 0 text from 1 1 (Some 0) None stands (omega (arith, is_tree.some)) (sym (root-parent is_tree.parents)) above in
     let one = bracketed (40 ∷ (text ++ 41 ∷ [])) tree is_tree None 0 0 0 text r in
     let count : length (r.nodes ++ r.inside) ≡ node_count tree = omega (arith, root_end tree is_tree _ r.subtree) in
     let games : HasGames 0 ((40 ∷ (text ++ 41 ∷ [])) ++ []) (record { at = 0; nodes = r.nodes ++ r.inside } ∷ []) = HasGames.with_game (40 ∷ (text ++ 41 ∷ [])) [] one HasGames.end in

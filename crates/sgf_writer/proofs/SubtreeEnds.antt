@@ -4,12 +4,14 @@ use Rattle.std.proofs.lemmas.Bool.{cases_lt}
 use Rattle.std.proofs.lemmas.List.Sums.{sum_by-cons}
 use Rattle.std.specs.Prelude.{count_by}
 use Rattle.std.specs.Option.{option_map_or}
+use Rattle.node_paths.specs.Paths.{path_to}
+use Rattle.node_paths.proofs.Ancestors.{IsOnPathTo-le, IsOnPathTo-step, cases_Option, parent-lt}
+use Rattle.node_paths.proofs.PathLists.{path_to-parent, path_to-root}
 use Rattle.game_tree.specs.Built.{IsGrown}
 use Rattle.game_tree.specs.Stored.{one_if, siblings_from}
-use Rattle.game_tree.specs.Tree.{Tree, branchings_to, children_of, first_child_of, first_number, next_sibling_of, node_count, parent_of, path_to}
-use Rattle.game_tree.proofs.Paths.{path_to-parent, path_to-root}
+use Rattle.game_tree.specs.Tree.{Tree, branchings_to, children_of, first_child_of, first_number, next_sibling_of, node_count, parent_of}
 use Rattle.game_tree.proofs.Subtrees.{IsSubtree, IsSubtree-at, IsSubtree-last, IsSubtree-next}
-use Rattle.game_tree.proofs.Trees.{IsAbove-le, IsAbove-step, cases_Option, first_child-behind, next_sibling-found, parent-in_range, parent-lt, siblings_from-next}
+use Rattle.game_tree.proofs.Trees.{first_child-behind, next_sibling-found, parent-in_range, siblings_from-next}
 
 -- ---- ends
 
@@ -47,8 +49,8 @@ module _ (tree : Tree) (grown : IsGrown tree) where
       let sub = IsSubtree-at tree grown n h in
       elim (cases_lt (n + 1) sub.0) [
         | inl l ↦
-            let step = IsAbove-step tree (sub.1.inside (n + 1) (omega arith) l) (omega arith) in
-            let same : step.0 ≡ n = omega (arith, IsAbove-le tree grown step.2, parent-lt tree grown (n + 1) step.0 step.1) in
+            let step = IsOnPathTo-step (parent_of tree) (sub.1.inside (n + 1) (omega arith) l) (omega arith) in
+            let same : step.0 ≡ n = omega (arith, IsOnPathTo-le grown.parents step.2, parent-lt grown.parents (n + 1) step.0 step.1) in
             let child : first_child_of tree n ≡ Some (n + 1) = first_child-behind tree grown n (step.1 ∙ ap (λ i. Some i) same) in
             absurd (let f : None ≡ Some (n + 1) = sym (ap first_number none) ∙ child in cc)
         | inr g ↦ let e : sub.0 ≡ n + 1 = omega (arith, sub.1.later) in subst (λ (i : ℕ). IsSubtree tree n i) e sub.1
@@ -71,13 +73,13 @@ module _ (tree : Tree) (grown : IsGrown tree) where
   branchings-step n =
       elim (cases_Option (parent_of tree n)) [
         | inl e ↦
-            let path = ap (count_by (λ k. ltb 1 (length (children_of tree k)))) (path_to-root tree grown n e) in
+            let path = ap (count_by (λ k. ltb 1 (length (children_of tree k)))) (path_to-root grown.parents n e) in
             let above : branchings_above n ≡ 0 = ap (λ o. option_map_or (branchings_to tree) o 0) e in
             path ∙ sum_by-cons (λ k. cond (ltb 1 (length (children_of tree k))) 1 0) n [] ∙ omega (arith, above)
         | inr p ↦
-            let path = ap (count_by (λ k. ltb 1 (length (children_of tree k)))) (path_to-parent tree grown n p.0 p.1) in
+            let path = ap (count_by (λ k. ltb 1 (length (children_of tree k)))) (path_to-parent grown.parents n p.0 p.1) in
             let above : branchings_above n ≡ branchings_to tree p.0 = ap (λ o. option_map_or (branchings_to tree) o 0) p.1 in
-            path ∙ sum_by-cons (λ k. cond (ltb 1 (length (children_of tree k))) 1 0) n (path_to tree p.0) ∙ omega (arith, above)
+            path ∙ sum_by-cons (λ k. cond (ltb 1 (length (children_of tree k))) 1 0) n (path_to (parent_of tree) p.0) ∙ omega (arith, above)
       ]
 
   pub branchings_above-child : (n c : ℕ) → parent_of tree c ≡ Some n → branchings_above c ≡ branchings_to tree n
@@ -90,5 +92,5 @@ module _ (tree : Tree) (grown : IsGrown tree) where
   branchings_above-lt depth n =
       elim (cases_Option (parent_of tree n)) [
         | inl e ↦ omega (arith, branchings_above-root n e)
-        | inr p ↦ omega (arith, branchings_above-child p.0 n p.1, depth p.0 (omega (arith, parent-lt tree grown n p.0 p.1, parent-in_range tree n p.0 p.1)))
+        | inr p ↦ omega (arith, branchings_above-child p.0 n p.1, depth p.0 (omega (arith, parent-lt grown.parents n p.0 p.1, parent-in_range tree n p.0 p.1)))
       ]

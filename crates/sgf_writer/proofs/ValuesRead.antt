@@ -10,7 +10,7 @@ use Rattle.std.specs.Prelude.{IfSome}
 use Rattle.kb_geometry.specs.declared.shape.Point.{Point}
 use Rattle.kb_geometry.specs.declared.shape.Rect.{Rect}
 use Rattle.kb_geometry.specs.declared.shape.Shape.{Shape}
-use Rattle.kb_geometry.specs.Board.{IsOnBoard, cols_of, rows_of, IsRectOnBoard}
+use Rattle.kb_geometry.specs.Board.{IsOnBoard, cols_of, rows_of, IsOrderedRectOnBoard}
 use Rattle.game_tree.specs.Information.{HasNoControls}
 use Rattle.game_tree.specs.Property.{IsTrimmed}
 use Rattle.game_tree.specs.SimpleText.{IsReadAs, IsSimpleText, byte, hidden_byte, itself, nothing, white}
@@ -72,7 +72,7 @@ point-same : (r : Rect) → r.x0 ≡ r.x1 → r.y0 ≡ r.y1 → r ≡ rect_of (r
 point-same r x y =
     same_rect r (min r.x0 r.x0) (min r.y0 r.y0) (max r.x0 r.x0) (max r.y0 r.y0) (omega arith) (omega arith) (omega arith) (omega arith)
 
-pub setup-read : (shape : Shape) (r : Rect) → IsRectOnBoard shape r → IsSetupValue shape (rect_text r) (Some r)
+pub setup-read : (shape : Shape) (r : Rect) → IsOrderedRectOnBoard shape r → IsSetupValue shape (rect_text r) (Some r)
 setup-read shape r on =
     let one : Point = record { x = r.x0; y = r.y0 } in
     let other : Point = record { x = r.x1; y = r.y1 } in

@@ -1,6 +1,6 @@
 // A rectangle of points that get one cell, without captures.
 ghost use Rattle.std.specs.Prelude.{◌≡◌, ◌+◌, ◌<◌, ◌≤◌, length};
-ghost use Rattle.kb_geometry.specs.Board.{point_count, IsRectOnBoard};
+ghost use Rattle.kb_geometry.specs.Board.{point_count, IsOrderedRectOnBoard};
 ghost use Rattle.kb_geometry.specs.Capture.{with_rect};
 ghost use Rattle.capture_board.specs.ChangedPoints.{NotesChanges};
 ghost use Rattle.capture_board.specs.Runs.{IsRunSet};
@@ -18,7 +18,7 @@ pub fn set_rect(
     rect: Rect,
 )
     requires whole { length cells.old ≡ point_count shape }
-    requires on_board { IsRectOnBoard shape rect }
+    requires on_board { IsOrderedRectOnBoard shape rect }
     ensures set { cells.new ≡ with_rect shape cells.old cell rect }
     ensures noted { NotesChanges cells.old changed.old cells.new changed.new }
 {

@@ -1,7 +1,7 @@
 // Tests whether a builder's next call is allowed, for tests that read tables.
 ghost use Rattle.std.specs.Prelude.{ℕ, ◌<◌, ◌≤◌, length, IsTrue, IfSome, Some};
 ghost use Rattle.kb_geometry.specs.declared.shape.Point.{Point};
-ghost use Rattle.kb_geometry.specs.Board.{IsOnBoard, IsRectOnBoard};
+ghost use Rattle.kb_geometry.specs.Board.{IsOnBoard, IsOrderedRectOnBoard};
 ghost use Rattle.game_tree.specs.declared.node.Move.{Move};
 ghost use Rattle.game_tree.specs.Built.{tree_of, IsNextParent};
 ghost use Rattle.game_tree.specs.Information.{Information};
@@ -14,7 +14,7 @@ use kb_geometry::{Rect, Shape};
 // Whether the node that is being read may have this setup.
 pub(crate) fn can_set(builder: &TreeBuilder, setup: Setup) -> bool
     ensures room { IsTrue result → builder.now.setup_count < 4294967295 }
-    ensures on_board { IsTrue result → IsRectOnBoard builder.now.shape setup.rect }
+    ensures on_board { IsTrue result → IsOrderedRectOnBoard builder.now.shape setup.rect }
 {
     builder.setups.len() < 4294967295 && is_rect_on_board(builder.shape, setup.rect)
 }
@@ -66,7 +66,7 @@ fn is_above_last(builder: &TreeBuilder, above: u32) -> bool
 }
 // Whether the rectangle lies on the board.
 fn is_rect_on_board(shape: Shape, rect: Rect) -> bool
-    ensures { IsTrue result → IsRectOnBoard shape rect }
+    ensures { IsTrue result → IsOrderedRectOnBoard shape rect }
 {
     rect.x0 <= rect.x1 && rect.y0 <= rect.y1 && rect.x1 < shape.cols() && rect.y1 < shape.rows()
 }

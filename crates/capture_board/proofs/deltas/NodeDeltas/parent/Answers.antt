@@ -1,6 +1,6 @@
 use Rattle.std.proofs.Common.{Some, sym, ◌∙◌, ap, arith}
 use Rattle.capture_board.specs.declared.deltas.StoredNode.{StoredNode}
-use Rattle.capture_board.proofs.DeltaPaths.{parent-lt}
+use Rattle.node_paths.proofs.Ancestors.{parent-lt}
 use Rattle.capture_board.proofs.StoredDeltas.{node_read, deltas_shown, within_shown, parent_shown}
 use Rattle.capture_board.proofs.deltas.NodeDeltas.parent.Goals as goal
 
@@ -15,4 +15,4 @@ returns-else-n-eq0-clause-value c =
 
 pub returns-else-n-eq0-clause-before : goal.returns-else-n-eq0-clause-before
 returns-else-n-eq0-clause-before c =
-    parent-lt c.args.self.now (deltas_shown _ _ _ _ c.self.view_is c.self.invariant) c.args.n c.from.result (sym (returns-else-n-eq0-clause-value c))
+    parent-lt (deltas_shown _ _ _ _ c.self.view_is c.self.invariant).parents c.args.n c.from.result (sym (returns-else-n-eq0-clause-value c))

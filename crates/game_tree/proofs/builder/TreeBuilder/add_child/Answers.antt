@@ -2,30 +2,30 @@ use Rattle.std.proofs.Common.{◌≡◌, ℕ, ◌+◌, ◌<◌, List, [], ◌++�
 use Rattle.std.proofs.lemmas.List.{length_push}
 use Rattle.std.proofs.lemmas.Option.{same_Some}
 use mir.Val.{bool_byte}
+use Rattle.node_paths.proofs.Ancestors.{parent-lt}
 use Rattle.kb_geometry.specs.declared.shape.Point.{Point}
 use Rattle.kb_geometry.specs.Board.{IsOnBoard}
 use Rattle.game_tree.specs.declared.node.Move.{Move}
 use Rattle.game_tree.specs.declared.stored.TreeNode.{TreeNode}
 use Rattle.game_tree.specs.Built.{Built, IsNextParent, tree_so_far, with_node}
-use Rattle.game_tree.specs.Stored.{IsBeginning, node_in, shown_built}
+use Rattle.game_tree.specs.Stored.{IsBeginning, tree_node, shown_built}
 use Rattle.game_tree.specs.Tree.{parent_of, next_sibling_of}
 use Rattle.game_tree.proofs.Growth.{main-longer, main-same}
 use Rattle.game_tree.proofs.Paths.{move_number-le}
 use Rattle.game_tree.proofs.StoredBuilds.{count_built}
 use Rattle.game_tree.proofs.StoredGrowth.{LooksSame, moves_below, shown_built-push, shown_built-set, IsBeginning-first, IsBeginning-later}
 use Rattle.game_tree.proofs.StoredTrees.{length-shown, node_read}
-use Rattle.game_tree.proofs.Trees.{parent-lt}
 use Rattle.game_tree.proofs.builder.TreeBuilder.add_child.Goals as goal
 
 pub index-requires : goal.index-requires
-index-requires c = omega (arith, c.requires.parent.1, c.from.ensures, c.self.inside.nodes.ok.0, count_built _ _ _ _ _ c.self.view_is c.self.invariant)
+index-requires c = omega (arith, c.requires.parent.0, c.from.ensures, c.self.inside.nodes.ok.0, count_built _ _ _ _ _ c.self.view_is c.self.invariant)
 
 pub overflow_add-above : goal.overflow_add-above
 overflow_add-above c =
     let count = count_built _ _ _ _ _ c.self.view_is c.self.invariant in
-    let moves = moves_below c.self.inside.shape c.self.inside.nodes.items c.self.inside.setups.items c.self.inside.main_line c.self.invariant c.args.parent c.from.result c.index.result.now c.from-2.result (omega (arith, c.requires.parent.1, count)) c.from.ensures c.index.ensures
+    let moves = moves_below c.self.inside.shape c.self.inside.nodes.items c.self.inside.setups.items c.self.inside.main_line c.self.invariant c.args.parent c.from.result c.index.result.now c.from-2.result (omega (arith, c.requires.parent.0, count)) c.from.ensures c.index.ensures
     (c.from-2.ensures ∙ ap (λ t. bool_byte t) c.is_some.ensures) in
-    omega (arith, moves, move_number-le (tree_so_far (shown_built c.self.inside.shape c.self.inside.nodes.items c.self.inside.setups.items)) c.self.invariant.grown c.args.parent, c.requires.parent.1, c.requires.room)
+    omega (arith, moves, move_number-le (tree_so_far (shown_built c.self.inside.shape c.self.inside.nodes.items c.self.inside.setups.items)) c.self.invariant.grown c.args.parent, c.requires.parent.0, c.requires.room)
 
 pub overflow_cast-number : goal.overflow_cast-number
 overflow_cast-number c = omega (arith, c.requires.room, c.len-number.ensures, c.self.inside.nodes.ok.0, count_built _ _ _ _ _ c.self.view_is c.self.invariant)
@@ -45,16 +45,16 @@ invariant_of-self-in-Some c =
     let ending = c.len.ensures ∙ c.self.inside.setups.ok.0 in
     let count = count_built _ _ _ _ _ c.self.view_is c.self.invariant in
     let on = subst (λ (d : Built). IfSome c.args.played (λ (m : Move). IfSome m.point (λ (p : Point). IsOnBoard d.shape p))) (sym c.self.view_is) c.requires.on_board in
-    let moves = moves_below shape ts ss c.self.inside.main_line c.self.invariant c.args.parent c.from.result c.index.result.now c.from-2.result (omega (arith, c.requires.parent.1, count)) c.from.ensures c.index.ensures
+    let moves = moves_below shape ts ss c.self.inside.main_line c.self.invariant c.args.parent c.from.result c.index.result.now c.from-2.result (omega (arith, c.requires.parent.0, count)) c.from.ensures c.index.ensures
     (c.from-2.ensures ∙ ap (λ t. bool_byte t) c.is_some.ensures) in
     let same_parent : (m : ℕ) → Some c.args.parent ≡ Some m → c.args.parent ≡ m = λ m e. same_Some c.args.parent m e in
     let found = subst (λ (d : Built). (c.in-Some.sibling < length d.nodes) × (parent_of (tree_so_far d) c.in-Some.sibling ≡ Some c.args.parent) × (next_sibling_of (tree_so_far d) c.in-Some.sibling ≡ None)) (sym c.self.view_is) c.in-Some.ensures.some in
-    let node = node_read c.push.new.self.items c.in-Some.sibling c.index_mut.result.now (omega (arith, ap length c.in_ok-push.ensures.items, length_push ts x, found.0, length-shown ts ss)) c.index_mut.ensures.value ∙ ap (λ (us : List TreeNode). node_in us c.in-Some.sibling) c.in_ok-push.ensures.items in
+    let node = node_read c.push.new.self.items c.in-Some.sibling c.index_mut.result.now (omega (arith, ap length c.in_ok-push.ensures.items, length_push ts x, found.0, length-shown ts ss)) c.index_mut.ensures.value ∙ ap (λ (us : List TreeNode). tree_node us c.in-Some.sibling) c.in_ok-push.ensures.items in
     let y : TreeNode = record { setups_end = c.index_mut.result.now.setups_end; parent = c.index_mut.result.now.parent; next_sibling = c.len-number.result; moves_above = c.index_mut.result.now.moves_above; played = c.index_mut.result.now.played } in
-    let looks : LooksSame y (node_in (ts ++ x ∷ []) c.in-Some.sibling) = record { parent = ap (λ (t : TreeNode). t.parent) node; setups_end = ap (λ (t : TreeNode). t.setups_end) node; played = ap (λ (t : TreeNode). t.played) node } in
+    let looks : LooksSame y (tree_node (ts ++ x ∷ []) c.in-Some.sibling) = record { parent = ap (λ (t : TreeNode). t.parent) node; setups_end = ap (λ (t : TreeNode). t.setups_end) node; played = ap (λ (t : TreeNode). t.played) node } in
     let number = c.len-number.ensures ∙ c.self.inside.nodes.ok.0 in
     let end = main-same b (Some c.args.parent) c.args.played c.self.invariant.grown next c.self.inside.main_line c.self.invariant.links.main_end c.args.parent refl
-    (λ behind. absurd (omega (arith, behind, found.0, parent-lt (tree_so_far b) c.self.invariant.grown c.in-Some.sibling c.args.parent found.1))) in
+    (λ behind. absurd (omega (arith, behind, found.0, parent-lt c.self.invariant.grown.parents c.in-Some.sibling c.args.parent found.1))) in
     subst (λ (us : List TreeNode). IsBeginning shape (set us c.in-Some.sibling y) ss c.self.inside.main_line) (sym c.in_ok-push.ensures.items)
     (IsBeginning-later shape ts ss x (Some c.args.parent) next same_parent ending c.self.invariant.ends c.self.inside.main_line c.self.invariant refl (omega (arith, c.requires.room, count)) on moves
     c.in-Some.sibling c.args.parent (omega (arith, found.0, length-shown ts ss)) refl found.1 found.2 y looks (ap (λ (t : TreeNode). t.moves_above) node) number c.self.inside.main_line end)
@@ -70,7 +70,7 @@ invariant_of-self-then-self-number c =
     let ending = c.len.ensures ∙ c.self.inside.setups.ok.0 in
     let count = count_built _ _ _ _ _ c.self.view_is c.self.invariant in
     let on = subst (λ (d : Built). IfSome c.args.played (λ (m : Move). IfSome m.point (λ (p : Point). IsOnBoard d.shape p))) (sym c.self.view_is) c.requires.on_board in
-    let moves = moves_below shape ts ss c.self.inside.main_line c.self.invariant c.args.parent c.from.result c.index.result.now c.from-2.result (omega (arith, c.requires.parent.1, count)) c.from.ensures c.index.ensures
+    let moves = moves_below shape ts ss c.self.inside.main_line c.self.invariant c.args.parent c.from.result c.index.result.now c.from-2.result (omega (arith, c.requires.parent.0, count)) c.from.ensures c.index.ensures
     (c.from-2.ensures ∙ ap (λ t. bool_byte t) c.is_some.ensures) in
     let same_parent : (m : ℕ) → Some c.args.parent ≡ Some m → c.args.parent ≡ m = λ m e. same_Some c.args.parent m e in
     let shown = length-shown ts ss in
@@ -95,7 +95,7 @@ invariant_of-self-else-self-number c =
     let ending = c.len.ensures ∙ c.self.inside.setups.ok.0 in
     let count = count_built _ _ _ _ _ c.self.view_is c.self.invariant in
     let on = subst (λ (d : Built). IfSome c.args.played (λ (m : Move). IfSome m.point (λ (p : Point). IsOnBoard d.shape p))) (sym c.self.view_is) c.requires.on_board in
-    let moves = moves_below shape ts ss c.self.inside.main_line c.self.invariant c.args.parent c.from.result c.index.result.now c.from-2.result (omega (arith, c.requires.parent.1, count)) c.from.ensures c.index.ensures
+    let moves = moves_below shape ts ss c.self.inside.main_line c.self.invariant c.args.parent c.from.result c.index.result.now c.from-2.result (omega (arith, c.requires.parent.0, count)) c.from.ensures c.index.ensures
     (c.from-2.ensures ∙ ap (λ t. bool_byte t) c.is_some.ensures) in
     let same_parent : (m : ℕ) → Some c.args.parent ≡ Some m → c.args.parent ≡ m = λ m e. same_Some c.args.parent m e in
     let shown = length-shown ts ss in
@@ -118,13 +118,13 @@ returns-in-Some-clause-ok c =
     let ending = c.len.ensures ∙ c.self.inside.setups.ok.0 in
     let count = count_built _ _ _ _ _ c.self.view_is c.self.invariant in
     let on = subst (λ (d : Built). IfSome c.args.played (λ (m : Move). IfSome m.point (λ (p : Point). IsOnBoard d.shape p))) (sym c.self.view_is) c.requires.on_board in
-    let moves = moves_below shape ts ss c.self.inside.main_line c.self.invariant c.args.parent c.from.result c.index.result.now c.from-2.result (omega (arith, c.requires.parent.1, count)) c.from.ensures c.index.ensures
+    let moves = moves_below shape ts ss c.self.inside.main_line c.self.invariant c.args.parent c.from.result c.index.result.now c.from-2.result (omega (arith, c.requires.parent.0, count)) c.from.ensures c.index.ensures
     (c.from-2.ensures ∙ ap (λ t. bool_byte t) c.is_some.ensures) in
     let same_parent : (m : ℕ) → Some c.args.parent ≡ Some m → c.args.parent ≡ m = λ m e. same_Some c.args.parent m e in
     let found = subst (λ (d : Built). (c.in-Some.sibling < length d.nodes) × (parent_of (tree_so_far d) c.in-Some.sibling ≡ Some c.args.parent) × (next_sibling_of (tree_so_far d) c.in-Some.sibling ≡ None)) (sym c.self.view_is) c.in-Some.ensures.some in
-    let node = node_read c.push.new.self.items c.in-Some.sibling c.index_mut.result.now (omega (arith, ap length c.in_ok-push.ensures.items, length_push ts x, found.0, length-shown ts ss)) c.index_mut.ensures.value ∙ ap (λ (us : List TreeNode). node_in us c.in-Some.sibling) c.in_ok-push.ensures.items in
+    let node = node_read c.push.new.self.items c.in-Some.sibling c.index_mut.result.now (omega (arith, ap length c.in_ok-push.ensures.items, length_push ts x, found.0, length-shown ts ss)) c.index_mut.ensures.value ∙ ap (λ (us : List TreeNode). tree_node us c.in-Some.sibling) c.in_ok-push.ensures.items in
     let y : TreeNode = record { setups_end = c.index_mut.result.now.setups_end; parent = c.index_mut.result.now.parent; next_sibling = c.len-number.result; moves_above = c.index_mut.result.now.moves_above; played = c.index_mut.result.now.played } in
-    let looks : LooksSame y (node_in (ts ++ x ∷ []) c.in-Some.sibling) = record { parent = ap (λ (t : TreeNode). t.parent) node; setups_end = ap (λ (t : TreeNode). t.setups_end) node; played = ap (λ (t : TreeNode). t.played) node } in
+    let looks : LooksSame y (tree_node (ts ++ x ∷ []) c.in-Some.sibling) = record { parent = ap (λ (t : TreeNode). t.parent) node; setups_end = ap (λ (t : TreeNode). t.setups_end) node; played = ap (λ (t : TreeNode). t.played) node } in
     let number = c.len-number.ensures ∙ c.self.inside.nodes.ok.0 in
     ap (λ (us : List TreeNode). shown_built shape (set us c.in-Some.sibling y) ss) c.in_ok-push.ensures.items
     ∙ shown_built-set shape ts ss x (Some c.args.parent) next same_parent ending c.self.invariant.ends c.self.inside.main_line c.self.invariant refl (omega (arith, c.requires.room, count)) on moves

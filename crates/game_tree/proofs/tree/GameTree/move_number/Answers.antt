@@ -2,7 +2,7 @@ use Rattle.std.proofs.Common.{◌≡◌, ℕ, ◌∙◌, ap, arith}
 use Rattle.std.specs.Prelude.{is_some}
 use mir.Val.{bool_byte}
 use Rattle.game_tree.specs.declared.stored.TreeNode.{TreeNode}
-use Rattle.game_tree.specs.Stored.{node_in, one_if}
+use Rattle.game_tree.specs.Stored.{tree_node, one_if}
 use Rattle.game_tree.proofs.StoredTrees.{bool_byte-one_if, node_read, tree_shown, within_shown, move_number_shown}
 use Rattle.game_tree.proofs.Paths.{move_number-le}
 use Rattle.game_tree.proofs.Trees.{IsGrown-tree}
@@ -16,7 +16,7 @@ returns c =
     let within = within_shown _ _ _ _ _ _ c.self.view_is c.self.invariant c.args.n c.requires in
     let node = node_read _ c.args.n _ within c.index.ensures in
     let above = ap (λ (t : TreeNode). t.moves_above) node in
-    let own : ◌≡◌ {A = ℕ} c.from-2.result (one_if (is_some (node_in c.self.inside.nodes.items c.args.n).played)) =
+    let own : ◌≡◌ {A = ℕ} c.from-2.result (one_if (is_some (tree_node c.self.inside.nodes.items c.args.n).played)) =
     c.from-2.ensures ∙ ap (λ b. bool_byte b) (c.is_some.ensures ∙ ap (λ (t : TreeNode). is_some t.played) node) ∙ bool_byte-one_if _ in
     omega (arith, above, own, c.from.ensures, move_number_shown _ _ _ _ _ _ c.self.view_is c.self.invariant c.args.n c.requires)
 

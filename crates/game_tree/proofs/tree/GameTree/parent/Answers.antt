@@ -1,7 +1,8 @@
 use Rattle.std.proofs.Common.{Some, sym, ◌∙◌, ap, arith}
+use Rattle.node_paths.proofs.Ancestors.{parent-lt}
 use Rattle.game_tree.specs.declared.stored.TreeNode.{TreeNode}
 use Rattle.game_tree.proofs.StoredTrees.{node_read, tree_shown, within_shown, parent_shown}
-use Rattle.game_tree.proofs.Trees.{IsGrown-tree, parent-lt}
+use Rattle.game_tree.proofs.Trees.{IsGrown-tree}
 use Rattle.game_tree.proofs.tree.GameTree.parent.Goals as goal
 
 pub index-requires : goal.index-requires
@@ -15,5 +16,5 @@ returns-else-n-eq0-clause-value c =
 
 pub returns-else-n-eq0-clause-before : goal.returns-else-n-eq0-clause-before
 returns-else-n-eq0-clause-before c =
-    parent-lt c.args.self.now (IsGrown-tree c.args.self.now (tree_shown _ _ _ _ _ _ c.self.view_is c.self.invariant)) c.args.n c.from.result
+    parent-lt (IsGrown-tree c.args.self.now (tree_shown _ _ _ _ _ _ c.self.view_is c.self.invariant)).parents c.args.n c.from.result
     (sym (returns-else-n-eq0-clause-value c))

@@ -1,0 +1,4 @@
+pub mod Ancestors
+pub mod MoreParents
+pub mod PathLists
+pub mod StoredNodes
