@@ -1,4 +1,5 @@
--- The changes at each node of a game, and the position at a node: these changes added along the path from the root.
+-- The changes at each node of a game, and the position at a node: these changes added along the
+-- path from the root.
 use Rattle.std.specs.Prelude.{ℕ, ◌<◌, ◌≤◌, List, [], ◌∷◌, ◌++◌, length, slice_index_or, Option, None}
 use Rattle.std.specs.Option.{option_map_or}
 use Rattle.node_paths.specs.Parents.{AreParents, MayHaveParent}
@@ -48,8 +49,9 @@ position_where deltas here = option_map_or (position_at deltas) here (empty_boar
 abbrev pub IsNextParent : Deltas → Option ℕ → Type 0
 IsNextParent deltas parent = MayHaveParent (parent_of deltas) (node_count deltas) parent
 
--- The parent of each node but the first is the node before it, or an ancestor of that. The changes of
--- a node are net changes against the position at its parent, or against the empty board at the root.
+-- The parent of each node but the first is the node before it, or an ancestor of that. The changes
+-- of a node are net changes against the position at its parent, or against the empty board at the
+-- root.
 pub record AreDeltas (deltas : Deltas) : Type 0 where
   pub most : node_count deltas ≤ 65536
   pub parents : AreParents (parent_of deltas) (node_count deltas)

@@ -35,8 +35,8 @@ shown_nodes ts changes = map (shown_node ts changes) (range_with_len 0 (length t
 abbrev pub shown_deltas : Shape → List StoredNode → List Change → Deltas
 shown_deltas shape ts changes = record { shape = shape; nodes = shown_nodes ts changes }
 
--- The nodes' changes are parts of the list, and those of the last node end where the list ends. A node changes each
--- point of its board at most once.
+-- The nodes' changes are parts of the list, and those of the last node end where the list ends. A
+-- node changes each point of its board at most once.
 pub record AreChangeEnds (ts : List StoredNode) (changes : List Change) : Type 0 where
   pub parts : AreParts (end_of_changes ts) (length ts) (length changes)
   pub whole : changes_start ts (length ts) ≡ length changes

@@ -19,4 +19,5 @@ points_in points cell.White = points.white
 
 -- the sets have each point of the board in that of its cell, and no other
 abbrev pub ArePointsOf : ℕ → Position → PointsByCell → Type 0
-ArePointsOf count cells points = (c : Cell) (p : ℕ) → Contains (points_in points c) p ↔ ((p < count) × (cell_at cells p ≡ c))
+ArePointsOf count cells points = (c : Cell) (p : ℕ) → Contains (points_in points c) p
+    ↔ ((p < count) × (cell_at cells p ≡ c))

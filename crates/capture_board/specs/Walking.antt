@@ -7,7 +7,8 @@ use Rattle.kb_geometry.specs.declared.shape.Shape.{Shape}
 use Rattle.kb_geometry.specs.Capture.{Position}
 use Rattle.capture_board.specs.Deltas.{Deltas, node_count, parent_of, position_where}
 
--- a walker as contracts see it: its board, the node where it stands, none above the root, and the position that it shows
+-- a walker as contracts see it: its board, the node where it stands, none above the root, and the
+-- position that it shows
 pub record WalkerState : Type 0 where
   pub shape : Shape
   pub here : Option ℕ
@@ -23,8 +24,8 @@ pub record StandsIn (deltas : Deltas) (walker : WalkerState) : Type 0 where
 abbrev pub parent_here : Deltas → Option ℕ → Option ℕ
 parent_here deltas here = option_and_then (parent_of deltas) here
 
--- A walk can go back to this place: to above the root from everywhere, and to a node from that node itself and from the
--- nodes below it.
+-- A walk can go back to this place: to above the root from everywhere, and to a node from that node
+-- itself and from the nodes below it.
 abbrev pub MayLeaveTo : Deltas → Option ℕ → Option ℕ → Type 0
 MayLeaveTo deltas here None = Unit {0}
 MayLeaveTo deltas here (Some a) = IsSomeAnd here (λ n. IsOnPathTo (parent_of deltas) a n)

@@ -5,4 +5,5 @@ use Rattle.kb_geometry.specs.Capture.{Position, IsInGroup}
 
 -- the set has, with each of its points, the point's group
 abbrev pub HasWholeGroups : Shape → Position → List ℕ → Type 0
-HasWholeGroups shape position points = (p q : ℕ) → Contains points p → IsInGroup shape position p q → Contains points q
+HasWholeGroups shape position points = (p q : ℕ) → Contains points p →
+    IsInGroup shape position p q → Contains points q

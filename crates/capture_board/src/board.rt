@@ -98,7 +98,8 @@ impl Board {
         requires on_board { IfSome point (λ (p : Point). IsOnBoard self.old.shape p) }
         requires leads { (base : Position) × LeadFrom base changes.old self.old.position }
         ensures shape { self.new.shape ≡ self.old.shape }
-        ensures played { IsMovePlayed self.old.shape self.old.position colour point self.new.position }
+        ensures played { IsMovePlayed self.old.shape self.old.position colour point
+            self.new.position }
         ensures whole { length self.new.position ≡ point_count self.old.shape }
         ensures changes { (base : Position) → LeadFrom base changes.old self.old.position →
             LeadFrom base changes.new self.new.position }
@@ -126,7 +127,8 @@ impl Board {
         requires on_board { IsOrderedRectOnBoard self.old.shape rect }
         requires leads { (base : Position) × LeadFrom base changes.old self.old.position }
         ensures shape { self.new.shape ≡ self.old.shape }
-        ensures position { self.new.position ≡ with_rect self.old.shape self.old.position cell rect }
+        ensures position { self.new.position
+            ≡ with_rect self.old.shape self.old.position cell rect }
         ensures whole { length self.new.position ≡ point_count self.old.shape }
         ensures changes { (base : Position) → LeadFrom base changes.old self.old.position →
             LeadFrom base changes.new self.new.position }

@@ -15,8 +15,8 @@ mod room;
 #[cfg(test)]
 mod tests;
 
-/// The net changes of a position since the list was last cleared, by point ascending. It has room for the changes of
-/// one node of a game.
+/// The net changes of a position since the list was last cleared, by point ascending. It has room
+/// for the changes of one node of a game.
 #[derive(Drop)]
 pub struct ChangeList {
     pub(crate) changed: ChangedPoints,
@@ -62,8 +62,8 @@ impl ChangeList {
     }
 }
 
-// Lists the changes of the points that changed, whose cells are now these, from a number on. Those of lower points are
-// listed already.
+// Lists the changes of the points that changed, whose cells are now these, from a number on. Those
+// of lower points are listed already.
 pub(crate) fn list_changes(
     changed: &ChangedPoints,
     cells: &[Cell],

@@ -10,7 +10,8 @@ use std::mem::size_of;
 // One node. The number of a node is less than 65,536.
 #[derive(Clone, Copy, Debug)]
 struct StoredNode {
-    // Where the node's changes end in the list of all changes. They begin where those of the node before it end.
+    // Where the node's changes end in the list of all changes. They begin where those of the node
+    // before it end.
     changes_end: u32,
     // The parent's number; 0 at the root, too.
     parent: u16,
@@ -20,10 +21,11 @@ const _: () = prove!(size_of::<StoredNode>() == 8);
 
 const _: () = prove!(size_of::<Change>() == 4);
 
-/// The board of a game, and for each node its parent and what it changes against the position at its parent.
+/// The board of a game, and for each node its parent and what it changes against the position at
+/// its parent.
 ///
-/// Nodes are numbered from 0, the root, in order of the text. At the root the changes are those against the empty
-/// board. The changes of a node are on points of their own, by point ascending.
+/// Nodes are numbered from 0, the root, in order of the text. At the root the changes are those
+/// against the empty board. The changes of a node are on points of their own, by point ascending.
 // The changes of all nodes stand in one list, four bytes each.
 #[derive(Debug, Drop)]
 pub struct NodeDeltas {
@@ -45,7 +47,16 @@ impl Model for NodeDeltas {
 
 impl NodeDeltas {
     ghost use Rattle.capture_board.specs.Changes.{AreChangesOf};
-    ghost use Rattle.capture_board.specs.Deltas.{AreDeltas, IsNextParent, changes_of, no_nodes, node_count, parent_of, position_where, with_node};
+    ghost use Rattle.capture_board.specs.Deltas.{
+      AreDeltas,
+      IsNextParent,
+      changes_of,
+      no_nodes,
+      node_count,
+      parent_of,
+      position_where,
+      with_node,
+    };
 
     /// No node yet, on this board.
     pub fn new(alloc: Global, shape: Shape) -> Self
@@ -108,7 +119,8 @@ impl NodeDeltas {
         }
     }
 
-    /// What a node changes against the position at its parent, or against the empty board at the root.
+    /// What a node changes against the position at its parent, or against the empty board at the
+    /// root.
     pub fn changes(&self, n: u32) -> &[Change]
         requires { n < node_count self.now }
         ensures value { result.now ≡ changes_of self.now n }

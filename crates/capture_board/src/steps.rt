@@ -4,7 +4,8 @@ ghost use Rattle.std.specs.Prelude.{◌≡◌, ℕ, ◌+◌, ◌<◌};
 use std::marker::Model;
 use std::sync::ledger::{Blank, Book, Ledger, Share};
 
-/// How many steps were taken. It takes no bytes and no time when the program runs, and only [`Steps::tick`] changes it.
+/// How many steps were taken. It takes no bytes and no time when the program runs, and only
+/// [`Steps::tick`] changes it.
 ///
 /// Contracts see it as a number.
 #[derive(Drop)]

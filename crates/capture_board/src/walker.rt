@@ -28,7 +28,11 @@ impl Model for Walker {
 
     ghost Value = { WalkerState };
 
-    ghost view = { λ w. record { shape = w.board.shape; here = w.here; position = w.board.position } };
+    ghost view = { λ w. record {
+      shape = w.board.shape;
+      here = w.here;
+      position = w.board.position;
+    } };
 }
 
 impl Walker {

@@ -39,10 +39,21 @@ HaveSameNext a b = (a.colour ≡ b.colour) × (a.x ≡ b.x) × (a.y ≡ b.y)
 pub record IsPlaceIn (rows : List Row) (new : Row) (i : ℕ) : Type 0 where
   pub within : i ≤ length rows
   pub before : (k : ℕ) (d : Row) → k < i → IsRowBefore (slice_index_or rows k d) new
-  pub rest : (k : ℕ) (d : Row) → i ≤ k → k < length rows → ¬ IsRowBefore (slice_index_or rows k d) new
+  pub rest : (k : ℕ) (d : Row) → i ≤ k → k < length rows →
+      ¬ IsRowBefore (slice_index_or rows k d) new
 
--- The rows with one hit more, which goes on as the new row tells: that row's tally has one hit more, or the new row is put in.
+-- The rows with one hit more, which goes on as the new row tells: that row's tally has one hit
+-- more, or the new row is put in.
 pub data IsRowAdded (hit : Hit) (old : List Row) (new : Row) : List Row → Type 0 where
-  there : (i : ℕ) (d : Row) → IsPlaceIn old new i → i < length old → HaveSameNext (slice_index_or old i d) new →
-      IsRowAdded hit old new (slice_set old i (record { colour = (slice_index_or old i d).colour; x = (slice_index_or old i d).x; y = (slice_index_or old i d).y; tally = counted (slice_index_or old i d).tally hit }))
-  absent : (i : ℕ) → IsPlaceIn old new i → ((d : Row) → i < length old → ¬ HaveSameNext (slice_index_or old i d) new) → IsRowAdded hit old new (insert old i new)
+  there : (i : ℕ) (d : Row) → IsPlaceIn old new i → i < length old →
+      HaveSameNext (slice_index_or old i d) new →
+      IsRowAdded hit old new (slice_set old i (record {
+        colour = (slice_index_or old i d).colour;
+        x = (slice_index_or old i d).x;
+        y = (slice_index_or old i d).y;
+        tally = counted (slice_index_or old i d).tally hit;
+      }))
+  absent : (i : ℕ) →
+      IsPlaceIn old new i →
+      ((d : Row) → i < length old → ¬ HaveSameNext (slice_index_or old i d) new) →
+      IsRowAdded hit old new (insert old i new)

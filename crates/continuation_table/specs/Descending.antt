@@ -10,7 +10,8 @@ use Rattle.pattern_images.specs.Grid.{cell_in}
 use Rattle.pattern_images.specs.Holds.{Allows}
 use Rattle.pattern_images.specs.Placements.{Covers, Placement}
 
--- the placement allows this cell of the board at the point: its own cell there does, or the point lies beside it
+-- the placement allows this cell of the board at the point: its own cell there does, or the point
+-- lies beside it
 abbrev pub AllowsAt : Placement → Point → Cell → Type 0
 AllowsAt placement p on_board =
     Covers placement p →
@@ -27,4 +28,5 @@ AreAllowed shape placement changes = All (AllowsChange shape placement) changes
 
 -- the point lies in the rectangle of the place
 abbrev pub IsInPlace : Place → Point → Type 0
-IsInPlace place p = (place.x ≤ p.x) × (p.x < place.x + place.cols) × (place.y ≤ p.y) × (p.y < place.y + place.rows)
+IsInPlace place p = (place.x ≤ p.x) × (p.x < place.x + place.cols) × (place.y ≤ p.y)
+    × (p.y < place.y + place.rows)

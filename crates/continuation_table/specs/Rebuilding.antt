@@ -1,4 +1,5 @@
--- Words of the private functions that find a placement by its place, and that rebuild the position at a node.
+-- Words of the private functions that find a placement by its place, and that rebuild the position
+-- at a node.
 use Rattle.std.specs.Prelude.{◌≡◌, ℕ, ◌<◌, ◌⊎◌, List, Option, Some, None, is_some, slice_index_or, slice_set, if◌then◌else◌}
 use Rattle.std.specs.Option.{option_map_or}
 use Rattle.kb_geometry.specs.declared.stone.Cell.{Cell}
@@ -18,8 +19,11 @@ known_cell known p = option_map_or (λ c. c) (slice_index_or known p None) stone
 
 -- with the new cell of a change, if none is known of its point
 abbrev pub noted : List (Option Cell) → Change → List (Option Cell)
-noted known c = if is_some (slice_index_or known c.point None) then known else slice_set known c.point (Some c.new)
+noted known c = if is_some (slice_index_or known c.point None) then known else slice_set known
+    c.point (Some c.new)
 
 -- the order of places: by row, then by column, then by label
 abbrev pub IsPlaceBefore : Place → Place → Type 0
-IsPlaceBefore a b = (a.y < b.y) ⊎ ((a.y ≡ b.y) × ((a.x < b.x) ⊎ ((a.x ≡ b.x) × (number_of_label a.label < number_of_label b.label))))
+IsPlaceBefore a b = (a.y < b.y)
+    ⊎ ((a.y ≡ b.y) × ((a.x < b.x)
+    ⊎ ((a.x ≡ b.x) × (number_of_label a.label < number_of_label b.label))))

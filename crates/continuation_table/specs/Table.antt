@@ -1,4 +1,5 @@
--- The table of the continuations of a list of hits: how many hits go on so, and how their games ended.
+-- The table of the continuations of a list of hits: how many hits go on so, and how their games
+-- ended.
 use Rattle.std.specs.Prelude.{◌≡◌, ℕ, ◌<◌, ◌≤◌, ◌⊎◌, ◌==◌, ◌&&◌, not, Bool, true, false, List, length, filter, count_by, IfSome, All, AllPairs, Any}
 use Rattle.std.specs.Option.{option_map_or}
 use Rattle.kb_geometry.specs.declared.stone.Colour.{Colour}
@@ -27,8 +28,8 @@ is_now hit = option_map_or (λ (next : Next). next.now) hit.next false
 abbrev pub is_later : Hit → Bool
 is_later hit = option_map_or (λ (next : Next). not next.now) hit.next false
 
--- Whether a side of the pattern won, where the game ended so. In the pattern's own colours the winner is the other side
--- if the hit's label exchanges them.
+-- Whether a side of the pattern won, where the game ended so. In the pattern's own colours the
+-- winner is the other side if the hit's label exchanges them.
 abbrev pub is_own_win : Colour → ℕ → Outcome → Bool
 is_own_win side label outcome.Black = is_colour side (own_colour label colour.Black)
 is_own_win side label outcome.White = is_colour side (own_colour label colour.White)
@@ -45,8 +46,8 @@ is_win side hit = is_own_win side (number_of_label hit.place.label) hit.outcome
 abbrev pub is_no_win : Hit → Bool
 is_no_win hit = not (is_win colour.Black hit) && not (is_win colour.White hit)
 
--- The tally of a list of hits: how many they are, how many go on at once, and later, how many were won by the pattern's
--- black and by its white, and how many by neither.
+-- The tally of a list of hits: how many they are, how many go on at once, and later, how many were
+-- won by the pattern's black and by its white, and how many by neither.
 abbrev pub tally_of : List Hit → Tally
 tally_of hits = record {
   count = length hits;
@@ -59,7 +60,8 @@ tally_of hits = record {
 
 -- whether the hit goes on by this side, in this column and row of the pattern
 abbrev pub goes_on : Colour → ℕ → ℕ → Hit → Bool
-goes_on side x y hit = option_map_or (λ (next : Next). is_colour next.colour side && (next.x == x) && (next.y == y)) hit.next false
+goes_on side x y hit = option_map_or (λ (next : Next). is_colour next.colour side && (next.x == x)
+    && (next.y == y)) hit.next false
 
 -- the hits that go on by this side, in this column and row of the pattern
 abbrev pub going_on : Colour → ℕ → ℕ → List Hit → List Hit

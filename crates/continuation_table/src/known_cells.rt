@@ -13,8 +13,9 @@ use kb_geometry::{Cell, Change, MAX_POINTS};
 // How many points there is room for.
 const ROOM: usize = MAX_POINTS as usize;
 
-// What is known of the points of a board, in fixed room. It is cleared once for each call of `next_of`, which nothing
-// on the way of a search calls, so there is no reason to keep it from call to call.
+// What is known of the points of a board, in fixed room. It is cleared once for each call of
+// `next_of`, which nothing on the way of a search calls, so there is no reason to keep it from call
+// to call.
 #[derive(Drop)]
 pub(crate) struct KnownCells {
     cells: [Option<Cell>; ROOM],
@@ -31,8 +32,8 @@ impl KnownCells {
         }
     }
 
-    // The position at a node, rebuilt by one walk up the parents: the first change of a point on that way decides its
-    // cell, and points that never change are empty.
+    // The position at a node, rebuilt by one walk up the parents: the first change of a point on
+    // that way decides its cell, and points that never change are empty.
     pub(crate) fn at(deltas: &NodeDeltas, node: u32) -> Self
         requires { node < node_count deltas.now }
         ensures { (p : ℕ) → known_cell result.cells p ≡ cell_at (position_at deltas.now node) p }
@@ -54,11 +55,14 @@ impl KnownCells {
         self.cells[usize::from(point)].unwrap_or(Cell::Empty)
     }
 
-    // Notes the new cells of the changes of one node, from the last one on, of the points of which nothing is known.
+    // Notes the new cells of the changes of one node, from the last one on, of the points of which
+    // nothing is known.
     fn note_all(&mut self, changes: &[Change])
         requires { All (λ (c : Change). c.point < ROOM) changes.now }
-        ensures { (below : Position) (p : ℕ) → All (λ (c : Change). c.point < length below) changes.now →
-            cell_over self.new.cells below p ≡ cell_over self.old.cells (with_changes below changes.now) p }
+        ensures { (below : Position) (p : ℕ) →
+            All (λ (c : Change). c.point < length below) changes.now →
+            cell_over self.new.cells below p
+            ≡ cell_over self.old.cells (with_changes below changes.now) p }
     {
         let count = changes.len();
         for k in 0..count {

@@ -17,7 +17,8 @@ pub fn a_placement_has_one_continuation_or_none()
         ((next : Next) × IsContinuation tree changes placement n next)
         ⊎ ((next : Next) → ¬ IsContinuation tree changes placement n next) }
     ensures one { (tree : Tree) (changes : Deltas) (placement : Placement) (n : ℕ) (a b : Next) →
-        IsContinuation tree changes placement n a → IsContinuation tree changes placement n b → a ≡ b }
+        IsContinuation tree changes placement n a → IsContinuation tree changes placement n b →
+        a ≡ b }
 {}
 
 /// A list of hits has a table, and one only: that of [`Table::of`](crate::Table::of).

@@ -14,8 +14,8 @@ use capture_board::NodeDeltas;
 use kb_geometry::Point;
 use pattern_images::{Images, Place};
 
-/// The number of the placement with this place, where there is one. It takes as many comparisons as the logarithm of
-/// the count of placements.
+/// The number of the placement with this place, where there is one. It takes as many comparisons as
+/// the logarithm of the count of placements.
 pub fn number_of_place(images: &Images, place: Place) -> usize
     ensures { (i : ℕ) → i < length images.now.placements →
         IsPlaceOf (placement_at images.now.placements i) place → result ≡ i }

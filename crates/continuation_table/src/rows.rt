@@ -1,6 +1,12 @@
 // The rows of a table, in order.
 ghost use Rattle.std.specs.Prelude.{◌≡◌, [], ◌↔◌, All, AllPairs, IsTrue, OnOk};
-ghost use Rattle.continuation_table.specs.Counting.{HaveSameNext, IsPlaceIn, IsRowAdded, IsWithinCount, counted};
+ghost use Rattle.continuation_table.specs.Counting.{
+  HaveSameNext,
+  IsPlaceIn,
+  IsRowAdded,
+  IsWithinCount,
+  counted,
+};
 ghost use Rattle.continuation_table.specs.Table.{IsRowBefore, tally_of};
 
 use crate::{Row, Tally};
@@ -9,7 +15,12 @@ use pattern_images::{Hit, Next};
 
 // The row of a continuation that one hit has.
 pub(crate) fn first_row(next: Next, hit: &Hit) -> Row
-    ensures { result ≡ record { colour = next.colour; x = next.x; y = next.y; tally = counted (tally_of []) hit.now } }
+    ensures { result ≡ record {
+      colour = next.colour;
+      x = next.x;
+      y = next.y;
+      tally = counted (tally_of []) hit.now;
+    } }
 {
     Row {
         colour: next.colour,
@@ -22,7 +33,8 @@ pub(crate) fn first_row(next: Next, hit: &Hit) -> Row
 // Adds a hit to the row of its continuation. If there is none, the new row is put in.
 pub(crate) fn add_to_row(rows: &mut Vec<Row>, new: Row, hit: &Hit) -> Result<(), NoMemory>
     requires ordered { AllPairs IsRowBefore rows.old.items }
-    requires room { All (λ (row : Row). IsWithinCount 18446744073709551614 row.tally) rows.old.items }
+    requires room { All (λ (row : Row). IsWithinCount 18446744073709551614 row.tally)
+        rows.old.items }
     ensures { OnOk result (IsRowAdded hit.now rows.old.items new rows.new.items) }
 {
     let i = place_in(rows.as_slice(), new);

@@ -49,7 +49,8 @@ impl Table {
         Ok(Table { rows, totals })
     }
 
-    /// The rows: one for each colour and point by which a hit goes on, black first, then by `y`, then by `x`.
+    /// The rows: one for each colour and point by which a hit goes on, black first, then by `y`,
+    /// then by `x`.
     pub fn rows(&self) -> &[Row]
         ensures { result.now ≡ self.now.rows }
     {

@@ -7,8 +7,8 @@ use crate::own_frame::own_colour;
 use kb_geometry::{Colour, Outcome};
 use pattern_images::Hit;
 
-/// Six numbers of a list of hits. The sides are those of the pattern: where a hit's label exchanges the colours, a game
-/// that White won is a win of the pattern's black.
+/// Six numbers of a list of hits. The sides are those of the pattern: where a hit's label exchanges
+/// the colours, a game that White won is a win of the pattern's black.
 #[derive(Clone, Copy, Debug, PartialEq, Eq, Hash)]
 pub struct Tally {
     /// How many hits.

@@ -11,8 +11,8 @@ use std::alloc::Global;
 use std::process::Abort;
 use std::test::Fail;
 
-// A query: the pattern's columns, rows and cells, whether the colours and the directions stay, and where the pattern's
-// upper left point may stand.
+// A query: the pattern's columns, rows and cells, whether the colours and the directions stay, and
+// where the pattern's upper left point may stand.
 type Asked = ((u8, u8, &'static str), bool, bool, Option<(u8, u8)>);
 
 // A continuation: its colour, its column and row, and whether it comes at once.
@@ -153,7 +153,8 @@ fn no_move_comes_in_the_rectangle(rt: HostRuntime) -> Result<(), Fail> {
     Ok(())
 }
 
-// A text, a search, a node, the upper left point and label of a placement there, and how it goes on.
+// A text, a search, a node, the upper left point and label of a placement there, and how it goes
+// on.
 type Continued = (
     &'static str,
     Asked,
@@ -278,7 +279,8 @@ fn half_wildcards_are_kept_or_lost(rt: HostRuntime) -> Result<(), Fail> {
         ("(;SZ[9]AW[aa];AB[aa];W[ba])", no_black, 0, 0, None),
         // It doesn't hold at the node.
         ("(;SZ[9]AW[aa];AE[aa];W[ba])", no_white, 0, 0, None),
-        // An exchange of the colours makes the other half wildcard of it, and the move is told in the pattern's colours.
+        // An exchange of the colours makes the other half wildcard of it, and the move is told in
+        // the pattern's colours.
         ("(;SZ[9]AW[aa];AE[aa];W[ba])", no_white, 0, 8, black),
         ("(;SZ[9]AB[aa];AE[aa];B[ba])", no_black, 0, 8, white),
         ("(;SZ[9]AB[aa];AE[aa];W[ba])", no_white, 0, 8, None),

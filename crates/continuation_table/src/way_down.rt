@@ -8,7 +8,14 @@ ghost use Rattle.node_position.specs.Games.{AreNodeChanges};
 ghost use Rattle.pattern_images.specs.declared.hit.Next.{Next};
 ghost use Rattle.pattern_images.specs.ImageList.{IsPlaceOf, placement_at};
 ghost use Rattle.pattern_images.specs.Placements.{Covers, Placement};
-ghost use Rattle.continuation_table.specs.Continuation.{HasMoveInside, HoldsAt, IsContinuation, IsMoveInside, IsTurnedBack, own_colour};
+ghost use Rattle.continuation_table.specs.Continuation.{
+  HasMoveInside,
+  HoldsAt,
+  IsContinuation,
+  IsMoveInside,
+  IsTurnedBack,
+  own_colour,
+};
 
 use crate::changes::{covers, still_holds};
 use crate::own_frame::{own_colour, own_point};
@@ -17,12 +24,13 @@ use game_tree::{GameTree, Move};
 use kb_geometry::{Colour, Point};
 use pattern_images::{Images, Next, Place};
 
-/// The continuation of the placement with number `i` at a node where it holds: the first move on the way down by first
-/// children whose point lies in the placement's rectangle, if the placement holds as far as to the parent of its node.
-/// `None` exactly where there is none.
+/// The continuation of the placement with number `i` at a node where it holds: the first move on
+/// the way down by first children whose point lies in the placement's rectangle, if the placement
+/// holds as far as to the parent of its node. `None` exactly where there is none.
 ///
-/// The deltas are those of the tree, and the images are for its board. Nothing is allocated, and no position is built:
-/// the cost is that of the nodes down to the move, or to the first one where the placement doesn't hold.
+/// The deltas are those of the tree, and the images are for its board. Nothing is allocated, and no
+/// position is built: the cost is that of the nodes down to the move, or to the first one where the
+/// placement doesn't hold.
 pub fn next_below(
     tree: &GameTree,
     deltas: &NodeDeltas,
@@ -35,8 +43,11 @@ pub fn next_below(
     requires placement { i < length images.now.placements }
     requires node { node < node_count tree.now }
     requires holds { HoldsAt deltas.now (placement_at images.now.placements i) node }
-    ensures some { IfSome result (λ next. IsContinuation tree.now deltas.now (placement_at images.now.placements i) node next) }
-    ensures none { IfNone result ((next : Next) → ¬ IsContinuation tree.now deltas.now (placement_at images.now.placements i) node next) }
+    ensures some { IfSome result
+        (λ next. IsContinuation tree.now deltas.now (placement_at images.now.placements i) node
+        next) }
+    ensures none { IfNone result ((next : Next) →
+        ¬ IsContinuation tree.now deltas.now (placement_at images.now.placements i) node next) }
 {
     let place = images.place(i);
     let mut here = node;
@@ -65,7 +76,8 @@ fn move_inside(tree: &GameTree, place: Place, node: u32) -> Option<Inside>
     requires { node < node_count tree.now }
     ensures some { IfSome result (λ inside. (placement : Placement) → IsPlaceOf placement place →
         IsMoveInside tree.now placement node inside.colour inside.point) }
-    ensures none { IfNone result ((placement : Placement) → IsPlaceOf placement place → ¬ HasMoveInside tree.now placement node) }
+    ensures none { IfNone result ((placement : Placement) → IsPlaceOf placement place →
+        ¬ HasMoveInside tree.now placement node) }
 {
     match tree.played(node) {
         Some(
@@ -83,8 +95,10 @@ fn next_by(images: &Images, i: usize, colour: Colour, point: Point, now: bool) -
     requires placement { i < length images.now.placements }
     requires inside { Covers (placement_at images.now.placements i) point }
     ensures now { result.now ≡ now }
-    ensures point { IsTurnedBack (placement_at images.now.placements i) point (point_of result.x result.y) }
-    ensures colour { result.colour ≡ own_colour (placement_at images.now.placements i).label colour }
+    ensures point { IsTurnedBack (placement_at images.now.placements i) point
+        (point_of result.x result.y) }
+    ensures colour { result.colour
+        ≡ own_colour (placement_at images.now.placements i).label colour }
 {
     let own = own_point(images, i, point);
     Next {

@@ -7,7 +7,8 @@ use Rattle.game_tree.specs.declared.node.Move.{Move}
 use Rattle.game_tree.specs.Information.{Information, no_information}
 use Rattle.game_tree.specs.Tree.{Tree, Node, IsNodeOnBoard, node_count, node_at, parent_of}
 
--- the board, the nodes that were read, the setups so far of the node that is being read, and the number of all setups
+-- the board, the nodes that were read, the setups so far of the node that is being read, and the
+-- number of all setups
 pub record Built : Type 0 where
   pub shape : Shape
   pub nodes : List Node

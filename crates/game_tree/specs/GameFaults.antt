@@ -11,8 +11,9 @@ use Rattle.game_tree.specs.Property.{first_pair, offset_of}
 use Rattle.game_tree.specs.Roots.{IsOtherGame, IsSecond}
 use Rattle.game_tree.specs.ValueFaults.{IsBoard}
 
--- The game has this fault at this offset: its root says that it is another game, or has no size; a node's values are faulty on
--- the game's board; or, whether the game has a board or not, a node has a second move.
+-- The game has this fault at this offset: its root says that it is another game, or has no size; a
+-- node's values are faulty on the game's board; or, whether the game has a board or not, a node has
+-- a second move.
 pub data HasGameFault (text : List ℕ) (raw : RawGame) : FaultKind → ℕ → Type 0 where
   other_game : (pair : Pair) →
       first_pair text raw (codes "GM") ≡ Some pair →

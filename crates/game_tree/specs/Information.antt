@@ -13,7 +13,14 @@ pub record Information : Type 0 where
 
 -- a game of which nothing is told
 abbrev pub no_information : Information
-no_information = record { black = []; white = []; event = []; place = []; date = []; outcome_text = [] }
+no_information = record {
+  black = [];
+  white = [];
+  event = [];
+  place = [];
+  date = [];
+  outcome_text = [];
+}
 
 -- a text without control characters: no byte is below the space
 abbrev pub HasNoControls : List ℕ → Type 0

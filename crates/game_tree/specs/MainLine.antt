@@ -5,4 +5,5 @@ use Rattle.game_tree.specs.Tree.{Tree, first_child_of}
 -- the node lies on the main line
 pub data IsOnMainLine (tree : Tree) : ℕ → Type 0 where
   root : IsOnMainLine tree 0
-  first_child : {m n : ℕ} → IsOnMainLine tree m → first_child_of tree m ≡ Some n → IsOnMainLine tree n
+  first_child : {m n : ℕ} → IsOnMainLine tree m → first_child_of tree m ≡ Some n →
+      IsOnMainLine tree n

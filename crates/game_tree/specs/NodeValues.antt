@@ -29,8 +29,10 @@ pub record LiesIn (end : ℕ) (pair : Pair) : Type 0 where
 abbrev pub Ascend : List Pair → Type 0
 Ascend pairs = AllPairs (λ (a b : Pair). a.value.from < b.value.from) pairs
 
--- A value of a node whose board is this has this fault by itself: it is a move behind so many others, or no form of its kind.
-pub data HasPairFault (text : List ℕ) (shape : Shape) (before : List Pair) (pair : Pair) : FaultKind → Type 0 where
+-- A value of a node whose board is this has this fault by itself: it is a move behind so many
+-- others, or no form of its kind.
+pub data HasPairFault (text : List ℕ) (shape : Shape) (before : List Pair)
+    (pair : Pair) : FaultKind → Type 0 where
   second_of_two : IsMove text pair →
       count_by (λ (p : Pair). is_some (mover_of text p)) before ≡ 1 →
       HasPairFault text shape before pair kind.TwoMoves
@@ -42,7 +44,8 @@ pub data HasPairFault (text : List ℕ) (shape : Shape) (before : List Pair) (pa
       HasPairFault text shape before pair kind.BadPoint
 
 -- one of these values, each by those before it, has this fault at this offset
-pub record HasNodeFault (text : List ℕ) (shape : Shape) (pairs : List Pair) (of : FaultKind) (at : ℕ) : Type 0 where
+pub record HasNodeFault (text : List ℕ) (shape : Shape) (pairs : List Pair) (of : FaultKind)
+    (at : ℕ) : Type 0 where
   pub before : List Pair
   pub pair : Pair
   pub after : List Pair
@@ -52,10 +55,12 @@ pub record HasNodeFault (text : List ℕ) (shape : Shape) (pairs : List Pair) (o
 
 -- the one fault comes before the other, or is it; at one offset TwoMoves comes first
 abbrev pub ComesFirst : FaultKind → ℕ → FaultKind → ℕ → Type 0
-ComesFirst of at other offset = (at < offset) ⊎ ((at ≡ offset) × ((other ≡ of) ⊎ (of ≡ kind.TwoMoves)))
+ComesFirst of at other offset = (at < offset)
+    ⊎ ((at ≡ offset) × ((other ≡ of) ⊎ (of ≡ kind.TwoMoves)))
 
 -- the first fault of these values
-pub record IsFirstNodeFault (text : List ℕ) (shape : Shape) (pairs : List Pair) (of : FaultKind) (at : ℕ) : Type 0 where
+pub record IsFirstNodeFault (text : List ℕ) (shape : Shape) (pairs : List Pair) (of : FaultKind)
+    (at : ℕ) : Type 0 where
   pub there : HasNodeFault text shape pairs of at
   pub first : (other : FaultKind) (offset : ℕ) →
       HasNodeFault text shape pairs other offset →
@@ -71,7 +76,8 @@ with_setups b setups = record {
 }
 
 -- what the values of a node do: setups in order and at most one move, and none of them has a fault
-pub record AreValuesRead (text : List ℕ) (shape : Shape) (pairs : List Pair) (setups : List Setup) (played : Option Move) : Type 0 where
+pub record AreValuesRead (text : List ℕ) (shape : Shape) (pairs : List Pair) (setups : List Setup)
+    (played : Option Move) : Type 0 where
   pub sets : AreSetups text shape pairs setups
   pub plays : IsPlayedBy text shape pairs played
   pub no_fault : (of : FaultKind) (at : ℕ) → ¬ HasNodeFault text shape pairs of at
@@ -85,8 +91,10 @@ setups_of cell (Some rect) = record { cell = cell; rect = rect } ∷ []
 abbrev pub IsMoveOnBoard : Shape → Move → Type 0
 IsMoveOnBoard shape m = IfSome m.point (λ (p : Point). IsOnBoard shape p)
 
--- What one value does, by the move so far: it is the first move, it sets up a rectangle or nothing, or it does nothing.
-pub data IsValueRead (text : List ℕ) (shape : Shape) (pair : Pair) : Option Move → Option Move → List Setup → Type 0 where
+-- What one value does, by the move so far: it is the first move, it sets up a rectangle or nothing,
+-- or it does nothing.
+pub data IsValueRead (text : List ℕ) (shape : Shape) (pair : Pair) : Option Move → Option Move →
+    List Setup → Type 0 where
   plays : (colour : Colour) (point : Option Point) →
       mover_of text pair ≡ Some colour →
       IsMoveValue shape (bytes_of text pair.value) point →
@@ -102,7 +110,8 @@ pub data IsValueRead (text : List ℕ) (shape : Shape) (pair : Pair) : Option Mo
       IsValueRead text shape pair played played []
 
 -- What is wrong with one value, by the move so far.
-pub data IsValueBad (text : List ℕ) (shape : Shape) (pair : Pair) : Option Move → FaultKind → Type 0 where
+pub data IsValueBad (text : List ℕ) (shape : Shape) (pair : Pair) : Option Move → FaultKind →
+    Type 0 where
   second_move : {m : Move} → IsMove text pair → IsValueBad text shape pair (Some m) kind.TwoMoves
   no_move : IsMove text pair →
       ((move : Option Point) → ¬ IsMoveValue shape (bytes_of text pair.value) move) →

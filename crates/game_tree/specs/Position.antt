@@ -22,10 +22,11 @@ abbrev pub position_above : Tree → List Position → ℕ → Position
 position_above tree positions n =
     option_map_or (λ m. slice_index_or positions m []) (parent_of tree n) (empty_board tree.shape)
 
--- These are the positions at the nodes: each comes from the one at the node's parent, or from the empty board at
--- the root, by the node's setups in order and then its move.
+-- These are the positions at the nodes: each comes from the one at the node's parent, or from the
+-- empty board at the root, by the node's setups in order and then its move.
 pub record ArePositions (tree : Tree) (positions : List Position) : Type 0 where
   pub each_node : length positions ≡ node_count tree
   pub steps : (n : ℕ) →
       n < node_count tree →
-      IsMoved tree.shape (set_up_all tree.shape (position_above tree positions n) (node_at tree n).setups) (node_at tree n).played (slice_index_or positions n [])
+      IsMoved tree.shape (set_up_all tree.shape (position_above tree positions n)
+      (node_at tree n).setups) (node_at tree n).played (slice_index_or positions n [])

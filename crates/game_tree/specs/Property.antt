@@ -75,8 +75,8 @@ root_pairs raw = option_map_or (λ (node : RawNode). node.pairs) (slice_get raw.
 abbrev pub first_pair : List ℕ → RawGame → List ℕ → Option Pair
 first_pair text raw name = find (is_of text name) (root_pairs raw)
 
--- White space, bytes up to the space, at either end of a value is ignored: what is left begins and ends
--- with other bytes.
+-- White space, bytes up to the space, at either end of a value is ignored: what is left begins and
+-- ends with other bytes.
 pub record IsTrimmed (value inner : List ℕ) : Type 0 where
   pub before : List ℕ
   pub after : List ℕ

@@ -23,15 +23,17 @@ pub record IsOfText (text : List ℕ) (raw : RawGame) : Type 0 where
   pub there : Contains collection.games raw
 
 -- the node was read: its setups and its move were added to what was built
-pub record IsNodeRead (text : List ℕ) (shape : Shape) (node : RawNode) (before after : Built) : Type 0 where
+pub record IsNodeRead (text : List ℕ) (shape : Shape) (node : RawNode)
+    (before after : Built) : Type 0 where
   pub setups : List Setup
   pub played : Option Move
   pub read : AreValuesRead text shape node.pairs setups played
   pub added : after ≡ with_node (with_setups before setups) node.parent played
 
--- What is wrong with a root: its values have a first fault, and this is that fault or the game's, the first of them; or its
--- values have none, and this is the game's.
-pub data IsRootBad (text : List ℕ) (shape : Shape) (root : RawNode) (game : Option SgfFault) (f : SgfFault) : Type 0 where
+-- What is wrong with a root: its values have a first fault, and this is that fault or the game's,
+-- the first of them; or its values have none, and this is the game's.
+pub data IsRootBad (text : List ℕ) (shape : Shape) (root : RawNode) (game : Option SgfFault)
+    (f : SgfFault) : Type 0 where
   by_value : {of : FaultKind} {at : ℕ} →
       IsFirstNodeFault text shape root.pairs of at →
       (f ≡ record { kind = of; at = at }) ⊎ (game ≡ Some f) →
@@ -54,7 +56,8 @@ abbrev pub node_parents : List Node → List (Option ℕ)
 node_parents nodes = map (λ (node : Node). node.parent) nodes
 
 -- The first nodes of the game were read, so many: none has a fault, and they are what was built.
-pub record HasBuilt (text : List ℕ) (raw : RawGame) (shape : Shape) (k : ℕ) (b : Built) : Type 0 where
+pub record HasBuilt (text : List ℕ) (raw : RawGame) (shape : Shape) (k : ℕ)
+    (b : Built) : Type 0 where
   pub shape_is : b.shape ≡ shape
   pub parents : node_parents b.nodes ≡ take k (raw_parents raw.nodes)
   pub nodes : AllZip (IsNodeOf text shape) (take k raw.nodes) b.nodes

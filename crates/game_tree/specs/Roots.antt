@@ -21,11 +21,14 @@ first_in text pairs name = find (is_of text name) pairs
 -- The value, a game's first one of GM, is neither empty nor `1`.
 abbrev pub IsOtherGame : List ℕ → Pair → Type 0
 IsOtherGame text pair =
-    (inner : List ℕ) × IsTrimmed (bytes_of text pair.value) inner × (inner ≢ []) × (inner ≢ codes "1")
+    (inner : List ℕ) × IsTrimmed (bytes_of text pair.value) inner × (inner ≢ [])
+    × (inner ≢ codes "1")
 
--- what the values of a root say of the game: nothing is wrong, or its first GM value is of another game
+-- what the values of a root say of the game: nothing is wrong, or its first GM value is of another
+-- game
 pub data IsGameFault (text : List ℕ) (pairs : List Pair) : Option SgfFault → Type 0 where
-  same_game : ((pair : Pair) → first_in text pairs (codes "GM") ≡ Some pair → ¬ IsOtherGame text pair) →
+  same_game : ((pair : Pair) → first_in text pairs (codes "GM") ≡ Some pair →
+      ¬ IsOtherGame text pair) →
       IsGameFault text pairs None
   other_game : (pair : Pair) →
       first_in text pairs (codes "GM") ≡ Some pair →

@@ -45,7 +45,8 @@ shown_tree shape info ts setups = record {
   nodes = shown_nodes ts setups;
 }
 
--- what is being built: the setups behind those of the last node are those of the node that is being read
+-- what is being built: the setups behind those of the last node are those of the node that is being
+-- read
 abbrev pub shown_built : Shape → List TreeNode → List Setup → Built
 shown_built shape ts setups = record {
   shape = shape;
@@ -62,7 +63,8 @@ or_zero o = option_map_or (λ n. n) o 0
 abbrev pub one_if : Bool → ℕ
 one_if b = if b then 1 else 0
 
--- The nodes below this number are those of the main line: each is the child of the one before, and the next node is not.
+-- The nodes below this number are those of the main line: each is the child of the one before, and
+-- the next node is not.
 pub record IsMainEnd (tree : Tree) (main : ℕ) : Type 0 where
   pub within : main ≤ node_count tree
   pub some : 1 ≤ node_count tree → 1 ≤ main
@@ -73,7 +75,8 @@ pub record IsMainEnd (tree : Tree) (main : ℕ) : Type 0 where
 abbrev pub AreSetupEnds : List TreeNode → List Setup → Type 0
 AreSetupEnds ts setups = AreParts (end_of_setups ts) (length ts) (length setups)
 
--- the stored numbers are those of the tree: the next siblings, the moves above each node, and the end of the main line
+-- the stored numbers are those of the tree: the next siblings, the moves above each node, and the
+-- end of the main line
 pub record AreLinks (tree : Tree) (ts : List TreeNode) (main : ℕ) : Type 0 where
   pub siblings : (n : ℕ) →
       n < length ts →

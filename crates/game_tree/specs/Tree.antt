@@ -71,8 +71,8 @@ abbrev pub move_number_of : Tree → ℕ → ℕ
 move_number_of tree n = count_by (λ m. is_some (node_at tree m).played) (path_to (parent_of tree) n)
 
 -- There is a root, and the parent of each other node is the node before it, or an ancestor of that.
--- Behind a node with more than one child each child's text stands in brackets, so of the brackets of
--- the written text at most 1,024 are open at one time, that of the whole tree among them.
+-- Behind a node with more than one child each child's text stands in brackets, so of the brackets
+-- of the written text at most 1,024 are open at one time, that of the whole tree among them.
 pub record IsTree (tree : Tree) : Type 0 where
   pub some : 1 ≤ node_count tree
   pub most : node_count tree ≤ 65536

@@ -53,7 +53,8 @@ pub data AreSetups (text : List ℕ) (shape : Shape) : List Pair → List Setup 
       AreSetups text shape pairs setups →
       AreSetups text shape (pair ∷ pairs) (record { cell = cell; rect = rect } ∷ setups)
 
--- what these values of a node play: the value of B or W, if there is one, and there is no second one
+-- what these values of a node play: the value of B or W, if there is one, and there is no second
+-- one
 pub data IsPlayedBy (text : List ℕ) (shape : Shape) : List Pair → Option Move → Type 0 where
   none : IsPlayedBy text shape [] None
   other : {pair : Pair} {pairs : List Pair} {played : Option Move} →

@@ -1,4 +1,5 @@
--- The forms of values: sizes, points, moves and setups. White space at either end of a value is ignored.
+-- The forms of values: sizes, points, moves and setups. White space at either end of a value is
+-- ignored.
 use Rattle.std.specs.Prelude.{◌≡◌, ◌⊎◌, ℕ, ◌+◌, ◌-◌, ◌≤◌, List, [], ◌∷◌, ◌++◌, Option, Some, None, codes, min, max}
 use Rattle.std.specs.Str.Parse.{IsNumeral, digits_value}
 use Rattle.kb_geometry.specs.declared.shape.Point.{Point}
@@ -38,8 +39,8 @@ pub data IsPoint (shape : Shape) : List ℕ → Point → Type 0 where
       IsOnBoard shape p →
       IsPoint shape (column ∷ row ∷ []) p
 
--- What a move's value says: a point of the board, or a pass. A pass is the empty value, and `tt` on boards
--- of at most 19 by 19; on larger ones `tt` is a point as all others are.
+-- What a move's value says: a point of the board, or a pass. A pass is the empty value, and `tt` on
+-- boards of at most 19 by 19; on larger ones `tt` is a point as all others are.
 pub data IsMoveText (shape : Shape) : List ℕ → Option Point → Type 0 where
   point : {text : List ℕ} {p : Point} → IsPoint shape text p → IsMoveText shape text (Some p)
   pass : IsMoveText shape [] None
@@ -49,18 +50,23 @@ pub data IsMoveText (shape : Shape) : List ℕ → Option Point → Type 0 where
 abbrev pub rect_of : Point → Point → Rect
 rect_of p q = record { x0 = min p.x q.x; y0 = min p.y q.y; x1 = max p.x q.x; y1 = max p.y q.y }
 
--- what a setup's value says: a point, or two points with a colon, opposite corners of a rectangle in either order;
--- the empty value is ignored
+-- what a setup's value says: a point, or two points with a colon, opposite corners of a rectangle
+-- in either order; the empty value is ignored
 pub data IsSetupText (shape : Shape) : List ℕ → Option Rect → Type 0 where
-  one_point : {text : List ℕ} {p : Point} → IsPoint shape text p → IsSetupText shape text (Some (rect_of p p))
+  one_point : {text : List ℕ} {p : Point} → IsPoint shape text p →
+      IsSetupText shape text (Some (rect_of p p))
   rectangle : {p q : Point} (one other : List ℕ) →
-      IsPoint shape one p → IsPoint shape other q → IsSetupText shape (one ++ colon ∷ other) (Some (rect_of p q))
+      IsPoint shape one p →
+      IsPoint shape other q →
+      IsSetupText shape (one ++ colon ∷ other) (Some (rect_of p q))
   ignored : IsSetupText shape [] None
 
 -- the value of a move, with white space at either end
 abbrev pub IsMoveValue : Shape → List ℕ → Option Point → Type 0
-IsMoveValue shape value move = (inner : List ℕ) × IsTrimmed value inner × IsMoveText shape inner move
+IsMoveValue shape value move = (inner : List ℕ) × IsTrimmed value inner
+    × IsMoveText shape inner move
 
 -- the value of a setup, with white space at either end
 abbrev pub IsSetupValue : Shape → List ℕ → Option Rect → Type 0
-IsSetupValue shape value rect = (inner : List ℕ) × IsTrimmed value inner × IsSetupText shape inner rect
+IsSetupValue shape value rect = (inner : List ℕ) × IsTrimmed value inner
+    × IsSetupText shape inner rect

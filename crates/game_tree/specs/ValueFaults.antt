@@ -13,7 +13,8 @@ use Rattle.sgf_reader.specs.declared.fault.FaultKind.TheVariants as kind
 use Rattle.game_tree.specs.Property.{IsTrimmed, bytes_of, first_pair, mover_of, offset_of, setter_of}
 use Rattle.game_tree.specs.Value.{IsMoveValue, IsSetupValue, IsSize}
 
--- What the first SZ value of a root says of the board: it is 19 by 19 where there is none or an empty one.
+-- What the first SZ value of a root says of the board: it is 19 by 19 where there is none or an
+-- empty one.
 pub data IsBoardOf (text : List ℕ) : Option Pair → Shape → Type 0 where
   no_value : {shape : Shape} → cols_of shape ≡ 19 → rows_of shape ≡ 19 → IsBoardOf text None shape
   empty : {pair : Pair} {shape : Shape} →
@@ -34,8 +35,8 @@ IsBoard text raw shape = IsBoardOf text (first_pair text raw (codes "SZ")) shape
 abbrev pub IsMove : List ℕ → Pair → Type 0
 IsMove text pair = IsTrue (is_some (mover_of text pair))
 
--- The collection of the text has this fault at this offset, that of the value's `[`. Only the first GM and
--- SZ values of a root count. In a game whose size is bad no value is a BadPoint.
+-- The collection of the text has this fault at this offset, that of the value's `[`. Only the first
+-- GM and SZ values of a root count. In a game whose size is bad no value is a BadPoint.
 pub data HasValueFault (text : List ℕ) (collection : Collection) : FaultKind → ℕ → Type 0 where
   not_go : {raw : RawGame} (pair : Pair) (inner : List ℕ) →
       Contains collection.games raw →
@@ -73,8 +74,8 @@ pub data HasValueFault (text : List ℕ) (collection : Collection) : FaultKind �
       count_by (λ (p : Pair). is_some (mover_of text p)) before ≡ 1 →
       HasValueFault text collection kind.TwoMoves (offset_of pair)
 
--- Of the faults of the collection's values this is the one of least offset. At one value TwoMoves comes
--- before BadPoint.
+-- Of the faults of the collection's values this is the one of least offset. At one value TwoMoves
+-- comes before BadPoint.
 pub record IsFirstValueFault (text : List ℕ) (collection : Collection) (of : FaultKind) (at : ℕ) :
     Type 0 where
   pub there : HasValueFault text collection of at

@@ -10,7 +10,8 @@ use std::marker::Model;
 #[cfg(test)]
 pub(crate) mod tests;
 
-// Takes the nodes of a game in order of the text, each with its setups and then its parent and its move.
+// Takes the nodes of a game in order of the text, each with its setups and then its parent and its
+// move.
 //
 // Contracts see it as the nodes so far, and the setups so far of the node that is being read.
 #[derive(Debug, Drop)]
@@ -37,7 +38,16 @@ impl TreeBuilder {
     ghost use Rattle.kb_geometry.specs.Board.{IsOnBoard, IsOrderedRectOnBoard};
     ghost use Rattle.game_tree.specs.declared.node.Setup.{Setup};
     ghost use Rattle.game_tree.specs.declared.node.Move.{Move};
-    ghost use Rattle.game_tree.specs.Built.{Built, nothing_built, with_setup, with_node, tree_of, tree_so_far, IsNextParent, IsGrown};
+    ghost use Rattle.game_tree.specs.Built.{
+      Built,
+      nothing_built,
+      with_setup,
+      with_node,
+      tree_of,
+      tree_so_far,
+      IsNextParent,
+      IsGrown,
+    };
     ghost use Rattle.game_tree.specs.Information.{HasSimpleTexts};
     ghost use Rattle.game_tree.specs.Tree.{IsTree, branchings_to, next_sibling_of, parent_of};
 
@@ -93,7 +103,8 @@ impl TreeBuilder {
     // The tree of the nodes so far. Setups behind the last node are dropped.
     pub(crate) fn finish(self, info: Info) -> GameTree
         requires some { 1 ≤ length self.nodes }
-        requires depth { (n : ℕ) → n < length self.nodes → branchings_to (tree_of self info) n < 1024 }
+        requires depth { (n : ℕ) → n < length self.nodes →
+            branchings_to (tree_of self info) n < 1024 }
         requires texts { HasSimpleTexts info }
         ensures value { result ≡ tree_of self info }
         ensures tree { IsTree result }

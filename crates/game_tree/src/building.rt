@@ -58,11 +58,12 @@ impl<T: Drop> From<AllocFailed<T>> for BuildError {
     }
 }
 
-/// Builds the game trees of a collection that [`sgf_reader::read`] gave for this text, one for each game, in
-/// order, or answers the first fault of its values.
+/// Builds the game trees of a collection that [`sgf_reader::read`] gave for this text, one for each
+/// game, in order, or answers the first fault of its values.
 ///
-/// A value's fault is of the kinds from `NotGo` to `TwoMoves`, and its place is the offset of the value's
-/// `[`. That of least offset is answered, and at one value `TwoMoves` comes before `BadPoint`.
+/// A value's fault is of the kinds from `NotGo` to `TwoMoves`, and its place is the offset of the
+/// value's `[`. That of least offset is answered, and at one value `TwoMoves` comes before
+/// `BadPoint`.
 pub fn build(
     alloc: Global,
     text: &[u8],
@@ -70,8 +71,10 @@ pub fn build(
 ) -> Result<Vec<GameTree>, BuildError>
     requires { IsRead text.now collection.now }
     ensures ok { IfOk result (λ trees. AreTreesOf text.now collection.now trees.items) }
-    ensures no_fault { IfOk result (λ _. (kind : FaultKind) (at : ℕ) → ¬ HasValueFault text.now collection.now kind at) }
-    ensures fault { (f : SgfFault) → result ≡ Err (Fault f) → IsFirstValueFault text.now collection.now f.kind f.at }
+    ensures no_fault { IfOk result (λ _. (kind : FaultKind) (at : ℕ) →
+        ¬ HasValueFault text.now collection.now kind at) }
+    ensures fault { (f : SgfFault) → result ≡ Err (Fault f) →
+        IsFirstValueFault text.now collection.now f.kind f.at }
 {
     let mut trees = Vec::new(alloc);
     for raw in collection.games.as_slice() {

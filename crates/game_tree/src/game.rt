@@ -1,5 +1,28 @@
 // One game: from its raw nodes to its tree.
-ghost use Rattle.std.specs.Prelude.{◌≡◌, ◌⊎◌, ◌≤◌, ◌<◌, ◌+◌, ◌∷◌, ◌++◌, ℕ, List, [], length, map, get_or, All, Contains, Option, Some, None, IfOk, IfErr, IfSome, Err};
+ghost use Rattle.std.specs.Prelude.{
+  ◌≡◌,
+  ◌⊎◌,
+  ◌≤◌,
+  ◌<◌,
+  ◌+◌,
+  ◌∷◌,
+  ◌++◌,
+  ℕ,
+  List,
+  [],
+  length,
+  map,
+  get_or,
+  All,
+  Contains,
+  Option,
+  Some,
+  None,
+  IfOk,
+  IfErr,
+  IfSome,
+  Err,
+};
 ghost use Rattle.kb_geometry.specs.declared.shape.Shape.{Shape};
 ghost use Rattle.sgf_reader.specs.declared.collection.RawNode.{RawNode};
 ghost use Rattle.sgf_reader.specs.declared.fault.FaultKind.{FaultKind};
@@ -23,12 +46,15 @@ use kb_geometry::{NoMemory, Shape};
 use sgf_reader::{Pair, RawGame, RawNode, SgfFault};
 use std::alloc::Global;
 
-// The tree of a raw game of a text without a fault of its syntax, or the first fault of the game's values.
+// The tree of a raw game of a text without a fault of its syntax, or the first fault of the game's
+// values.
 pub(crate) fn build_game(alloc: Global, text: &[u8], raw: &RawGame) -> Result<GameTree, BuildError>
     requires read { IsOfText text.now raw.now }
     ensures ok { IfOk result (λ tree. IsTreeOf text.now raw.now tree) }
-    ensures no_fault { IfOk result (λ _. (of : FaultKind) (at : ℕ) → ¬ HasGameFault text.now raw.now of at) }
-    ensures fault { (f : SgfFault) → result ≡ Err (Fault f) → IsFirstGameFault text.now raw.now f.kind f.at }
+    ensures no_fault { IfOk result (λ _. (of : FaultKind) (at : ℕ) →
+        ¬ HasGameFault text.now raw.now of at) }
+    ensures fault { (f : SgfFault) → result ≡ Err (Fault f) →
+        IsFirstGameFault text.now raw.now f.kind f.at }
 {
     let (root, _) = root_and_others(raw.nodes.as_slice());
     let pairs = root.pairs.as_slice();
@@ -54,8 +80,10 @@ fn build_on(
     requires board { IsBoard text.now raw.now shape }
     requires game { IsGameFault text.now (root_pairs raw.now) game }
     ensures ok { IfOk result (λ tree. IsTreeOf text.now raw.now tree) }
-    ensures no_fault { IfOk result (λ _. (of : FaultKind) (at : ℕ) → ¬ HasGameFault text.now raw.now of at) }
-    ensures fault { (f : SgfFault) → result ≡ Err (Fault f) → IsFirstGameFault text.now raw.now f.kind f.at }
+    ensures no_fault { IfOk result (λ _. (of : FaultKind) (at : ℕ) →
+        ¬ HasGameFault text.now raw.now of at) }
+    ensures fault { (f : SgfFault) → result ≡ Err (Fault f) →
+        IsFirstGameFault text.now raw.now f.kind f.at }
 {
     let (root, others) = root_and_others(raw.nodes.as_slice());
     let mut builder = TreeBuilder::new(alloc, shape);
@@ -91,7 +119,8 @@ fn read_others(
     requires read { IsOfText text.now raw.now }
     requires others { (root : RawNode) × (raw.now.nodes ≡ root ∷ others.now) }
     requires root { HasBuilt text.now raw.now shape 1 builder.old }
-    ensures ok { IfOk result (λ _. HasBuilt text.now raw.now shape (length raw.now.nodes) builder.new) }
+    ensures ok { IfOk result
+        (λ _. HasBuilt text.now raw.now shape (length raw.now.nodes) builder.new) }
     ensures fault { (f : SgfFault) → result ≡ Err (Fault f) → IsNodeBad text.now raw.now shape f }
 {
     for node in others {
@@ -115,8 +144,10 @@ fn read_root(
     requires room { length root.now.pairs < 4294967295 }
     requires inside { All (LiesIn (length text.now)) root.now.pairs }
     requires ascending { Ascend root.now.pairs }
-    ensures ok { IfOk result (λ _. (game ≡ None) × IsNodeRead text.now shape root.now builder.old builder.new) }
-    ensures fault { (f : SgfFault) → result ≡ Err (Fault f) → IsRootBad text.now shape root.now game f }
+    ensures ok { IfOk result (λ _. (game ≡ None)
+        × IsNodeRead text.now shape root.now builder.old builder.new) }
+    ensures fault { (f : SgfFault) → result ≡ Err (Fault f) →
+        IsRootBad text.now shape root.now game f }
 {
     match read_values(text, shape, root.pairs.as_slice(), builder) {
         Err(BuildError::Fault(fault)) => Err(BuildError::Fault(first_fault(fault, game))),

@@ -1,12 +1,41 @@
 // The values of one node: its setups, its move, and their faults.
-ghost use Rattle.std.specs.Prelude.{◌≡◌, ◌+◌, ◌<◌, ◌≤◌, ℕ, List, [], ◌∷◌, ◌++◌, length, All, Option, Some, None, IfOk, IfErr, IfSome, Err};
+ghost use Rattle.std.specs.Prelude.{
+  ◌≡◌,
+  ◌+◌,
+  ◌<◌,
+  ◌≤◌,
+  ℕ,
+  List,
+  [],
+  ◌∷◌,
+  ◌++◌,
+  length,
+  All,
+  Option,
+  Some,
+  None,
+  IfOk,
+  IfErr,
+  IfSome,
+  Err,
+};
 ghost use Rattle.kb_geometry.specs.declared.shape.Point.{Point};
 ghost use Rattle.kb_geometry.specs.Board.{IsOnBoard};
 ghost use Rattle.sgf_reader.specs.declared.fault.SgfFault.{SgfFault};
 ghost use Rattle.game_tree.specs.declared.node.Move.{Move};
 ghost use Rattle.game_tree.specs.declared.node.Setup.{Setup};
 ghost use Rattle.game_tree.specs.declared.building.BuildError.TheVariants.{Fault, NoMemory};
-ghost use Rattle.game_tree.specs.NodeValues.{AreValuesRead, Ascend, IsFirstNodeFault, IsMoveOnBoard, IsValueBad, IsValueRead, LiesIn, setups_of, with_setups};
+ghost use Rattle.game_tree.specs.NodeValues.{
+  AreValuesRead,
+  Ascend,
+  IsFirstNodeFault,
+  IsMoveOnBoard,
+  IsValueBad,
+  IsValueRead,
+  LiesIn,
+  setups_of,
+  with_setups,
+};
 ghost use Rattle.game_tree.specs.Value.{IsSetupValue};
 ghost use Rattle.sgf_reader.specs.declared.fault.FaultKind.TheVariants as kind;
 ghost use Rattle.kb_geometry.specs.declared.shape.Rect.{Rect};
@@ -74,9 +103,11 @@ fn read_value(
     requires shape { builder.old.shape ≡ shape }
     requires room { builder.old.setup_count < 4294967295 }
     requires inside { LiesIn (length text.now) pair.now }
-    ensures ok { IfOk result (λ _. (setups : List Setup) × IsValueRead text.now shape pair.now played.old played.new setups
+    ensures ok { IfOk result (λ _. (setups : List Setup)
+        × IsValueRead text.now shape pair.now played.old played.new setups
         × (builder.new ≡ with_setups builder.old setups)) }
-    ensures on_board { IfSome played.old (IsMoveOnBoard shape) → IfSome played.new (IsMoveOnBoard shape) }
+    ensures on_board { IfSome played.old (IsMoveOnBoard shape) →
+        IfSome played.new (IsMoveOnBoard shape) }
     ensures fault { (f : SgfFault) → result ≡ Err (Fault f) →
         (f.at ≡ offset_of pair.now) × IsValueBad text.now shape pair.now played.old f.kind }
 {
@@ -98,7 +129,8 @@ fn read_move(
     requires inside { LiesIn (length text.now) pair.now }
     requires mover { mover_of text.now pair.now ≡ Some colour }
     ensures ok { IfOk result (λ _. IsValueRead text.now shape pair.now played.old played.new []) }
-    ensures on_board { IfSome played.old (IsMoveOnBoard shape) → IfSome played.new (IsMoveOnBoard shape) }
+    ensures on_board { IfSome played.old (IsMoveOnBoard shape) →
+        IfSome played.new (IsMoveOnBoard shape) }
     ensures fault { (f : SgfFault) → result ≡ Err (Fault f) →
         (f.at ≡ offset_of pair.now) × IsValueBad text.now shape pair.now played.old f.kind }
 {
@@ -126,7 +158,8 @@ fn read_setup(
     requires room { builder.old.setup_count < 4294967295 }
     requires inside { LiesIn (length text.now) pair.now }
     requires setter { setter_of text.now pair.now ≡ Some cell }
-    ensures ok { IfOk result (λ _. (rect : Option Rect) × IsSetupValue shape (bytes_of text.now pair.now.value) rect
+    ensures ok { IfOk result (λ _. (rect : Option Rect)
+        × IsSetupValue shape (bytes_of text.now pair.now.value) rect
         × (builder.new ≡ with_setups builder.old (setups_of cell rect))) }
     ensures fault { (f : SgfFault) → result ≡ Err (Fault f) →
         (f.at ≡ offset_of pair.now) × (f.kind ≡ kind.BadPoint)

@@ -1,5 +1,19 @@
 // The properties of a node, by their identifiers.
-ghost use Rattle.std.specs.Prelude.{◌≡◌, ◌≢◌, ◌≤◌, ℕ, List, [], ◌∷◌, length, filter, Some, None, IfSome, IsTrue};
+ghost use Rattle.std.specs.Prelude.{
+  ◌≡◌,
+  ◌≢◌,
+  ◌≤◌,
+  ℕ,
+  List,
+  [],
+  ◌∷◌,
+  length,
+  filter,
+  Some,
+  None,
+  IfSome,
+  IsTrue,
+};
 ghost use Rattle.std.specs.Str.{bytes_eq};
 ghost use Rattle.kb_geometry.specs.declared.stone.Cell.{Cell};
 ghost use Rattle.kb_geometry.specs.declared.stone.Colour.{Colour};

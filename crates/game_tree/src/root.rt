@@ -1,11 +1,41 @@
 // What the root of a game says of the game as a whole.
-ghost use Rattle.std.specs.Prelude.{◌≡◌, ◌≢◌, ◌≤◌, ℕ, List, [], ◌∷◌, length, All, Option, Some, None, IfOk, IfErr, IfSome, Err, IsTrue, ◌↔◌, ◌⊎◌, codes, is_some};
+ghost use Rattle.std.specs.Prelude.{
+  ◌≡◌,
+  ◌≢◌,
+  ◌≤◌,
+  ℕ,
+  List,
+  [],
+  ◌∷◌,
+  length,
+  All,
+  Option,
+  Some,
+  None,
+  IfOk,
+  IfErr,
+  IfSome,
+  Err,
+  IsTrue,
+  ◌↔◌,
+  ◌⊎◌,
+  codes,
+  is_some,
+};
 ghost use Rattle.sgf_reader.specs.declared.fault.SgfFault.{SgfFault};
 ghost use Rattle.sgf_reader.specs.declared.fault.FaultKind.TheVariants as kind;
 ghost use Rattle.kb_geometry.specs.declared.shape.Shape.{Shape};
 ghost use Rattle.game_tree.specs.NodeValues.{LiesIn};
 ghost use Rattle.game_tree.specs.Property.{bytes_of, mover_of, offset_of};
-ghost use Rattle.game_tree.specs.Roots.{first_in, letters, IsGameFault, IsOtherGame, IsInformationIn, IsSecondMove, IsSizeFault};
+ghost use Rattle.game_tree.specs.Roots.{
+  first_in,
+  letters,
+  IsGameFault,
+  IsOtherGame,
+  IsInformationIn,
+  IsSecondMove,
+  IsSizeFault,
+};
 ghost use Rattle.game_tree.specs.Trees.{IsTextOf};
 ghost use Rattle.game_tree.specs.ValueFaults.{IsBoardOf};
 

@@ -1,5 +1,21 @@
 // SimpleText (SGF FF[4], property value types): how the values of the information are read.
-ghost use Rattle.std.specs.Prelude.{◌≡◌, ◌≢◌, ◌≤◌, ◌<◌, ◌⊎◌, ◌++◌, ℕ, List, ◌∷◌, length, Option, Some, None, IfOk, IfSome};
+ghost use Rattle.std.specs.Prelude.{
+  ◌≡◌,
+  ◌≢◌,
+  ◌≤◌,
+  ◌<◌,
+  ◌⊎◌,
+  ◌++◌,
+  ℕ,
+  List,
+  ◌∷◌,
+  length,
+  Option,
+  Some,
+  None,
+  IfOk,
+  IfSome,
+};
 ghost use Rattle.std.specs.Option.{option_to_list};
 ghost use Rattle.sgf_reader.specs.Bytes.{CR, LF, backslash};
 ghost use Rattle.game_tree.specs.SimpleText.{BreaksLine, IsReadAs, IsSimpleText};
@@ -24,7 +40,8 @@ pub(crate) fn simple_text(alloc: Global, value: &[u8]) -> Result<Bytes, NoMemory
     Ok(Bytes::new(text))
 }
 
-// What the first bytes of a text are read as, if they are read as anything, and what stands behind them.
+// What the first bytes of a text are read as, if they are read as anything, and what stands behind
+// them.
 fn next_byte(text: &[u8]) -> (Option<u8>, &[u8])
     requires { 1 ≤ length text.now }
     ensures read { (more : List ℕ) → IsSimpleText result.1.now more →
@@ -82,7 +99,8 @@ fn read_as(b: u8) -> u8
 fn behind_break(text: &[u8]) -> Option<&[u8]>
     ensures some { IfSome result (λ rest. BreaksLine text.now rest.now) }
     ensures shorter { IfSome result (λ rest. length rest.now < length text.now) }
-    ensures none { result ≡ None → (b : ℕ) (rest : List ℕ) → text.now ≡ b ∷ rest → (b ≢ LF) × (b ≢ CR) }
+    ensures none { result ≡ None → (b : ℕ) (rest : List ℕ) → text.now ≡ b ∷ rest →
+        (b ≢ LF) × (b ≢ CR) }
 {
     let [b, rest @ ..] = text else {
         return None;

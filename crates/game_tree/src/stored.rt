@@ -5,10 +5,12 @@ ghost use Rattle.game_tree.specs.Stored.{setups_start};
 use crate::Move;
 use std::mem::size_of;
 
-// One node, in 16 bytes. The number of a node is less than 65,536, and that of a child is more than 0.
+// One node, in 16 bytes. The number of a node is less than 65,536, and that of a child is more than
+// 0.
 #[derive(Clone, Copy, Debug)]
 pub(crate) struct TreeNode {
-    // Where the node's setups end in the list of the tree's setups. They begin where those of the node before it end.
+    // Where the node's setups end in the list of the tree's setups. They begin where those of the
+    // node before it end.
     pub(crate) setups_end: u32,
     // The parent's number; 0 at the root, too.
     pub(crate) parent: u16,

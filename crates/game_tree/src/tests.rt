@@ -121,8 +121,8 @@ fn setups() -> [Row; 6] {
     ]
 }
 
-// What is wanted of a node's place: the first child, the next sibling, the children, the move number,
-// and whether it is on the main line.
+// What is wanted of a node's place: the first child, the next sibling, the children, the move
+// number, and whether it is on the main line.
 pub(crate) type Place = (Option<u32>, Option<u32>, [Option<u32>; 3], u32, bool);
 
 fn wanted(row: Row, place: Place) -> Seen {

@@ -11,8 +11,8 @@ use std::marker::Model;
 ///
 /// Nodes are numbered from 0, the root, in order of the text. Each node has setups and at most one
 /// move. Contracts see it as a shape, an information and a list of nodes.
-// The setups of all nodes stand in one list. The nodes below `main_line` are those of the main line: a
-// first child always has the number behind its parent's.
+// The setups of all nodes stand in one list. The nodes below `main_line` are those of the main
+// line: a first child always has the number behind its parent's.
 #[derive(Debug, Drop)]
 pub struct GameTree {
     shape: Shape,
@@ -41,7 +41,17 @@ impl GameTree {
     ghost use Rattle.game_tree.specs.declared.node.Move.{Move};
     ghost use Rattle.game_tree.specs.MainLine.{IsOnMainLine};
     ghost use Rattle.game_tree.specs.Stored.{shown_tree, IsStored};
-    ghost use Rattle.game_tree.specs.Tree.{Tree, IsTree, node_count, node_at, parent_of, children_of, first_child_of, next_sibling_of, move_number_of};
+    ghost use Rattle.game_tree.specs.Tree.{
+      Tree,
+      IsTree,
+      node_count,
+      node_at,
+      parent_of,
+      children_of,
+      first_child_of,
+      next_sibling_of,
+      move_number_of,
+    };
 
     // The tree that is stored so.
     pub(crate) fn stored(
@@ -138,7 +148,8 @@ impl GameTree {
     pub fn setups(&self, n: u32) -> &[Setup]
         requires { n < node_count self.now }
         ensures value { result.now ≡ (node_at self.now n).setups }
-        ensures on_board { All (λ (s : Setup). IsOrderedRectOnBoard self.now.shape s.rect) result.now }
+        ensures on_board { All (λ (s : Setup). IsOrderedRectOnBoard self.now.shape s.rect)
+            result.now }
     {
         let nodes = self.nodes.as_slice();
         let start = setups_start(nodes, n as usize);

@@ -1,5 +1,27 @@
 // The forms of values: sizes, points, moves and setups.
-ghost use Rattle.std.specs.Prelude.{◌≡◌, ◌≢◌, ◌+◌, ◌≤◌, ◌<◌, ◌⊎◌, ℕ, List, [], ◌∷◌, ◌++◌, All, Option, Some, None, IfSome, IfNone, IsTrue, ◌↔◌, codes, min};
+ghost use Rattle.std.specs.Prelude.{
+  ◌≡◌,
+  ◌≢◌,
+  ◌+◌,
+  ◌≤◌,
+  ◌<◌,
+  ◌⊎◌,
+  ℕ,
+  List,
+  [],
+  ◌∷◌,
+  ◌++◌,
+  All,
+  Option,
+  Some,
+  None,
+  IfSome,
+  IfNone,
+  IsTrue,
+  ◌↔◌,
+  codes,
+  min,
+};
 ghost use Rattle.std.specs.Str.Parse.{AllDigits, digits_value};
 ghost use Rattle.kb_geometry.specs.declared.shape.Point.{Point};
 ghost use Rattle.kb_geometry.specs.declared.shape.Rect.{Rect};
@@ -8,7 +30,17 @@ ghost use Rattle.kb_geometry.specs.Board.{IsOnBoard, cols_of, rows_of, IsOrdered
 ghost use Rattle.kb_geometry.specs.Side.{IsSide};
 ghost use Rattle.sgf_reader.specs.Bytes.{colon, digit_nine, digit_zero, space};
 ghost use Rattle.game_tree.specs.Property.{IsTrimmed};
-ghost use Rattle.game_tree.specs.Value.{IsCoordinate, IsMoveText, IsMoveValue, IsPoint, IsSetupText, IsSetupValue, IsSideText, IsSize, rect_of};
+ghost use Rattle.game_tree.specs.Value.{
+  IsCoordinate,
+  IsMoveText,
+  IsMoveValue,
+  IsPoint,
+  IsSetupText,
+  IsSetupValue,
+  IsSideText,
+  IsSize,
+  rect_of,
+};
 
 use kb_geometry::{MAX_SIDE, Point, Rect, Shape};
 
@@ -116,7 +148,8 @@ fn around_colon(text: &[u8]) -> Option<(&[u8], &[u8])>
 fn shape_of(cols: u8, rows: u8) -> Option<Shape>
     requires cols { IsSide cols }
     requires rows { IsSide rows }
-    ensures { (shape : Shape) × (result ≡ Some shape) × (cols_of shape ≡ cols) × (rows_of shape ≡ rows) }
+    ensures { (shape : Shape) × (result ≡ Some shape) × (cols_of shape ≡ cols)
+        × (rows_of shape ≡ rows) }
 {
     Shape::new(cols, rows)
 }
@@ -174,7 +207,8 @@ fn point_of(shape: Shape, text: &[u8]) -> Option<Point>
     }
 }
 
-// What a move's value says: a point, or no point for a pass. None is answered where it says neither.
+// What a move's value says: a point, or no point for a pass. None is answered where it says
+// neither.
 pub(crate) fn move_of(shape: Shape, value: &[u8]) -> Option<Option<Point>>
     ensures some { IfSome result (λ move. IsMoveValue shape value.now move) }
     ensures on_board { IfSome result (λ move. IfSome move (λ (p : Point). IsOnBoard shape p)) }
@@ -240,10 +274,12 @@ fn rect_at(shape: Shape, text: &[u8]) -> Option<Rect>
     }
 }
 
-// What a setup's value says: a rectangle, or nothing where it is empty. None is answered where it says neither.
+// What a setup's value says: a rectangle, or nothing where it is empty. None is answered where it
+// says neither.
 pub(crate) fn setup_of(shape: Shape, value: &[u8]) -> Option<Option<Rect>>
     ensures some { IfSome result (λ rect. IsSetupValue shape value.now rect) }
-    ensures on_board { IfSome result (λ rect. IfSome rect (λ (r : Rect). IsOrderedRectOnBoard shape r)) }
+    ensures on_board { IfSome result
+        (λ rect. IfSome rect (λ (r : Rect). IsOrderedRectOnBoard shape r)) }
     ensures none { result ≡ None → (rect : Option Rect) → ¬ IsSetupValue shape value.now rect }
 {
     let text = trimmed(value);

@@ -1,4 +1,5 @@
--- Shapes, points and rectangles: which lie on a board, the numbers of points, and which points are neighbours.
+-- Shapes, points and rectangles: which lie on a board, the numbers of points, and which points are
+-- neighbours.
 use Rattle.std.specs.Prelude.{◌≡◌, ℕ, ◌+◌, ◌*◌, ◌<◌, ◌≤◌, ◌⊎◌}
 use Rattle.kb_geometry.specs.declared.shape.Shape.{Shape}
 use Rattle.kb_geometry.specs.declared.shape.Point.{Point}
@@ -35,9 +36,11 @@ number_of shape p = p.y * cols_of shape + p.x
 
 -- one step left, right, up or down
 abbrev pub IsOneStep : Point → Point → Type 0
-IsOneStep p q = ((p.y ≡ q.y) × ((p.x + 1 ≡ q.x) ⊎ (q.x + 1 ≡ p.x))) ⊎ ((p.x ≡ q.x) × ((p.y + 1 ≡ q.y) ⊎ (q.y + 1 ≡ p.y)))
+IsOneStep p q = ((p.y ≡ q.y) × ((p.x + 1 ≡ q.x) ⊎ (q.x + 1 ≡ p.x)))
+    ⊎ ((p.x ≡ q.x) × ((p.y + 1 ≡ q.y) ⊎ (q.y + 1 ≡ p.y)))
 
--- Two points of the board, by their numbers, are neighbours if one step leads from one to the other.
+-- Two points of the board, by their numbers, are neighbours if one step leads from one to the
+-- other.
 pub record AreNeighbours (shape : Shape) (p q : ℕ) : Type 0 where
   pub from : Point
   pub to : Point

@@ -35,7 +35,8 @@ other_side colour.White = colour.Black
 -- a walk over neighbours, every point of it with this cell
 pub data Walk (shape : Shape) (position : Position) (stone : Cell) : ℕ → ℕ → Type 0 where
   stay : {p : ℕ} → cell_at position p ≡ stone → Walk shape position stone p p
-  go : {p q r : ℕ} → Walk shape position stone p q → AreNeighbours shape q r → cell_at position r ≡ stone → Walk shape position stone p r
+  go : {p q r : ℕ} → Walk shape position stone p q → AreNeighbours shape q r →
+      cell_at position r ≡ stone → Walk shape position stone p r
 
 -- q belongs to the group of p: a walk over points with the cell of p leads from p to q
 abbrev pub IsInGroup : Shape → Position → ℕ → ℕ → Type 0
@@ -56,7 +57,8 @@ pub record IsWithout (taken : ℕ → Type 0) (before after : Position) : Type 0
   pub kept : (q : ℕ) → ¬ taken q → cell_at after q ≡ cell_at before q
 
 -- q is a stone of this side in a group that touches the point and has no liberty
-pub record IsCaptured (shape : Shape) (position : Position) (side : Colour) (point q : ℕ) : Type 0 where
+pub record IsCaptured (shape : Shape) (position : Position) (side : Colour)
+    (point q : ℕ) : Type 0 where
   pub touching : ℕ
   pub neighbour : AreNeighbours shape point touching
   pub stone : cell_at position touching ≡ stone_of side
@@ -68,11 +70,14 @@ pub record IsSuicide (shape : Shape) (position : Position) (point q : ℕ) : Typ
   pub in_group : IsInGroup shape position point q
   pub surrounded : ¬ HasLiberty shape position point
 
--- The capture rule. The point gets a stone of the side, whatever stood there. Then the groups of the other side
--- that touch the point and have no liberty are removed, then the group of the point if it has no liberty.
-pub record IsPlayed (shape : Shape) (before : Position) (side : Colour) (point : ℕ) (after : Position) : Type 0 where
+-- The capture rule. The point gets a stone of the side, whatever stood there. Then the groups of
+-- the other side that touch the point and have no liberty are removed, then the group of the point
+-- if it has no liberty.
+pub record IsPlayed (shape : Shape) (before : Position) (side : Colour) (point : ℕ)
+    (after : Position) : Type 0 where
   pub between : Position
-  pub captures : IsWithout (IsCaptured shape (slice_set before point (stone_of side)) (other_side side) point) (slice_set before point (stone_of side)) between
+  pub captures : IsWithout (IsCaptured shape (slice_set before point (stone_of side))
+      (other_side side) point) (slice_set before point (stone_of side)) between
   pub suicide : IsWithout (IsSuicide shape between point) between after
 
 -- the position after a move by the capture rule; a pass changes nothing
@@ -82,8 +87,11 @@ IsMovePlayed shape before side (Some p) after = IsPlayed shape before side (numb
 
 -- the point with this number lies in the rectangle
 abbrev pub is_inside : Shape → Rect → ℕ → Bool
-is_inside shape r p = (nat_le r.x0 (p % cols_of shape)) && (nat_le (p % cols_of shape) r.x1) && (nat_le r.y0 (p / cols_of shape)) && (nat_le (p / cols_of shape) r.y1)
+is_inside shape r p = (nat_le r.x0 (p % cols_of shape)) && (nat_le (p % cols_of shape) r.x1)
+    && (nat_le r.y0 (p / cols_of shape)) && (nat_le (p / cols_of shape) r.y1)
 
 -- The rule of setup. Each point of the rectangle gets the cell, and nothing is captured.
 abbrev pub with_rect : Shape → Position → Cell → Rect → Position
-with_rect shape position stone r = map (λ p. if is_inside shape r p then stone else cell_at position p) (range_with_len 0 (point_count shape))
+with_rect shape position stone r = map
+    (λ p. if is_inside shape r p then stone else cell_at position p)
+    (range_with_len 0 (point_count shape))

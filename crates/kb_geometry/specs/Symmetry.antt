@@ -1,4 +1,5 @@
--- The eight symmetries of a board, and the sixteen labels: a symmetry, with or without an exchange of the colours.
+-- The eight symmetries of a board, and the sixteen labels: a symmetry, with or without an exchange
+-- of the colours.
 use Rattle.std.specs.Prelude.{◌≡◌, ℕ, ◌-◌, ◌%◌, ◌≤◌, ◌==◌, nat_lt, if◌then◌else◌}
 use Rattle.kb_geometry.specs.declared.shape.Shape.{Shape}
 use Rattle.kb_geometry.specs.declared.shape.Point.{Point}
@@ -18,8 +19,8 @@ number_of_label label = label.number
 abbrev pub point_of : ℕ → ℕ → Point
 point_of x y = record { x = x; y = y }
 
--- Where the symmetry with a number moves a point of a board, or of a rectangle of this size in its own frame.
--- Symmetries 4 to 7 exchange columns and rows.
+-- Where the symmetry with a number moves a point of a board, or of a rectangle of this size in its
+-- own frame. Symmetries 4 to 7 exchange columns and rows.
 abbrev pub moved : ℕ → Shape → Point → Point
 moved number shape p =
     if number == 0 then point_of p.x p.y
@@ -31,7 +32,8 @@ moved number shape p =
     else if number == 6 then point_of (rows_of shape - 1 - p.y) p.x
     else point_of (rows_of shape - 1 - p.y) (cols_of shape - 1 - p.x)
 
--- the number of the symmetry that moves back: the quarter turns 5 and 6 undo each other, and each other symmetry undoes itself
+-- the number of the symmetry that moves back: the quarter turns 5 and 6 undo each other, and each
+-- other symmetry undoes itself
 abbrev pub inverse_number : ℕ → ℕ
 inverse_number number = if number == 5 then 6 else if number == 6 then 5 else number
 
@@ -47,7 +49,8 @@ turned_rows number size = if nat_lt number 4 then rows_of size else cols_of size
 abbrev pub IsAllowed : ℕ → Shape → Type 0
 IsAllowed number shape = 4 ≤ number → cols_of shape ≡ rows_of shape
 
--- the symmetry of the label with a number: labels 0 to 7 are the symmetries, and 8 to 15 are these again with the colours exchanged
+-- the symmetry of the label with a number: labels 0 to 7 are the symmetries, and 8 to 15 are these
+-- again with the colours exchanged
 abbrev pub symmetry_of : ℕ → ℕ
 symmetry_of label = label % 8
 

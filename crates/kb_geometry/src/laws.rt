@@ -16,8 +16,12 @@ pub fn the_greatest_board_is_52_by_52()
 
 /// A setup sets the points of its rectangle and no other point.
 pub fn a_setup_sets_its_rectangle_alone()
-    ensures inside { (shape : Shape) (position : Position) (stone : Cell) (r : Rect) (p : Point) → IsOnBoard shape p →
+    ensures inside { (shape : Shape) (position : Position) (stone : Cell) (r : Rect) (p : Point) →
+        IsOnBoard shape p →
         IsInside r p → cell_at (with_rect shape position stone r) (number_of shape p) ≡ stone }
-    ensures outside { (shape : Shape) (position : Position) (stone : Cell) (r : Rect) (p : Point) → IsOnBoard shape p →
-        ¬ IsInside r p → cell_at (with_rect shape position stone r) (number_of shape p) ≡ cell_at position (number_of shape p) }
+    ensures outside { (shape : Shape) (position : Position) (stone : Cell) (r : Rect) (p : Point) →
+        IsOnBoard shape p →
+        ¬ IsInside r p →
+        cell_at (with_rect shape position stone r) (number_of shape p)
+        ≡ cell_at position (number_of shape p) }
 {}

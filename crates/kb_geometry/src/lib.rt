@@ -1,9 +1,10 @@
-//! The geometry of a Go board: shapes, points, stones, the changes of a position, and the symmetries.
+//! The geometry of a Go board: shapes, points, stones, the changes of a position, and the
+//! symmetries.
 //!
 //! Stands on std alone. In `specs/` are the words of the capture rule: position, neighbour, group,
-//! liberty and the position after a move, and the table of the symmetries. The layers above use that
-//! `Shape::number` and `Shape::point` are inverse, that `apply` is that table and `inverse` undoes it,
-//! and cite those words.
+//! liberty and the position after a move, and the table of the symmetries. The layers above use
+//! that `Shape::number` and `Shape::point` are inverse, that `apply` is that table and `inverse`
+//! undoes it, and cite those words.
 #![tactic(auto)]
 
 mod items;

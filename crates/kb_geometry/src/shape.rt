@@ -15,8 +15,8 @@ pub struct Point {
     pub y: u8,
 }
 
-/// A rectangle of points, by its upper left corner `x0`, `y0` and its lower right corner `x1`, `y1`. Both
-/// belong to it. The type doesn't keep their order.
+/// A rectangle of points, by its upper left corner `x0`, `y0` and its lower right corner `x1`,
+/// `y1`. Both belong to it. The type doesn't keep their order.
 #[derive(Clone, Copy, Debug, PartialEq, Eq, Hash)]
 pub struct Rect {
     pub x0: u8,
@@ -144,7 +144,8 @@ impl Shape {
         requires { number < point_count self.now }
         ensures on_board { IsOnBoard self.now result }
         ensures inverse { number_of self.now result ≡ number }
-        ensures only { (p : Point) → IsOnBoard self.now p → number_of self.now p ≡ number → p ≡ result }
+        ensures only { (p : Point) → IsOnBoard self.now p → number_of self.now p ≡ number →
+            p ≡ result }
     {
         let cols = u16::from(self.cols);
         Point {

@@ -1,5 +1,5 @@
-// The eight symmetries of a board by their numbers, and the labels: a symmetry, with or without an exchange of the
-// colours.
+// The eight symmetries of a board by their numbers, and the labels: a symmetry, with or without an
+// exchange of the colours.
 ghost use Rattle.std.specs.Prelude.{◌≡◌, ◌<◌, ◌≤◌, ◌↔◌, IsTrue, IsSome, IfSome};
 
 use crate::shape::Shape;
@@ -13,7 +13,8 @@ pub(crate) const FIRST_EXCHANGING: u8 = 4;
 /// How many labels there are.
 pub const LABELS: u8 = 16;
 
-/// A symmetry of a board, by its number from 0 to 7. On a board of c columns and r rows the point (x, y) goes to:
+/// A symmetry of a board, by its number from 0 to 7. On a board of c columns and r rows the point
+/// (x, y) goes to:
 ///
 /// | Number | Point |
 /// |---|---|
@@ -33,8 +34,8 @@ pub struct Symmetry {
     pub ghost in_range: { number < 8 },
 }
 
-/// A symmetry, with or without an exchange of black and white. Its number is that of the symmetry, plus 8 where
-/// the colours are exchanged.
+/// A symmetry, with or without an exchange of black and white. Its number is that of the symmetry,
+/// plus 8 where the colours are exchanged.
 #[derive(Clone, Copy, Debug, PartialEq, Eq, Hash)]
 pub struct Label {
     number: u8,
@@ -73,7 +74,12 @@ impl Symmetry {
 }
 
 impl Label {
-    ghost use Rattle.kb_geometry.specs.Symmetry.{number_of_symmetry, number_of_label, symmetry_of, IsExchanging};
+    ghost use Rattle.kb_geometry.specs.Symmetry.{
+      number_of_symmetry,
+      number_of_label,
+      symmetry_of,
+      IsExchanging,
+    };
 
     /// The label with this number. `None` exactly where it is above 15.
     pub fn new(number: u8) -> Option<Self>

@@ -1,10 +1,18 @@
-// Where the symmetries move points and rectangles of a board, and the symmetries that move them back.
+// Where the symmetries move points and rectangles of a board, and the symmetries that move them
+// back.
 ghost use Rattle.std.specs.Prelude.{◌≡◌, ◌<◌, ◌↔◌};
 ghost use Rattle.kb_geometry.specs.declared.shape.Shape.{Shape};
 ghost use Rattle.kb_geometry.specs.declared.shape.Point.{Point};
 ghost use Rattle.kb_geometry.specs.Board.{IsInside, IsOnBoard, IsOrderedRectOnBoard};
 ghost use Rattle.kb_geometry.specs.Board.{cols_of, rows_of};
-ghost use Rattle.kb_geometry.specs.Symmetry.{number_of_symmetry, moved, inverse_number, turned_cols, turned_rows, IsAllowed};
+ghost use Rattle.kb_geometry.specs.Symmetry.{
+  number_of_symmetry,
+  moved,
+  inverse_number,
+  turned_cols,
+  turned_rows,
+  IsAllowed,
+};
 
 use crate::shape::{Point, Rect, Shape};
 use crate::symmetry::{FIRST_EXCHANGING, Symmetry};
@@ -22,8 +30,12 @@ pub fn apply(s: Symmetry, shape: Shape, p: Point) -> Point
 /// The symmetry that moves each point back: 6 for 5, 5 for 6, and every other one for itself.
 pub fn inverse(s: Symmetry) -> Symmetry
     ensures value { number_of_symmetry result ≡ inverse_number (number_of_symmetry s) }
-    ensures undoes { (shape : Shape) (p : Point) → IsAllowed (number_of_symmetry s) shape → IsOnBoard shape p → moved (number_of_symmetry result) shape (moved (number_of_symmetry s) shape p) ≡ p }
-    ensures undone { (shape : Shape) (p : Point) → IsAllowed (number_of_symmetry s) shape → IsOnBoard shape p → moved (number_of_symmetry s) shape (moved (number_of_symmetry result) shape p) ≡ p }
+    ensures undoes { (shape : Shape) (p : Point) → IsAllowed (number_of_symmetry s) shape →
+        IsOnBoard shape p → moved (number_of_symmetry result) shape
+        (moved (number_of_symmetry s) shape p) ≡ p }
+    ensures undone { (shape : Shape) (p : Point) → IsAllowed (number_of_symmetry s) shape →
+        IsOnBoard shape p → moved (number_of_symmetry s) shape
+        (moved (number_of_symmetry result) shape p) ≡ p }
 {
     match s.number {
         5 => Symmetry { number: 6 },
@@ -37,7 +49,8 @@ pub fn apply_rect(s: Symmetry, shape: Shape, r: Rect) -> Rect
     requires allowed { IsAllowed (number_of_symmetry s) shape }
     requires on_board { IsOrderedRectOnBoard shape r }
     ensures on_board { IsOrderedRectOnBoard shape result }
-    ensures image { (q : Point) → IsInside result q ↔ ((p : Point) × IsInside r p × (moved (number_of_symmetry s) shape p ≡ q)) }
+    ensures image { (q : Point) → IsInside result q
+        ↔ ((p : Point) × IsInside r p × (moved (number_of_symmetry s) shape p ≡ q)) }
 {
     let first = apply(s, shape, Point { x: r.x0, y: r.y0 });
     let last = apply(s, shape, Point { x: r.x1, y: r.y1 });
@@ -49,7 +62,8 @@ pub fn apply_rect(s: Symmetry, shape: Shape, r: Rect) -> Rect
     }
 }
 
-/// The size of a rectangle of this size after a symmetry. Symmetries 4 to 7 exchange its columns and rows.
+/// The size of a rectangle of this size after a symmetry. Symmetries 4 to 7 exchange its columns
+/// and rows.
 pub fn turned(s: Symmetry, size: Shape) -> Shape
     ensures cols { cols_of result ≡ turned_cols (number_of_symmetry s) size }
     ensures rows { rows_of result ≡ turned_rows (number_of_symmetry s) size }
@@ -61,8 +75,8 @@ pub fn turned(s: Symmetry, size: Shape) -> Shape
     }
 }
 
-/// Where a symmetry moves a point of a rectangle of this size. Both points are told from the upper left corner of
-/// the rectangle, before and after the symmetry. The rectangle needn't be square.
+/// Where a symmetry moves a point of a rectangle of this size. Both points are told from the upper
+/// left corner of the rectangle, before and after the symmetry. The rectangle needn't be square.
 pub fn apply_within(s: Symmetry, size: Shape, p: Point) -> Point
     requires { IsOnBoard size p }
     ensures value { result ≡ moved (number_of_symmetry s) size p }

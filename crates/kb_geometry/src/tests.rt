@@ -1,4 +1,5 @@
-// Shapes at their bounds, numbers of points on boards that aren't square, symmetries, labels and texts.
+// Shapes at their bounds, numbers of points on boards that aren't square, symmetries, labels and
+// texts.
 ghost use Rattle.std.specs.Prelude.{IfSome};
 ghost use Rattle.kb_geometry.specs.Symmetry.{IsAllowed, number_of_symmetry};
 
@@ -229,8 +230,8 @@ fn a_rectangle_goes_to_the_rectangle_of_the_images(rt: HostRuntime) {
     }
 }
 
-// Where the symmetry moves the point of a rectangle, the columns of the rectangle it then lies in, and where the inverse
-// moves that point.
+// Where the symmetry moves the point of a rectangle, the columns of the rectangle it then lies in,
+// and where the inverse moves that point.
 fn turned_there_and_back(size: Shape, number: u8, p: Point) -> Option<(Point, u8, Point)> {
     let s = Symmetry::new(number)?;
     let to = turned(s, size);

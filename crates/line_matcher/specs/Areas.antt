@@ -9,7 +9,8 @@ use Rattle.kb_geometry.specs.Board.{IsInside, IsOnBoard, number_of}
 -- the points of the changes lie in the rectangle
 abbrev pub HoldsChanges : Shape → List Change → Rect → Type 0
 HoldsChanges shape changes r =
-    All (λ (c : Change). (p : Point) → IsOnBoard shape p → number_of shape p ≡ c.point → IsInside r p) changes
+    All (λ (c : Change). (p : Point) → IsOnBoard shape p → number_of shape p ≡ c.point →
+    IsInside r p) changes
 
 -- the rectangle after holds that before and the point, and reaches no further
 pub record IsWidenedBy (before : Rect) (p : Point) (after : Rect) : Type 0 where

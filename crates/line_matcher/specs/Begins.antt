@@ -28,7 +28,8 @@ abbrev pub touches : (PatternCell → Bool) → Shape → List ℕ → Placement
 touches test shape points placement =
     list_any
     (λ dy. list_any
-    (λ dx. test (cell_in placement.grid dx dy) && list_any (nat_eq (number_under shape placement dx dy)) points)
+    (λ dx. test (cell_in placement.grid dx dy)
+    && list_any (nat_eq (number_under shape placement dx dy)) points)
     (range_with_len 0 placement.grid.cols))
     (range_with_len 0 placement.grid.rows)
 
@@ -57,7 +58,8 @@ occurrences_below placements test node k =
 
 -- What was found grows by the occurrences at a node among the placements from one number up to
 -- another.
-pub record AreOccurrencesAdded (placements : List Placement) (test : Placement → Bool) (node from to : ℕ)
+pub record AreOccurrencesAdded (placements : List Placement) (test : Placement → Bool)
+    (node from to : ℕ)
     (old new : List Occurrence) : Type 0 where
   pub grown : (before : List Occurrence) →
       old ≡ before ++ occurrences_below placements test node from →

@@ -19,11 +19,13 @@ IsFoundAtRoot images position node old new =
     0 (length images.placements) old new
 
 -- What was found grows by what holds in the position and is touched by the changes.
-pub record IsFoundByChanges (images : ImageList) (position : Position) (changes : List Change) (node : ℕ)
+pub record IsFoundByChanges (images : ImageList) (position : Position) (changes : List Change)
+    (node : ℕ)
     (old new : List Occurrence) : Type 0 where
   pub points : Concerned
   pub are_points : AreConcerned changes points
-  pub added : AreOccurrencesAdded images.placements (holds_anew images.shape position (Some points)) node 0
+  pub added : AreOccurrencesAdded images.placements (holds_anew images.shape position (Some points))
+      node 0
       (length images.placements) old new
 
 -- What was found grows by the occurrences at a node.

@@ -42,7 +42,8 @@ abbrev pub holds : Shape → Position → Placement → Bool
 holds shape position placement =
     list_all
     (λ dy. list_all
-    (λ dx. allows (cell_in placement.grid dx dy) (cell_at position (number_under shape placement dx dy)))
+    (λ dx. allows (cell_in placement.grid dx dy)
+    (cell_at position (number_under shape placement dx dy)))
     (range_with_len 0 placement.grid.cols))
     (range_with_len 0 placement.grid.rows)
 
@@ -54,13 +55,15 @@ holds_at changes placement n = holds changes.shape (position_at changes n) place
 -- parent.
 abbrev pub begins_at : Deltas → Placement → ℕ → Bool
 begins_at changes placement n =
-    holds_at changes placement n && not (option_map_or (holds_at changes placement) (parent_of changes n) false)
+    holds_at changes placement n
+    && not (option_map_or (holds_at changes placement) (parent_of changes n) false)
 
 -- the occurrences at a node, in order of the placements
 abbrev pub occurrences_at : Deltas → List Placement → ℕ → List Occurrence
 occurrences_at changes placements n =
     map (λ i. record { node = n; placement = i })
-    (filter (λ i. begins_at changes (placement_at placements i) n) (range_with_len 0 (length placements)))
+    (filter (λ i. begins_at changes (placement_at placements i) n)
+    (range_with_len 0 (length placements)))
 
 -- the occurrences in a game, in order of its nodes
 abbrev pub occurrences_in : Deltas → List Placement → List Occurrence

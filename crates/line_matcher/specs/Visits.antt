@@ -12,12 +12,15 @@ use Rattle.line_matcher.specs.Begins.{AreOccurrencesAdded, holds_anew, seen}
 -- another.
 abbrev pub IsFoundAt : ImageList → Visit → ℕ → ℕ → List Occurrence → List Occurrence → Type 0
 IsFoundAt images visit from to old new =
-    AreOccurrencesAdded images.placements (holds_anew images.shape visit.walker.now.position (seen visit.changed))
+    AreOccurrencesAdded images.placements
+    (holds_anew images.shape visit.walker.now.position (seen visit.changed))
     visit.node from to old new
 
 -- What begins to hold at the node has its upper left point in the rectangle.
 pub record IsNear (images : ImageList) (visit : Visit) (area : Rect) : Type 0 where
   pub inside : (i : ℕ) → i < length images.placements →
-      holds_anew images.shape visit.walker.now.position (seen visit.changed) (placement_at images.placements i)
+      holds_anew images.shape visit.walker.now.position (seen visit.changed)
+      (placement_at images.placements i)
       ≡ true →
-      IsInside area (point_of (placement_at images.placements i).x (placement_at images.placements i).y)
+      IsInside area (point_of (placement_at images.placements i).x
+      (placement_at images.placements i).y)

@@ -108,8 +108,8 @@ fn found(
     found_counted::<Brand>(rt, alloc, board, rows, asked, Blank::new(1))
 }
 
-// The occurrences of a black stone beside a white one on the board of 2 by 2, as node and number of the
-// placement.
+// The occurrences of a black stone beside a white one on the board of 2 by 2, as node and number of
+// the placement.
 fn numbers_counted<L: Ledger>(
     rt: &impl Abort,
     alloc: Global,
@@ -399,8 +399,8 @@ fn the_last_points_of_the_greatest_board(rt: HostRuntime) -> Result<(), Fail> {
     Ok(())
 }
 
-// The placements of a black stone beside a white one are eight: two at each of four pairs of points, in
-// order of their upper left points and labels.
+// The placements of a black stone beside a white one are eight: two at each of four pairs of
+// points, in order of their upper left points and labels.
 #[test]
 fn numbers_of_placements(rt: HostRuntime) -> Result<(), Fail> {
     let cases = [

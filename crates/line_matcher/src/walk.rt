@@ -64,8 +64,8 @@ pub fn match_with<L: Ledger>(
     match_along(alloc, deltas, matcher, &mut walker, steps)
 }
 
-/// The same, by a walker that was made before, for whatever game. It has room for the greatest board,
-/// so where there are many games it is made once.
+/// The same, by a walker that was made before, for whatever game. It has room for the greatest
+/// board, so where there are many games it is made once.
 pub fn match_along<L: Ledger>(
     alloc: Global,
     deltas: &NodeDeltas,

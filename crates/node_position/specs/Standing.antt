@@ -6,4 +6,8 @@ use Rattle.capture_board.specs.Walking.{StandsIn}
 
 -- The board shows the position at the node, or above the root, as a walker there would.
 abbrev pub Shows : Deltas → Option ℕ → ShapedPosition → Type 0
-Shows changes here board = StandsIn changes (record { shape = board.shape; here = here; position = board.position })
+Shows changes here board = StandsIn changes (record {
+  shape = board.shape;
+  here = here;
+  position = board.position;
+})

@@ -84,10 +84,12 @@ fn take_back(board: &mut Board, deltas: &NodeDeltas, here: Option<u32>) -> Optio
 
 // Applies setups, one after another.
 fn set_up(board: &mut Board, setups: &[Setup], changes: &mut ChangeList)
-    requires on_board { All (λ (s : Setup). IsOrderedRectOnBoard board.old.shape s.rect) setups.now }
+    requires on_board { All (λ (s : Setup). IsOrderedRectOnBoard board.old.shape s.rect)
+        setups.now }
     requires leads { (base : Position) × LeadFrom base changes.old board.old.position }
     ensures shape { board.new.shape ≡ board.old.shape }
-    ensures position { board.new.position ≡ set_up_all board.old.shape board.old.position setups.now }
+    ensures position { board.new.position
+        ≡ set_up_all board.old.shape board.old.position setups.now }
     ensures changes { (base : Position) → LeadFrom base changes.old board.old.position →
         LeadFrom base changes.new board.new.position }
 {
@@ -98,7 +100,8 @@ fn set_up(board: &mut Board, setups: &[Setup], changes: &mut ChangeList)
 
 // Plays what a node plays.
 fn play(board: &mut Board, played: Option<Move>, changes: &mut ChangeList)
-    requires on_board { IfSome played (λ (m : Move). IfSome m.point (λ (p : Point). IsOnBoard board.old.shape p)) }
+    requires on_board { IfSome played
+        (λ (m : Move). IfSome m.point (λ (p : Point). IsOnBoard board.old.shape p)) }
     requires leads { (base : Position) × LeadFrom base changes.old board.old.position }
     ensures shape { board.new.shape ≡ board.old.shape }
     ensures moved { IsMoved board.old.shape board.old.position played board.new.position }

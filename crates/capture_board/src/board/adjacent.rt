@@ -4,7 +4,8 @@ ghost use Rattle.kb_geometry.specs.Board.{point_count, AreNeighbours};
 
 use kb_geometry::{Point, Shape};
 
-/// The neighbours of the point with this number: left, right, up and down, each where it is on the board.
+/// The neighbours of the point with this number: left, right, up and down, each where it is on the
+/// board.
 pub fn neighbours(shape: Shape, number: u16) -> [Option<u16>; 4]
     requires { number < point_count shape }
     ensures four { length result ≡ 4 }

@@ -1,7 +1,15 @@
 // The stones that a move captures, and how stones are taken off.
 ghost use Rattle.std.specs.Prelude.{◌≡◌, ℕ, ◌<◌, ◌≤◌, ◌↔◌, ◌⊎◌, [], length, All, Contains};
 ghost use Rattle.kb_geometry.specs.Board.{point_count};
-ghost use Rattle.kb_geometry.specs.Capture.{cell_at, stone_of, other_side, IsInGroup, HasLiberty, IsCaptured, IsWithout};
+ghost use Rattle.kb_geometry.specs.Capture.{
+  cell_at,
+  stone_of,
+  other_side,
+  IsInGroup,
+  HasLiberty,
+  IsCaptured,
+  IsWithout,
+};
 ghost use Rattle.capture_board.specs.ChangedPoints.{NotesChanges};
 ghost use Rattle.capture_board.specs.WholeGroups.{HasWholeGroups};
 
@@ -38,7 +46,8 @@ pub fn find_captured(shape: Shape, cells: &[Cell], side: Colour, point: u16, set
     requires on_board { point < point_count shape }
     requires no_group { sets.old.group ≡ [] }
     requires none_captured { sets.old.captured ≡ [] }
-    ensures captured { (q : ℕ) → Contains sets.new.captured q ↔ IsCaptured shape cells.now side point q }
+    ensures captured { (q : ℕ) → Contains sets.new.captured q
+        ↔ IsCaptured shape cells.now side point q }
     ensures no_group { sets.new.group ≡ [] }
 {
     let stone = stone_of(side);
@@ -50,7 +59,8 @@ pub fn find_captured(shape: Shape, cells: &[Cell], side: Colour, point: u16, set
     }
 }
 
-// Adds the group of a point to the captured stones, if this stone stands there and the group has no liberty.
+// Adds the group of a point to the captured stones, if this stone stands there and the group has no
+// liberty.
 fn add_surrounded(shape: Shape, cells: &[Cell], touching: u16, stone: Cell, sets: &mut MoveSets)
     requires whole { length cells.now ≡ point_count shape }
     requires on_board { touching < point_count shape }

@@ -1,5 +1,17 @@
 // The group of a point, by a walk over neighbours that stops at the first liberty.
-ghost use Rattle.std.specs.Prelude.{◌≡◌, ℕ, ◌<◌, ◌≤◌, ◌↔◌, ◌⊎◌, length, slice_index, [], IsTrue, Contains};
+ghost use Rattle.std.specs.Prelude.{
+  ◌≡◌,
+  ℕ,
+  ◌<◌,
+  ◌≤◌,
+  ◌↔◌,
+  ◌⊎◌,
+  length,
+  slice_index,
+  [],
+  IsTrue,
+  Contains,
+};
 ghost use Rattle.std.specs.Bool.{OnTrue, OnFalse};
 ghost use Rattle.kb_geometry.specs.Board.{point_count, AreNeighbours};
 ghost use Rattle.kb_geometry.specs.Capture.{cell_at, IsInGroup, HasLiberty};
@@ -10,8 +22,8 @@ use super::adjacent::neighbours;
 use super::point_set::PointSet;
 use kb_geometry::{Cell, Shape};
 
-/// Finds the group of a point, into an empty set, and answers whether it has no liberty. At the first liberty it stops,
-/// and the set then has some of the group.
+/// Finds the group of a point, into an empty set, and answers whether it has no liberty. At the
+/// first liberty it stops, and the set then has some of the group.
 pub fn find_surrounded(shape: Shape, cells: &[Cell], start: u16, group: &mut PointSet) -> bool
     requires whole { length cells.now ≡ point_count shape }
     requires on_board { start < point_count shape }
@@ -34,7 +46,8 @@ pub fn find_surrounded(shape: Shape, cells: &[Cell], start: u16, group: &mut Poi
     true
 }
 
-// Adds the neighbours of a point that have this cell, up to the first empty neighbour. Answers whether there is one.
+// Adds the neighbours of a point that have this cell, up to the first empty neighbour. Answers
+// whether there is one.
 fn add_neighbours(
     shape: Shape,
     cells: &[Cell],
@@ -47,7 +60,8 @@ fn add_neighbours(
     ensures liberty { IsTrue result
         ↔ ((q : ℕ) × AreNeighbours shape point q × (cell_at cells.now q ≡ cell.Empty)) }
     ensures added { ¬ IsTrue result
-        → (q : ℕ) → AreNeighbours shape point q → cell_at cells.now q ≡ stone → Contains group.new q }
+        → (q : ℕ) → AreNeighbours shape point q → cell_at cells.now q ≡ stone →
+        Contains group.new q }
     ensures only { (q : ℕ) → Contains group.new q
         → Contains group.old q ⊎ (AreNeighbours shape point q × (cell_at cells.now q ≡ stone)) }
     ensures extends { Extends group.old group.new }

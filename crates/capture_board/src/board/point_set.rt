@@ -1,5 +1,20 @@
 // A set of points in the order in which they came, in fixed room.
-ghost use Rattle.std.specs.Prelude.{◌≡◌, ℕ, ◌≤◌, ◌<◌, ◌↔◌, ◌⊎◌, [], List, length, take, slice_index, All, Contains, IsTrue};
+ghost use Rattle.std.specs.Prelude.{
+  ◌≡◌,
+  ℕ,
+  ◌≤◌,
+  ◌<◌,
+  ◌↔◌,
+  ◌⊎◌,
+  [],
+  List,
+  length,
+  take,
+  slice_index,
+  All,
+  Contains,
+  IsTrue,
+};
 ghost use Rattle.capture_board.specs.PointSet.{IsPointSet, IsWithPoint, IsUnmarked};
 
 use super::ROOM;

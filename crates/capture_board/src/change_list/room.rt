@@ -60,7 +60,8 @@ impl ChangeRoom {
         self.len = 0;
     }
 
-    /// Removes the changes on points from a number on, of changes by point ascending, at the cost of their number.
+    /// Removes the changes on points from a number on, of changes by point ascending, at the cost
+    /// of their number.
     pub fn cut(&mut self, from: u16)
         requires { AllPairs (λ (c d : Change). c.point < d.point) self.old }
         ensures { IsCut from self.old self.new }
@@ -76,7 +77,8 @@ impl ChangeRoom {
     }
 }
 
-// How many changes are on points below a number, of changes by point ascending. It looks at the others alone.
+// How many changes are on points below a number, of changes by point ascending. It looks at the
+// others alone.
 fn len_below(changes: &[Change], from: u16) -> usize
     requires { AllPairs (λ (c d : Change). c.point < d.point) changes.now }
     ensures most { result ≤ length changes.now }

@@ -276,7 +276,8 @@ const SETUPS: [Case; 10] = [
         [Set(B, 0, 0, 2, 2), Clear, Clear, Clear, Set(B, 1, 0, 2, 1)],
         [None; 4],
     ),
-    // a setup and moves: a stone that is put and captured, one that comes back where one was captured
+    // a setup and moves: a stone that is put and captured, one that comes back where one was
+    // captured
     (
         3,
         3,

@@ -13,8 +13,8 @@ use std::process::Abort;
 use std::sync::ledger::{Blank, Ledger};
 use std::test::Fail;
 
-// A node of a table: its parent, what it changes, and the position there, row by row, with `X` for Black and `O` for
-// White.
+// A node of a table: its parent, what it changes, and the position there, row by row, with `X` for
+// Black and `O` for White.
 type Row = (Option<u32>, [Option<Change>; 2], &'static str);
 
 fn change(point: u16, old: Cell, new: Cell) -> Option<Change> {
@@ -39,7 +39,8 @@ fn listed(alloc: Global, changes: [Option<Change>; 2]) -> Result<Vec<Change>, Fa
     Ok(all)
 }
 
-// Goes from the last node back to the parent that the next node is to have; false if it can't have it.
+// Goes from the last node back to the parent that the next node is to have; false if it can't have
+// it.
 fn go_to_parent(deltas: &NodeDeltas, walker: &mut Walker, parent: Option<u32>) -> bool
     requires stands { StandsIn deltas.now walker.old }
     requires last { walker.old.here ≡ node_before (node_count deltas.now) }
@@ -89,7 +90,8 @@ fn push<L: Ledger>(
     requires stands { StandsIn deltas.old walker.old }
     requires last { walker.old.here ≡ node_before (node_count deltas.old) }
     ensures stands { IfOk result (λ done. IsTrue done → StandsIn deltas.new walker.new) }
-    ensures last { IfOk result (λ done. IsTrue done → walker.new.here ≡ node_before (node_count deltas.new)) }
+    ensures last { IfOk result (λ done. IsTrue done →
+        walker.new.here ≡ node_before (node_count deltas.new)) }
 {
     let count = deltas.node_count();
     if count == 65536 || !go_to_parent(deltas, walker, parent) {
@@ -283,7 +285,8 @@ fn a_capture(rt: HostRuntime) -> Result<(), Fail> {
     expect::<Brand>(&rt, rt.alloc(), 3, 3, &nodes, Blank::new(1))
 }
 
-// The moves of `(;SZ[2]B[aa](;B[bb](;W[ab])(;W[ba]))(;W[bb];B[ba]AE[bb];AW[aa])(;B[]))`, with setups in two nodes.
+// The moves of `(;SZ[2]B[aa](;B[bb](;W[ab])(;W[ba]))(;W[bb];B[ba]AE[bb];AW[aa])(;B[]))`, with
+// setups in two nodes.
 #[test]
 fn branches(rt: HostRuntime) -> Result<(), Fail> {
     let nodes = [

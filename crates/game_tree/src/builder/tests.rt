@@ -30,7 +30,8 @@ pub(crate) fn can_add(builder: &TreeBuilder, parent: Option<u32>, played: Option
     has_room_for(builder, parent) && plays_on_board(builder.shape, played)
 }
 
-// Whether the nodes so far make up a tree with few enough brackets: there are few nodes, or they are one line.
+// Whether the nodes so far make up a tree with few enough brackets: there are few nodes, or they
+// are one line.
 pub(crate) fn can_finish(builder: &TreeBuilder) -> bool
     ensures some { IsTrue result → 1 ≤ length builder.now.nodes }
     ensures depth { IsTrue result → (info : Information) (n : ℕ) →
