@@ -1,10 +1,13 @@
+-- Words that contracts of public functions rest on.
 pub mod Board
-pub mod ChangedPoints
 pub mod Changes
 pub mod Deltas
 pub mod PointSet
+pub mod Walking
+
+-- Words of private functions.
+pub mod ChangedPoints
 pub mod Runs
 pub mod StoredDeltas
 pub mod StoredWalking
-pub mod Walking
 pub mod WholeGroups

@@ -1,5 +1,8 @@
+-- Words that contracts of public functions rest on.
 pub mod Continuation
 pub mod Table
+
+-- Words of private functions.
+pub mod Counting
 pub mod Descending
 pub mod Rebuilding
-pub mod Counting

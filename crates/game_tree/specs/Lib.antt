@@ -1,16 +1,19 @@
-pub mod Built
-pub mod GameFaults
+-- Words that contracts of public functions rest on.
 pub mod Information
 pub mod MainLine
-pub mod NodeValues
 pub mod Position
 pub mod Property
-pub mod RawGames
 pub mod Result
-pub mod Roots
 pub mod SimpleText
-pub mod Stored
 pub mod Tree
 pub mod Trees
 pub mod Value
 pub mod ValueFaults
+
+-- Words of private functions.
+pub mod Built
+pub mod GameFaults
+pub mod NodeValues
+pub mod RawGames
+pub mod Roots
+pub mod Stored

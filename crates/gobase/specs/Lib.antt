@@ -1,1 +1,2 @@
+-- Words of private functions.
 pub mod ExitCodes

@@ -1,4 +1,7 @@
+-- Words that contracts of public functions rest on.
 pub mod Members
+
+-- Words of private functions.
 pub mod MemberLaws
-pub mod Words
 pub mod WordLaws
+pub mod Words

@@ -1,3 +1,4 @@
+-- Words that contracts of public functions rest on.
 pub mod Board
 pub mod Capture
 pub mod Side

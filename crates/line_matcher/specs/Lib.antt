@@ -1,3 +1,7 @@
+-- Words that contracts of public functions rest on.
+pub mod Occurrences
+
+-- Words of private functions.
 pub mod Areas
 pub mod Begins
 pub mod Concerned
@@ -5,6 +9,5 @@ pub mod GridRows
 pub mod Masks
 pub mod Matchers
 pub mod Nodes
-pub mod Occurrences
 pub mod StoredRows
 pub mod Visits

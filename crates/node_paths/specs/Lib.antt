@@ -1,3 +1,4 @@
+-- Words that contracts of public functions rest on.
 pub mod Parents
 pub mod Paths
 pub mod StoredNodes

@@ -1,10 +1,13 @@
+-- Words that contracts of public functions rest on.
 pub mod Grid
-pub mod Pattern
-pub mod Query
-pub mod Placements
 pub mod Holds
 pub mod ImageList
-pub mod Turned
-pub mod Stored
-pub mod Turns
+pub mod Pattern
+pub mod Placements
+pub mod Query
+
+-- Words of private functions.
 pub mod Listing
+pub mod Stored
+pub mod Turned
+pub mod Turns

@@ -1,9 +1,12 @@
+-- Words that contracts of public functions rest on.
 pub mod Bytes
-pub mod Words
+pub mod Script
 pub mod Search
 pub mod Statements
-pub mod Script
-pub mod Lines
-pub mod Reading
 pub mod Texts
+pub mod Words
+
+-- Words of private functions.
+pub mod Lines
 pub mod Progress
+pub mod Reading

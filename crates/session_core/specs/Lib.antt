@@ -1,5 +1,8 @@
+-- Words that contracts of public functions rest on.
+pub mod Answers
 pub mod Games
 pub mod Hits
-pub mod Answers
-pub mod Searching
 pub mod Stores
+
+-- Words of private functions.
+pub mod Searching

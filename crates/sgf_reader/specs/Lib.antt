@@ -1,7 +1,10 @@
+-- Words that contracts of public functions rest on.
 pub mod Bytes
 pub mod Faults
 pub mod Grammar
 pub mod Limits
+
+-- Words of private functions.
 pub mod Reading
 pub mod Scan
 pub mod Stays

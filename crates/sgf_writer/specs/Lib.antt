@@ -1,5 +1,8 @@
+-- Words that contracts of public functions rest on.
+pub mod ReadBack
+pub mod Written
+
+-- Words of private functions.
 pub mod Letters
 pub mod Parts
-pub mod ReadBack
 pub mod Walk
-pub mod Written
