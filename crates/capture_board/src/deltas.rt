@@ -133,7 +133,8 @@ impl NodeDeltas {
         &self.changes[start..end]
     }
 
-    /// Equal changes. The only error is `NoMemory`.
+    /// Equal changes. The only error is `NoMemory`. For the library's callers
+    /// and tests: the program copies none.
     pub fn copy(&self, alloc: Global) -> Result<NodeDeltas, NoMemory>
         ensures { IfOk result (λ copied. copied ≡ self.now) }
     {

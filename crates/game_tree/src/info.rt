@@ -125,7 +125,8 @@ impl Info {
         class_of(self.result())
     }
 
-    /// An equal information. The only error is `NoMemory`.
+    /// An equal information. The only error is `NoMemory`. For the library's callers
+    /// and tests: the program copies none.
     pub fn copy(&self, alloc: Global) -> Result<Info, NoMemory>
         ensures { IfOk result (λ copied. copied ≡ self.now) }
     {

@@ -195,7 +195,8 @@ impl GameTree {
         Children::of(self, self.first_child(n))
     }
 
-    /// An equal tree. The only error is `NoMemory`.
+    /// An equal tree. The only error is `NoMemory`. For the library's callers
+    /// and tests: the program copies none.
     pub fn copy(&self, alloc: Global) -> Result<GameTree, NoMemory>
         ensures { IfOk result (λ copied. copied ≡ self.now) }
     {

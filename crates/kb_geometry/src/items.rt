@@ -39,7 +39,8 @@ impl<T> Items<T> {
 }
 
 impl<T: Copy> Items<T> {
-    /// An equal list. The only error is `NoMemory`.
+    /// An equal list. The only error is `NoMemory`. For the library's callers
+    /// and tests: the program copies none.
     pub fn copy(&self, alloc: Global) -> Result<Items<T>, NoMemory>
         ensures { IfOk result (λ copied. copied ≡ self.now) }
     {

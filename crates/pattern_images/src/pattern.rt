@@ -81,7 +81,8 @@ impl Pattern {
         self.cells.as_slice()[at]
     }
 
-    /// An equal pattern. The only error is `NoMemory`.
+    /// An equal pattern. The only error is `NoMemory`. For the library's callers
+    /// and tests: the program copies none.
     pub fn copy(&self, alloc: Global) -> Result<Pattern, NoMemory>
         ensures { IfOk result (λ copied. copied ≡ self.now) }
     {

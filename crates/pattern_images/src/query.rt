@@ -80,7 +80,8 @@ impl Query {
         !(self.same && label.exchanged())
     }
 
-    /// An equal query. The only error is `NoMemory`.
+    /// An equal query. The only error is `NoMemory`. For the library's callers
+    /// and tests: the program copies none.
     pub fn copy(&self, alloc: Global) -> Result<Query, NoMemory>
         ensures { IfOk result (λ copied. copied ≡ self.now) }
     {
