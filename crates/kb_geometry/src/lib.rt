@@ -6,6 +6,7 @@
 //! and cite those words.
 #![tactic(auto)]
 
+mod appending;
 mod laws;
 mod memory;
 mod shape;
@@ -14,6 +15,7 @@ mod symmetry;
 mod symmetry_maps;
 mod text;
 
+pub use appending::{append, append_decimal, append_decimal_and, cut_back};
 pub use laws::{a_setup_sets_its_rectangle_alone, the_greatest_board_is_52_by_52};
 pub use memory::NoMemory;
 pub use shape::{MAX_POINTS, MAX_SIDE, Point, Rect, Shape};
