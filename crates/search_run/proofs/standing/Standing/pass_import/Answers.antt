@@ -1,6 +1,7 @@
 use Rattle.std.proofs.Common.{sym, ap, ◌∙◌, ◌+◌, ◌++◌}
 use Rattle.node_position.specs.Games.{Game}
 use Rattle.session_core.specs.Games.{games_of}
+use Rattle.std.specs.declared.alloc.Global.{Global}
 use Rattle.std.specs.Prelude.{List, ℕ, Vec}
 use Rattle.std.specs.Option.{option_map}
 use Rattle.search_run.specs.Texts.{report_text}
