@@ -1,9 +1,11 @@
-//! The geometry of a Go board: shapes, points, stones, the changes of a position, and the symmetries.
+//! The geometry of a Go board: shapes, points, stones, the changes of a position, and the
+//! symmetries. Beside it what all layers share: the answer where memory is short, and bytes that
+//! are appended to a vector.
 //!
-//! Stands on std alone. In `specs/` are the words of the capture rule: position, neighbour, group,
-//! liberty and the position after a move, and the table of the symmetries. The layers above use that
-//! `Shape::number` and `Shape::point` are inverse, that `apply` is that table and `inverse` undoes it,
-//! and cite those words.
+//! Stands on the library itoa, which writes digits. In `specs/` are the words of the capture rule:
+//! position, neighbour, group, liberty and the position after a move, and the table of the
+//! symmetries. The layers above use that `Shape::number` and `Shape::point` are inverse, that
+//! `apply` is that table and `inverse` undoes it, and cite those words.
 #![tactic(auto)]
 
 mod appending;

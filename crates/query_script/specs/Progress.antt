@@ -51,7 +51,7 @@ pub record IsReadInside (lines : List (List ℕ)) (k : ℕ) (placed : List Place
   pub sound : All (IsSearchBefore lines first k) searches
   pub complete : (m : ℕ) → first < m → m < k →
       ((query : _) × SpellsSearch (line_at lines m) query) →
-          Any (λ (s : PlacedSearch). s.line ≡ m) searches
+      Any (λ (s : PlacedSearch). s.line ≡ m) searches
 
 -- The block that line j begins goes on before line k, and one of its lines is bad: the least one
 -- behind line j.

@@ -3,7 +3,12 @@ ghost use Rattle.std.specs.Prelude.{◌≡◌, ◌++◌, ◌∷◌, [], OnErr, O
 ghost use Rattle.std.specs.Fmt.{decimal};
 ghost use mathlib.Core.List.{IsPrefix};
 ghost use Rattle.query_script.specs.Texts.{
-    game_head, import_text, line_text, no_game_text, until_text, wait_text,
+  game_head,
+  import_text,
+  line_text,
+  no_game_text,
+  until_text,
+  wait_text,
 };
 
 use kb_geometry::{NoMemory, append, append_decimal, append_decimal_and, cut_back};
@@ -62,12 +67,7 @@ pub fn print_until(line: u32, number: u64, version: u64, out: &mut Vec<u8>) -> R
     cut_back(out, len, done)
 }
 
-fn append_until(
-    out: &mut Vec<u8>,
-    line: u32,
-    number: u64,
-    version: u64,
-) -> Result<(), NoMemory>
+fn append_until(out: &mut Vec<u8>, line: u32, number: u64, version: u64) -> Result<(), NoMemory>
     ensures ok { OnOk result (out.new.items ≡ out.old.items ++ until_text line number version) }
     ensures refused { OnErr result (IsPrefix out.old.items out.new.items) }
 {

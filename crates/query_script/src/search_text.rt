@@ -4,8 +4,18 @@ ghost use mathlib.Core.List.{IsPrefix};
 ghost use Rattle.std.specs.Fmt.{decimal};
 ghost use Rattle.std.specs.List.{flat_map};
 ghost use Rattle.query_script.specs.Texts.{
-    colour_letter, hit_head, hit_text, line_text, next_text, row_head, row_text, search_head,
-    search_text, tally_text, total_text, when_word,
+  colour_letter,
+  hit_head,
+  hit_text,
+  line_text,
+  next_text,
+  row_head,
+  row_text,
+  search_head,
+  search_text,
+  tally_text,
+  total_text,
+  when_word,
 };
 
 use continuation_table::{Row, Table, Tally};

@@ -3,9 +3,22 @@ ghost use Rattle.std.specs.Prelude.{◌≡◌, ◌++◌, OnOk, count_by, length}
 ghost use Rattle.search_run.specs.Course.{Finding};
 ghost use Rattle.search_run.specs.Imported.{Tells, file_report, file_reports};
 ghost use Rattle.search_run.specs.Texts.{
-    counts_head, counts_tail, counts_text, file_text, full_text, is_accepted, is_full, is_refused,
-    is_unread, kind_word, listed_text, refused_text, report_text, too_many_text, unlisted_text,
-    unread_text,
+  counts_head,
+  counts_tail,
+  counts_text,
+  file_text,
+  full_text,
+  is_accepted,
+  is_full,
+  is_refused,
+  is_unread,
+  kind_word,
+  listed_text,
+  refused_text,
+  report_text,
+  too_many_text,
+  unlisted_text,
+  unread_text,
 };
 ghost use Rattle.std.specs.List.{flat_map};
 

@@ -1,6 +1,21 @@
 // Where a run stands: what it has imported, and the text of each statement there.
 ghost use Rattle.std.specs.Prelude.{
-    ◌≡◌, ◌<◌, ◌≤◌, ◌+◌, ◌^◌, ◌++◌, ◌∷◌, [], List, None, ℕ, IfOk, OnErr, OnOk, All, length,
+  ◌≡◌,
+  ◌<◌,
+  ◌≤◌,
+  ◌+◌,
+  ◌^◌,
+  ◌++◌,
+  ◌∷◌,
+  [],
+  List,
+  None,
+  ℕ,
+  IfOk,
+  OnErr,
+  OnOk,
+  All,
+  length,
 };
 ghost use Rattle.search_run.specs.Imported.{games_kept};
 ghost use Rattle.search_run.specs.Stores.{HaveTheirChanges, HasFewFiles};
@@ -54,7 +69,12 @@ impl Standing {
     ghost use Rattle.session_core.specs.Answers.{IsAnswer, IsAnswered};
     ghost use Rattle.search_run.specs.Run.{serial_rules};
     ghost use Rattle.search_run.specs.Steps.{
-        BlockTexts, IsTextByKept, LeadsOn, kept_report, nothing_kept, view_of,
+      BlockTexts,
+      IsTextByKept,
+      LeadsOn,
+      kept_report,
+      nothing_kept,
+      view_of,
     };
 
     /// The empty base.

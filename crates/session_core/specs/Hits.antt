@@ -46,11 +46,11 @@ pub data AreHitsOf (query : Query) (number : ℕ) (tree : Tree) (changes : Delta
   hit : {occurrences : List Occurrence} {hits : List Hit} (o : Occurrence) (hit : Hit) →
       AreHitsOf query number tree changes placements occurrences hits →
       LooksAt query tree o.node → IsHit number tree changes placements o hit →
-          AreHitsOf query number tree changes placements (occurrences ++ o ∷ []) (hits ++ hit ∷ [])
+      AreHitsOf query number tree changes placements (occurrences ++ o ∷ []) (hits ++ hit ∷ [])
   left_out : {occurrences : List Occurrence} {hits : List Hit} (o : Occurrence) →
       AreHitsOf query number tree changes placements occurrences hits →
       ¬ LooksAt query tree o.node →
-          AreHitsOf query number tree changes placements (occurrences ++ o ∷ []) hits
+      AreHitsOf query number tree changes placements (occurrences ++ o ∷ []) hits
 
 -- The hits in the game with this number, where it is asked for: those of the occurrences of the
 -- query's placements on the game's board, by node, and at one node in the order of the placements.

@@ -1,6 +1,17 @@
 // The answers of statements.
 ghost use Rattle.std.specs.Prelude.{
-    ◌≡◌, ◌≤◌, ◌++◌, ◌∷◌, [], ℕ, All, List, OnErr, OnOk, length, string_bytes,
+  ◌≡◌,
+  ◌≤◌,
+  ◌++◌,
+  ◌∷◌,
+  [],
+  ℕ,
+  All,
+  List,
+  OnErr,
+  OnOk,
+  length,
+  string_bytes,
 };
 ghost use mathlib.Core.List.{IsPrefix};
 ghost use Rattle.sgf_writer.specs.Written.{IsWritten};
@@ -133,8 +144,8 @@ fn append_stored(
 ) -> Result<(), NoMemory>
     ensures ok { OnOk result ((written : List ℕ) × IsWritten stored.now.tree written
         × (out.new.items
-            ≡ out.old.items ++ (game_head line game number stored.now.place
-            (string_bytes stored.now.file) ++ (written ++ 10 ∷ [])))) }
+        ≡ out.old.items ++ (game_head line game number stored.now.place
+        (string_bytes stored.now.file) ++ (written ++ 10 ∷ [])))) }
     ensures refused { OnErr result (IsPrefix out.old.items out.new.items) }
 {
     print_game(line, game, number, stored.place, &stored.file, out)?;

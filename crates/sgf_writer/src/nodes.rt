@@ -1,7 +1,23 @@
 // The text of one node.
 ghost use Rattle.std.specs.Prelude.{
-    ◌≡◌, ◌++◌, ◌<◌, ◌≤◌, ◌==◌, List, [], ◌∷◌, length, Bool, Option, None, Some, OnErr, OnOk, IfSome,
-    All, if◌then◌else◌,
+  ◌≡◌,
+  ◌++◌,
+  ◌<◌,
+  ◌≤◌,
+  ◌==◌,
+  List,
+  [],
+  ◌∷◌,
+  length,
+  Bool,
+  Option,
+  None,
+  Some,
+  OnErr,
+  OnOk,
+  IfSome,
+  All,
+  if◌then◌else◌,
 };
 ghost use mathlib.Core.List.{IsPrefix};
 ghost use Rattle.std.specs.Option.{option_map_or};
@@ -12,8 +28,16 @@ ghost use Rattle.game_tree.specs.Tree.{node_count};
 ghost use Rattle.sgf_writer.specs.Letters.{HasLetter, HasLetters};
 ghost use Rattle.sgf_writer.specs.Parts.{head_text, information_text, setup_text, setter_text};
 ghost use Rattle.sgf_writer.specs.Written.{
-    is_same, move_text, mover_name, node_text, rect_text, root_text, setter_name, setups_text,
-    text_property, value_text,
+  is_same,
+  move_text,
+  mover_name,
+  node_text,
+  rect_text,
+  root_text,
+  setter_name,
+  setups_text,
+  text_property,
+  value_text,
 };
 
 use crate::values::{write_escaped, write_rect, write_size, write_target};

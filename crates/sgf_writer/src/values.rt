@@ -1,6 +1,17 @@
 // The pieces of a written text that stand in brackets.
 ghost use Rattle.std.specs.Prelude.{
-    ◌≡◌, ◌<◌, ◌++◌, ◌==◌, ◌||◌, List, [], ◌∷◌, OnErr, OnOk, IfSome, if◌then◌else◌,
+  ◌≡◌,
+  ◌<◌,
+  ◌++◌,
+  ◌==◌,
+  ◌||◌,
+  List,
+  [],
+  ◌∷◌,
+  OnErr,
+  OnOk,
+  IfSome,
+  if◌then◌else◌,
 };
 ghost use mathlib.Core.List.{IsPrefix};
 ghost use Rattle.std.specs.Fmt.{decimal};
@@ -34,7 +45,8 @@ pub(crate) fn write_size(out: &mut Vec<u8>, shape: Shape) -> Result<(), NoMemory
 
 // Appends columns, a colon and rows.
 fn write_sides(out: &mut Vec<u8>, cols: u8, rows: u8) -> Result<(), NoMemory>
-    ensures ok { OnOk result (out.new.items ≡ out.old.items ++ (decimal cols ++ colon ∷ decimal rows)) }
+    ensures ok { OnOk result (out.new.items
+        ≡ out.old.items ++ (decimal cols ++ colon ∷ decimal rows)) }
     ensures refused { OnErr result (IsPrefix out.old.items out.new.items) }
 {
     append_decimal(out, u64::from(cols))?;

@@ -42,13 +42,15 @@ fn write_behind(out: &mut Vec<u8>, tree: &GameTree, n: u32) -> Result<Option<u32
     }
 }
 
-// Appends the brackets that are closed behind a leaf, and tells the node that comes next, if there is one.
+// Appends the brackets that are closed behind a leaf, and tells the node that comes next, if there
+// is one.
 fn write_closings(out: &mut Vec<u8>, tree: &GameTree, leaf: u32) -> Result<Option<u32>, NoMemory>
     requires tree { IsTree tree.now }
     requires in_range { leaf < node_count tree.now }
     ensures text { IfOk result (λ next. (text : List ℕ) × Closes tree.now leaf next text
         × (out.new.items ≡ out.old.items ++ text)) }
-    ensures later { IfOk result (λ next. IfSome next (λ s. (leaf < s) × (s < node_count tree.now))) }
+    ensures later { IfOk result (λ next.
+        IfSome next (λ s. (leaf < s) × (s < node_count tree.now))) }
     ensures refused { OnErr result (IsPrefix out.old.items out.new.items) }
 {
     let mut n = leaf;

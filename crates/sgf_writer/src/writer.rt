@@ -8,11 +8,11 @@ use crate::walk::write_tree;
 use game_tree::GameTree;
 use kb_geometry::{NoMemory, cut_back};
 
-/// Appends the canonical text of a tree: `(`, the nodes from the root on, `)`, where a node with more than one
-/// child is followed by each child's text in brackets.
+/// Appends the canonical text of a tree: `(`, the nodes from the root on, `)`, where a node with
+/// more than one child is followed by each child's text in brackets.
 ///
-/// A text of at most 16,777,216 bytes is read and built as exactly this one tree. After `NoMemory` `out` holds
-/// the bytes that it held before.
+/// A text of at most 16,777,216 bytes is read and built as exactly this one tree. After `NoMemory`
+/// `out` holds the bytes that it held before.
 pub fn write(tree: &GameTree, out: &mut Vec<u8>) -> Result<(), NoMemory>
     ensures ok { IfOk result (λ _. (text : List ℕ) × IsWritten tree.now text
         × (out.new.items ≡ out.old.items ++ text)) }
