@@ -3,7 +3,7 @@ use Rattle.std.proofs.Common.{◌≡◌, ℕ, ◌<◌, ◌≤◌, List, [], ◌+
 use Rattle.std.proofs.lemmas.Bool.{cases_lt}
 use Rattle.std.proofs.lemmas.List.{append-nil}
 use mathlib.Core.List.{IsPrefix}
-use Rattle.kb_geometry.proofs.Prefixes.{prefix_further, prefix_itself}
+use Rattle.kb_geometry.proofs.Prefixes.{prefix_same, prefix_trans}
 use Rattle.game_tree.specs.Built.{IsGrown}
 use Rattle.game_tree.specs.Tree.{Tree, IsAbove, higher, itself, first_child_of, next_sibling_of, node_count, parent_of}
 use Rattle.game_tree.proofs.Trees.{IsAbove-between, IsAbove-trans, cases_Option, next_sibling-facts, next_sibling-root, not_below_sibling, parent-lt}
@@ -20,14 +20,14 @@ pub record IsClosing (tree : Tree) (leaf n : ℕ) (before out : List ℕ) : Type
   pub so_far : (next : Option ℕ) (text : List ℕ) → Closes tree n next text → (whole : List ℕ) × Closes tree leaf next whole × (out ++ text ≡ before ++ whole)
 
 pub IsClosing-start : (tree : Tree) (leaf : ℕ) (out : List ℕ) → leaf < node_count tree → IsClosing tree leaf leaf out out
-IsClosing-start tree leaf out within = record { within = within; above = itself; begins = prefix_itself out; so_far = λ next text c. (text, c, refl) }
+IsClosing-start tree leaf out within = record { within = within; above = itself; begins = prefix_same out; so_far = λ next text c. (text, c, refl) }
 
 module _ (tree : Tree) (grown : IsGrown tree) where
   pub IsClosing-more : (leaf n p : ℕ) (before out new : List ℕ) → IsClosing tree leaf n before out → new ≡ out ++ closing tree n → next_sibling_of tree n ≡ None → parent_of tree n ≡ Some p → IsClosing tree leaf p before new
   IsClosing-more leaf n p before out new c e last parent = record {
     within = omega (arith, parent-lt tree grown n p parent, c.within);
     above = IsAbove-trans tree (higher parent itself) c.above;
-    begins = prefix_further before out new c.begins (closing tree n, sym e);
+    begins = prefix_trans before out new c.begins (closing tree n, sym e);
     so_far = λ next text closes.
         let w = c.so_far next (closing tree n ++ text) (last_child last parent closes) in
         (w.0, w.1, ap (λ t. t ++ text) e ∙ append_assoc out (closing tree n) text ∙ w.2);
