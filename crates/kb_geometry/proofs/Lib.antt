@@ -1,4 +1,5 @@
 pub mod Lists
+pub mod Prefixes
 pub mod Setups
 pub mod Shapes
 pub mod Symmetries

@@ -1,12 +1,14 @@
 //! The geometry of a Go board: shapes, points, stones, the changes of a position, and the
-//! symmetries.
+//! symmetries. Beside it what all layers share: lists and texts that contracts see, the answer where
+//! memory is short, and bytes that are appended to a vector.
 //!
-//! Stands on std alone. In `specs/` are the words of the capture rule: position, neighbour, group,
-//! liberty and the position after a move, and the table of the symmetries. The layers above use
-//! that `Shape::number` and `Shape::point` are inverse, that `apply` is that table and `inverse`
-//! undoes it, and cite those words.
+//! Stands on the library itoa, which writes digits. In `specs/` are the words of the capture rule:
+//! position, neighbour, group, liberty and the position after a move, and the table of the
+//! symmetries. The layers above use that `Shape::number` and `Shape::point` are inverse, that
+//! `apply` is that table and `inverse` undoes it, and cite those words.
 #![tactic(auto)]
 
+mod appending;
 mod items;
 mod laws;
 mod memory;
@@ -16,6 +18,7 @@ mod symmetry;
 mod symmetry_maps;
 mod text;
 
+pub use appending::{append, append_decimal, append_decimal_and, cut_back};
 pub use items::Items;
 pub use laws::{a_setup_sets_its_rectangle_alone, the_greatest_board_is_52_by_52};
 pub use memory::NoMemory;

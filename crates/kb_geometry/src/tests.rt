@@ -1,11 +1,11 @@
-// Shapes at their bounds, numbers of points on boards that aren't square, symmetries, labels and
-// texts.
+// Shapes at their bounds, numbers of points on boards that aren't square, symmetries, labels,
+// texts, and what is appended.
 ghost use Rattle.std.specs.Prelude.{IfSome};
 ghost use Rattle.kb_geometry.specs.Symmetry.{IsAllowed, number_of_symmetry};
 
 use crate::{
-    Label, MAX_POINTS, MAX_SIDE, Point, Rect, Shape, Symmetry, Text, apply, apply_rect,
-    apply_within, inverse, turned,
+    Label, MAX_POINTS, MAX_SIDE, NoMemory, Point, Rect, Shape, Symmetry, Text, append,
+    append_decimal, append_decimal_and, apply, apply_rect, apply_within, cut_back, inverse, turned,
 };
 use std::test::Fail;
 
@@ -314,5 +314,45 @@ fn both_corners_belong_to_a_rectangle(rt: HostRuntime) {
 fn a_text_is_what_it_was_made_of(rt: HostRuntime) -> Result<(), Fail> {
     let text = Text::new(String::from_str(rt.alloc(), "d/a.sgf")?);
     assert_eq!(rt; text.as_str(), "d/a.sgf");
+    Ok(())
+}
+
+#[test]
+fn numbers_are_appended_in_decimal(rt: HostRuntime) -> Result<(), Fail> {
+    let cases = [
+        (0u64, "0"),
+        (9, "9"),
+        (10, "10"),
+        (65_536, "65536"),
+        (4_294_967_295, "4294967295"),
+        (u64::MAX, "18446744073709551615"),
+    ];
+    for (number, digits) in cases {
+        let mut out = Vec::new(rt.alloc());
+        append_decimal(&mut out, number)?;
+        assert_eq!(rt; out.as_slice(), digits.as_bytes());
+    }
+    Ok(())
+}
+
+#[test]
+fn what_is_appended_stands_behind_the_rest(rt: HostRuntime) -> Result<(), Fail> {
+    let mut out = Vec::new(rt.alloc());
+    append(&mut out, b"game ")?;
+    append_decimal_and(&mut out, 12, b'\n')?;
+    append(&mut out, b"")?;
+    append_decimal(&mut out, 7)?;
+    assert_eq!(rt; out.as_slice(), b"game 12\n7".as_slice());
+    Ok(())
+}
+
+#[test]
+fn a_refusal_cuts_back(rt: HostRuntime) -> Result<(), Fail> {
+    let mut out = Vec::new(rt.alloc());
+    append(&mut out, b"kept and more")?;
+    assert_eq!(rt; cut_back(&mut out, 4, Ok(())), Ok(()));
+    assert_eq!(rt; out.as_slice(), b"kept and more".as_slice());
+    assert_eq!(rt; cut_back(&mut out, 4, Err(NoMemory)), Err(NoMemory));
+    assert_eq!(rt; out.as_slice(), b"kept".as_slice());
     Ok(())
 }

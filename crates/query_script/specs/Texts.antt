@@ -88,7 +88,7 @@ search_head line version games hits = line_text (decimal line ∷ codes " search
 abbrev pub search_text : ℕ → ℕ → ℕ → List Hit → TableView → List ℕ
 search_text line version games hits table =
     search_head line version games (length hits)
-        ++ (flat_map hit_text hits ++ (flat_map row_text table.rows ++ total_text table.totals))
+    ++ (flat_map hit_text hits ++ (flat_map row_text table.rows ++ total_text table.totals))
 
 -- `LINE game N version V place P file NAME`
 abbrev pub game_head : ℕ → ℕ → ℕ → ℕ → List ℕ → List ℕ

@@ -3,7 +3,10 @@ ghost use Rattle.std.specs.Prelude.{◌≡◌, ◌⊎◌, ℕ, List};
 ghost use Rattle.query_script.specs.declared.statement.Placed.{Placed};
 ghost use Rattle.query_script.specs.declared.statement.TheConstants.{MAX_SCRIPT};
 ghost use Rattle.query_script.specs.Script.{
-    AreStatements, IsLeastBadLine, most_script_bytes, script_lines,
+  AreStatements,
+  IsLeastBadLine,
+  most_script_bytes,
+  script_lines,
 };
 
 /// The longest script that [`read_script`](crate::read_script) reads has 1,048,576 bytes.

@@ -1,11 +1,17 @@
 // The printed texts of statements, but for that of a search.
-ghost use Rattle.std.specs.Prelude.{◌≡◌, ◌++◌, OnErr, OnOk};
+ghost use Rattle.std.specs.Prelude.{◌≡◌, ◌++◌, ◌∷◌, [], OnErr, OnOk, codes};
+ghost use Rattle.std.specs.Fmt.{decimal};
+ghost use mathlib.Core.List.{IsPrefix};
 ghost use Rattle.query_script.specs.Texts.{
-    game_head, import_text, no_game_text, until_text, wait_text,
+  game_head,
+  import_text,
+  line_text,
+  no_game_text,
+  until_text,
+  wait_text,
 };
 
-use kb_geometry::NoMemory;
-use std::fmt::Write;
+use kb_geometry::{NoMemory, append, append_decimal, append_decimal_and, cut_back};
 
 /// Appends the text of an import: `LINE import PATH`. The only error is `NoMemory`, and then `out`
 /// is as before.
@@ -13,9 +19,19 @@ pub fn print_import(line: u32, path: &str, out: &mut Vec<u8>) -> Result<(), NoMe
     ensures ok { OnOk result (out.new.items ≡ out.old.items ++ import_text line path.now) }
     ensures refused { OnErr result (out.new.items ≡ out.old.items) }
 {
-    let mut text = String::new(*out.allocator());
-    writeln!(text, "{line} import {path}")?;
-    out.extend_from_slice(text.as_bytes())?;
+    let len = out.len();
+    let done = append_import(out, line, path);
+    cut_back(out, len, done)
+}
+
+fn append_import(out: &mut Vec<u8>, line: u32, path: &str) -> Result<(), NoMemory>
+    ensures ok { OnOk result (out.new.items ≡ out.old.items ++ import_text line path.now) }
+    ensures refused { OnErr result (IsPrefix out.old.items out.new.items) }
+{
+    append_decimal(out, u64::from(line))?;
+    append(out, b" import ")?;
+    append(out, path.as_bytes())?;
+    append(out, b"\n")?;
     Ok(())
 }
 
@@ -25,9 +41,18 @@ pub fn print_wait(line: u32, version: u64, out: &mut Vec<u8>) -> Result<(), NoMe
     ensures ok { OnOk result (out.new.items ≡ out.old.items ++ wait_text line version) }
     ensures refused { OnErr result (out.new.items ≡ out.old.items) }
 {
-    let mut text = String::new(*out.allocator());
-    writeln!(text, "{line} wait version {version}")?;
-    out.extend_from_slice(text.as_bytes())?;
+    let len = out.len();
+    let done = append_wait(out, line, version);
+    cut_back(out, len, done)
+}
+
+fn append_wait(out: &mut Vec<u8>, line: u32, version: u64) -> Result<(), NoMemory>
+    ensures ok { OnOk result (out.new.items ≡ out.old.items ++ wait_text line version) }
+    ensures refused { OnErr result (IsPrefix out.old.items out.new.items) }
+{
+    append_decimal(out, u64::from(line))?;
+    append(out, b" wait version ")?;
+    append_decimal_and(out, version, b'\n')?;
     Ok(())
 }
 
@@ -37,9 +62,20 @@ pub fn print_until(line: u32, number: u64, version: u64, out: &mut Vec<u8>) -> R
     ensures ok { OnOk result (out.new.items ≡ out.old.items ++ until_text line number version) }
     ensures refused { OnErr result (out.new.items ≡ out.old.items) }
 {
-    let mut text = String::new(*out.allocator());
-    writeln!(text, "{line} until {number} version {version}")?;
-    out.extend_from_slice(text.as_bytes())?;
+    let len = out.len();
+    let done = append_until(out, line, number, version);
+    cut_back(out, len, done)
+}
+
+fn append_until(out: &mut Vec<u8>, line: u32, number: u64, version: u64) -> Result<(), NoMemory>
+    ensures ok { OnOk result (out.new.items ≡ out.old.items ++ until_text line number version) }
+    ensures refused { OnErr result (IsPrefix out.old.items out.new.items) }
+{
+    append_decimal(out, u64::from(line))?;
+    append(out, b" until ")?;
+    append_decimal(out, number)?;
+    append(out, b" version ")?;
+    append_decimal_and(out, version, b'\n')?;
     Ok(())
 }
 
@@ -58,12 +94,39 @@ pub fn print_game(
         ≡ out.old.items ++ game_head line game version place file.now) }
     ensures refused { OnErr result (out.new.items ≡ out.old.items) }
 {
-    let mut text = String::new(*out.allocator());
-    writeln!(
-        text,
-        "{line} game {game} version {version} place {place} file {file}"
-    )?;
-    out.extend_from_slice(text.as_bytes())?;
+    let len = out.len();
+    let done = append_game(out, line, game, version, place, file);
+    cut_back(out, len, done)
+}
+
+fn append_game(
+    out: &mut Vec<u8>,
+    line: u32,
+    game: u32,
+    version: u64,
+    place: u32,
+    file: &str,
+) -> Result<(), NoMemory>
+    ensures ok { OnOk result (out.new.items
+        ≡ out.old.items ++ game_head line game version place file.now) }
+    ensures refused { OnErr result (IsPrefix out.old.items out.new.items) }
+{
+    append_game_of(out, line, game, version)?;
+    append_place(out, place, file)?;
+    Ok(())
+}
+
+// Appends which game of which file a game is.
+fn append_place(out: &mut Vec<u8>, place: u32, file: &str) -> Result<(), NoMemory>
+    ensures ok { OnOk result (out.new.items ≡ out.old.items
+        ++ line_text (codes " place " ∷ decimal place ∷ codes " file " ∷ file.now ∷ [])) }
+    ensures refused { OnErr result (IsPrefix out.old.items out.new.items) }
+{
+    append(out, b" place ")?;
+    append_decimal(out, u64::from(place))?;
+    append(out, b" file ")?;
+    append(out, file.as_bytes())?;
+    append(out, b"\n")?;
     Ok(())
 }
 
@@ -73,8 +136,30 @@ pub fn print_no_game(line: u32, game: u32, version: u64, out: &mut Vec<u8>) -> R
     ensures ok { OnOk result (out.new.items ≡ out.old.items ++ no_game_text line game version) }
     ensures refused { OnErr result (out.new.items ≡ out.old.items) }
 {
-    let mut text = String::new(*out.allocator());
-    writeln!(text, "{line} game {game} version {version} none")?;
-    out.extend_from_slice(text.as_bytes())?;
+    let len = out.len();
+    let done = append_no_game(out, line, game, version);
+    cut_back(out, len, done)
+}
+
+fn append_no_game(out: &mut Vec<u8>, line: u32, game: u32, version: u64) -> Result<(), NoMemory>
+    ensures ok { OnOk result (out.new.items ≡ out.old.items ++ no_game_text line game version) }
+    ensures refused { OnErr result (IsPrefix out.old.items out.new.items) }
+{
+    append_game_of(out, line, game, version)?;
+    append(out, b" none\n")?;
+    Ok(())
+}
+
+// Appends which game of which version a text is about: `LINE game N version V`.
+fn append_game_of(out: &mut Vec<u8>, line: u32, game: u32, version: u64) -> Result<(), NoMemory>
+    ensures ok { OnOk result (out.new.items ≡ out.old.items ++ (decimal line ++ (codes " game "
+        ++ (decimal game ++ (codes " version " ++ decimal version))))) }
+    ensures refused { OnErr result (IsPrefix out.old.items out.new.items) }
+{
+    append_decimal(out, u64::from(line))?;
+    append(out, b" game ")?;
+    append_decimal(out, u64::from(game))?;
+    append(out, b" version ")?;
+    append_decimal(out, version)?;
     Ok(())
 }

@@ -64,7 +64,7 @@ impl Progress {
         ensures bad_line { (k : ℕ) → IsErrOf result (ScriptError.BadLine k) →
             (lines : List (List ℕ))
             → IsReadBefore lines number placed.old.items self → IsLineAt lines number line →
-                IsLeastBadLine lines k }
+            IsLeastBadLine lines k }
     {
         match self {
             Progress::Outside => read_outside(alloc, number, line, placed),
@@ -86,7 +86,7 @@ fn read_outside(
         → IsLineAt lines number line → IsReadBefore lines (number + 1) placed.new.items next) }
     ensures bad_line { (k : ℕ) → IsErrOf result (ScriptError.BadLine k) → (lines : List (List ℕ))
         → IsReadBefore lines number placed.old.items progress.Outside → IsLineAt lines number line →
-            IsLeastBadLine lines k }
+        IsLeastBadLine lines k }
 {
     match line {
         Line::Skipped => Ok(Progress::Outside),
@@ -118,7 +118,7 @@ fn read_inside(
         → IsLineAt lines number line → IsReadBefore lines (number + 1) placed.new.items next) }
     ensures bad_line { (k : ℕ) → IsErrOf result (ScriptError.BadLine k) → (lines : List (List ℕ))
         → IsReadBefore lines number placed.old.items (progress.Inside block) →
-            IsLineAt lines number line → IsLeastBadLine lines k }
+        IsLineAt lines number line → IsLeastBadLine lines k }
 {
     match line {
         Line::Skipped => Ok(Progress::Inside(block)),
@@ -134,7 +134,7 @@ fn read_statement(block: Block, number: u32, statement: Statement) -> Result<Pro
     ensures read { IfOk result (λ next. (lines : List (List ℕ)) (placed : List Placed) →
         IsReadBefore lines number placed (progress.Inside block)
         → IsLineAt lines number (line.Statement statement) →
-            IsReadBefore lines (number + 1) placed next) }
+        IsReadBefore lines (number + 1) placed next) }
     ensures bad_line { (k : ℕ) → ¬ IsErrOf result (ScriptError.BadLine k) }
 {
     match statement {
@@ -150,7 +150,7 @@ fn end_block(block: Block, number: u32, placed: &mut Vec<Placed>) -> Result<Prog
         → IsLineAt lines number line.End → IsReadBefore lines (number + 1) placed.new.items next) }
     ensures bad_line { (k : ℕ) → IsErrOf result (ScriptError.BadLine k) → (lines : List (List ℕ))
         → IsReadBefore lines number placed.old.items (progress.Inside block) →
-            IsLineAt lines number line.End → IsLeastBadLine lines k }
+        IsLineAt lines number line.End → IsLeastBadLine lines k }
 {
     if block.searches.is_empty() {
         return Err(ScriptError::BadLine { line: number });
@@ -169,7 +169,7 @@ fn add_search(mut block: Block, number: u32, query: Query) -> Result<Progress, S
     ensures read { IfOk result (λ next. (lines : List (List ℕ)) (placed : List Placed) →
         IsReadBefore lines number placed (progress.Inside block)
         → IsLineAt lines number (line.Statement (statement.Search query)) →
-            IsReadBefore lines (number + 1) placed next) }
+        IsReadBefore lines (number + 1) placed next) }
     ensures bad_line { (k : ℕ) → ¬ IsErrOf result (ScriptError.BadLine k) }
 {
     if block.searches.len() >= MAX_SEARCHES {
@@ -190,7 +190,7 @@ fn read_broken(begun: u32, bad: u32, line: Line) -> Result<Progress, ScriptError
     ensures bad_line { (k : ℕ) → IsErrOf result (ScriptError.BadLine k) →
         (lines : List (List ℕ)) (placed : List Placed) (number : ℕ)
         → IsReadBefore lines number placed (progress.Broken begun bad) →
-            IsLineAt lines number line → IsLeastBadLine lines k }
+        IsLineAt lines number line → IsLeastBadLine lines k }
 {
     match line {
         Line::End => Err(ScriptError::BadLine { line: bad }),

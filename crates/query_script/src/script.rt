@@ -1,7 +1,10 @@
 // Reads a script.
 ghost use Rattle.std.specs.Prelude.{◌≡◌, ◌≤◌, ℕ, length, IfOk, IsErrOf};
 ghost use Rattle.query_script.specs.Script.{
-    AreStatements, IsLeastBadLine, most_script_bytes, script_lines,
+  AreStatements,
+  IsLeastBadLine,
+  most_script_bytes,
+  script_lines,
 };
 
 use crate::line::read_line;

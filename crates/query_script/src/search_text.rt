@@ -1,15 +1,26 @@
 // The printed text of a search.
-ghost use Rattle.std.specs.Prelude.{◌≡◌, ◌++◌, OnErr, OnOk, string_bytes};
+ghost use Rattle.std.specs.Prelude.{◌≡◌, ◌++◌, ◌∷◌, [], None, OnErr, OnOk, Some, codes};
+ghost use mathlib.Core.List.{IsPrefix};
+ghost use Rattle.std.specs.Fmt.{decimal};
 ghost use Rattle.std.specs.List.{flat_map};
 ghost use Rattle.query_script.specs.Texts.{
-    colour_letter, hit_head, hit_text, next_text, row_head, row_text, search_head, search_text,
-    tally_text, total_text, when_word,
+  colour_letter,
+  hit_head,
+  hit_text,
+  line_text,
+  next_text,
+  row_head,
+  row_text,
+  search_head,
+  search_text,
+  tally_text,
+  total_text,
+  when_word,
 };
 
 use continuation_table::{Row, Table, Tally};
-use kb_geometry::{Colour, NoMemory};
+use kb_geometry::{Colour, NoMemory, append, append_decimal, append_decimal_and, cut_back};
 use pattern_images::{Hit, Next};
-use std::fmt::Write;
 
 // The letter of a colour.
 fn colour_letter(colour: Colour) -> &'static str
@@ -29,121 +40,191 @@ fn when_word(now: bool) -> &'static str
 }
 
 // Appends how play goes on.
-fn print_next(text: &mut String, next: Option<Next>) -> Result<(), NoMemory>
-    ensures { OnOk result (string_bytes text.new ≡ string_bytes text.old ++ next_text next) }
+fn append_next(out: &mut Vec<u8>, next: Option<Next>) -> Result<(), NoMemory>
+    ensures ok { OnOk result (out.new.items ≡ out.old.items ++ next_text next) }
+    ensures refused { OnErr result (IsPrefix out.old.items out.new.items) }
 {
     match next {
-        None => writeln!(text, "-")?,
-        Some(Next { colour, x, y, now }) => {
-            let letter = colour_letter(colour);
-            let when = when_word(now);
-            writeln!(text, "{letter} {x} {y} {when}")?;
-        }
+        None => append_none(out),
+        Some(next) => append_move(out, next),
     }
+}
+
+// Appends that play doesn't go on.
+fn append_none(out: &mut Vec<u8>) -> Result<(), NoMemory>
+    ensures ok { OnOk result (out.new.items ≡ out.old.items ++ next_text None) }
+    ensures refused { OnErr result (IsPrefix out.old.items out.new.items) }
+{
+    append(out, b"-\n")?;
+    Ok(())
+}
+
+// Appends the move by which play goes on.
+fn append_move(out: &mut Vec<u8>, next: Next) -> Result<(), NoMemory>
+    ensures ok { OnOk result (out.new.items ≡ out.old.items ++ next_text (Some next)) }
+    ensures refused { OnErr result (IsPrefix out.old.items out.new.items) }
+{
+    append(out, colour_letter(next.colour).as_bytes())?;
+    append(out, b" ")?;
+    append_decimal_and(out, u64::from(next.x), b' ')?;
+    append_decimal_and(out, u64::from(next.y), b' ')?;
+    append(out, when_word(next.now).as_bytes())?;
+    append(out, b"\n")?;
     Ok(())
 }
 
 // Appends where a hit is.
-fn print_hit_head(text: &mut String, hit: &Hit) -> Result<(), NoMemory>
-    ensures { OnOk result (string_bytes text.new ≡ string_bytes text.old ++ hit_head hit.now) }
+fn append_hit_head(out: &mut Vec<u8>, hit: &Hit) -> Result<(), NoMemory>
+    ensures ok { OnOk result (out.new.items ≡ out.old.items ++ hit_head hit.now) }
+    ensures refused { OnErr result (IsPrefix out.old.items out.new.items) }
 {
-    let game = hit.game;
-    let node = hit.node;
-    let x = hit.place.x;
-    let y = hit.place.y;
-    let label = hit.place.label.number();
-    write!(text, "hit {game} {node} {x} {y} {label} ")?;
+    append(out, b"hit ")?;
+    append_decimal_and(out, u64::from(hit.game), b' ')?;
+    append_decimal_and(out, u64::from(hit.node), b' ')?;
+    append_decimal_and(out, u64::from(hit.place.x), b' ')?;
+    append_decimal_and(out, u64::from(hit.place.y), b' ')?;
+    append_decimal_and(out, u64::from(hit.place.label.number()), b' ')?;
     Ok(())
 }
 
 // Appends the line of a hit.
-fn print_hit(text: &mut String, hit: &Hit) -> Result<(), NoMemory>
-    ensures { OnOk result (string_bytes text.new ≡ string_bytes text.old ++ hit_text hit.now) }
+fn append_hit(out: &mut Vec<u8>, hit: &Hit) -> Result<(), NoMemory>
+    ensures ok { OnOk result (out.new.items ≡ out.old.items ++ hit_text hit.now) }
+    ensures refused { OnErr result (IsPrefix out.old.items out.new.items) }
 {
-    print_hit_head(text, hit)?;
-    print_next(text, hit.next)
+    append_hit_head(out, hit)?;
+    append_next(out, hit.next)?;
+    Ok(())
 }
 
 // Appends the lines of hits, in order.
-fn print_hit_lines(text: &mut String, hits: &[Hit]) -> Result<(), NoMemory>
-    ensures { OnOk result (string_bytes text.new
-        ≡ string_bytes text.old ++ flat_map hit_text hits.now) }
+fn append_hits(out: &mut Vec<u8>, hits: &[Hit]) -> Result<(), NoMemory>
+    ensures ok { OnOk result (out.new.items ≡ out.old.items ++ flat_map hit_text hits.now) }
+    ensures refused { OnErr result (IsPrefix out.old.items out.new.items) }
 {
     for hit in hits {
-        print_hit(text, hit)?;
+        append_hit(out, hit)?;
     }
     Ok(())
 }
 
 // Appends the numbers of a tally.
-fn print_tally(text: &mut String, tally: Tally) -> Result<(), NoMemory>
-    ensures { OnOk result (string_bytes text.new ≡ string_bytes text.old ++ tally_text tally) }
+fn append_tally(out: &mut Vec<u8>, tally: Tally) -> Result<(), NoMemory>
+    ensures ok { OnOk result (out.new.items ≡ out.old.items ++ tally_text tally) }
+    ensures refused { OnErr result (IsPrefix out.old.items out.new.items) }
 {
-    let Tally {
-        count,
-        now,
-        later,
-        black,
-        white,
-        other,
-    } = tally;
-    writeln!(text, "{count} {now} {later} {black} {white} {other}")?;
+    append_decimal_and(out, u64::from(tally.count), b' ')?;
+    append_decimal_and(out, u64::from(tally.now), b' ')?;
+    append_decimal_and(out, u64::from(tally.later), b' ')?;
+    append_decimal_and(out, u64::from(tally.black), b' ')?;
+    append_decimal_and(out, u64::from(tally.white), b' ')?;
+    append_decimal_and(out, u64::from(tally.other), b'\n')?;
     Ok(())
 }
 
 // Appends which continuation a row is of.
-fn print_row_head(text: &mut String, row: &Row) -> Result<(), NoMemory>
-    ensures { OnOk result (string_bytes text.new ≡ string_bytes text.old ++ row_head row.now) }
+fn append_row_head(out: &mut Vec<u8>, row: &Row) -> Result<(), NoMemory>
+    ensures ok { OnOk result (out.new.items ≡ out.old.items ++ row_head row.now) }
+    ensures refused { OnErr result (IsPrefix out.old.items out.new.items) }
 {
-    let letter = colour_letter(row.colour);
-    let x = row.x;
-    let y = row.y;
-    write!(text, "row {letter} {x} {y} ")?;
+    append(out, b"row ")?;
+    append(out, colour_letter(row.colour).as_bytes())?;
+    append(out, b" ")?;
+    append_decimal_and(out, u64::from(row.x), b' ')?;
+    append_decimal_and(out, u64::from(row.y), b' ')?;
     Ok(())
 }
 
 // Appends a row.
-fn print_row(text: &mut String, row: &Row) -> Result<(), NoMemory>
-    ensures { OnOk result (string_bytes text.new ≡ string_bytes text.old ++ row_text row.now) }
+fn append_row(out: &mut Vec<u8>, row: &Row) -> Result<(), NoMemory>
+    ensures ok { OnOk result (out.new.items ≡ out.old.items ++ row_text row.now) }
+    ensures refused { OnErr result (IsPrefix out.old.items out.new.items) }
 {
-    print_row_head(text, row)?;
-    print_tally(text, row.tally)
+    append_row_head(out, row)?;
+    append_tally(out, row.tally)?;
+    Ok(())
 }
 
 // Appends rows, in order.
-fn print_rows(text: &mut String, rows: &[Row]) -> Result<(), NoMemory>
-    ensures { OnOk result (string_bytes text.new
-        ≡ string_bytes text.old ++ flat_map row_text rows.now) }
+fn append_rows(out: &mut Vec<u8>, rows: &[Row]) -> Result<(), NoMemory>
+    ensures ok { OnOk result (out.new.items ≡ out.old.items ++ flat_map row_text rows.now) }
+    ensures refused { OnErr result (IsPrefix out.old.items out.new.items) }
 {
     for row in rows {
-        print_row(text, row)?;
+        append_row(out, row)?;
     }
     Ok(())
 }
 
 // Appends the totals.
-fn print_totals(text: &mut String, totals: Tally) -> Result<(), NoMemory>
-    ensures { OnOk result (string_bytes text.new ≡ string_bytes text.old ++ total_text totals) }
+fn append_totals(out: &mut Vec<u8>, totals: Tally) -> Result<(), NoMemory>
+    ensures ok { OnOk result (out.new.items ≡ out.old.items ++ total_text totals) }
+    ensures refused { OnErr result (IsPrefix out.old.items out.new.items) }
 {
-    write!(text, "total ")?;
-    print_tally(text, totals)
+    append(out, b"total ")?;
+    append_tally(out, totals)?;
+    Ok(())
 }
 
 // Appends the first line.
-fn print_head(
-    text: &mut String,
+fn append_head(
+    out: &mut Vec<u8>,
     line: u32,
     version: u64,
     games: u32,
     hits: usize,
 ) -> Result<(), NoMemory>
-    ensures { OnOk result (string_bytes text.new
-        ≡ string_bytes text.old ++ search_head line version games hits) }
+    ensures ok { OnOk result (out.new.items
+        ≡ out.old.items ++ search_head line version games hits) }
+    ensures refused { OnErr result (IsPrefix out.old.items out.new.items) }
 {
-    writeln!(
-        text,
-        "{line} search version {version} games {games} hits {hits}"
-    )?;
+    append_version(out, line, version)?;
+    append_counts(out, games, hits)?;
+    Ok(())
+}
+
+// Appends the version that is searched.
+fn append_version(out: &mut Vec<u8>, line: u32, version: u64) -> Result<(), NoMemory>
+    ensures ok { OnOk result (out.new.items ≡ out.old.items
+        ++ (decimal line ++ (codes " search version " ++ decimal version))) }
+    ensures refused { OnErr result (IsPrefix out.old.items out.new.items) }
+{
+    append_decimal(out, u64::from(line))?;
+    append(out, b" search version ")?;
+    append_decimal(out, version)?;
+    Ok(())
+}
+
+// Appends how many games and hits there are.
+fn append_counts(out: &mut Vec<u8>, games: u32, hits: usize) -> Result<(), NoMemory>
+    ensures ok { OnOk result (out.new.items ≡ out.old.items
+        ++ line_text (codes " games " ∷ decimal games ∷ codes " hits " ∷ decimal hits ∷ [])) }
+    ensures refused { OnErr result (IsPrefix out.old.items out.new.items) }
+{
+    append(out, b" games ")?;
+    append_decimal(out, u64::from(games))?;
+    append(out, b" hits ")?;
+    append_decimal_and(out, hits as u64, b'\n')?;
+    Ok(())
+}
+
+// Appends the text of a search.
+fn append_search(
+    out: &mut Vec<u8>,
+    line: u32,
+    number: u64,
+    games: u32,
+    hits: &[Hit],
+    table: &Table,
+) -> Result<(), NoMemory>
+    ensures ok { OnOk result (out.new.items
+        ≡ out.old.items ++ search_text line number games hits.now table.now) }
+    ensures refused { OnErr result (IsPrefix out.old.items out.new.items) }
+{
+    append_head(out, line, number, games, hits.len())?;
+    append_hits(out, hits)?;
+    append_rows(out, table.rows())?;
+    append_totals(out, table.totals())?;
     Ok(())
 }
 
@@ -162,11 +243,7 @@ pub fn print_hits(
         ≡ out.old.items ++ search_text line number games hits.now table.now) }
     ensures refused { OnErr result (out.new.items ≡ out.old.items) }
 {
-    let mut text = String::new(*out.allocator());
-    print_head(&mut text, line, number, games, hits.len())?;
-    print_hit_lines(&mut text, hits)?;
-    print_rows(&mut text, table.rows())?;
-    print_totals(&mut text, table.totals())?;
-    out.extend_from_slice(text.as_bytes())?;
-    Ok(())
+    let len = out.len();
+    let done = append_search(out, line, number, games, hits, table);
+    cut_back(out, len, done)
 }

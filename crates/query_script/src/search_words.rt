@@ -1,6 +1,21 @@
 // The words of a search.
 ghost use Rattle.std.specs.Prelude.{
-    ◌≡◌, ◌≢◌, ◌≤◌, ◌<◌, ℕ, Bool, List, [], ◌∷◌, Option, Some, None, codes, IfOk, IfSome, IfNone,
+  ◌≡◌,
+  ◌≢◌,
+  ◌≤◌,
+  ◌<◌,
+  ℕ,
+  Bool,
+  List,
+  [],
+  ◌∷◌,
+  Option,
+  Some,
+  None,
+  codes,
+  IfOk,
+  IfSome,
+  IfNone,
 };
 ghost use Rattle.kb_geometry.specs.declared.shape.Rect.{Rect};
 ghost use Rattle.kb_geometry.specs.declared.shape.Shape.{Shape};
@@ -11,7 +26,14 @@ ghost use Rattle.pattern_images.specs.declared.query.Query.{Query};
 ghost use Rattle.query_script.specs.declared.search_words.Moves.{Moves};
 ghost use Rattle.query_script.specs.declared.word.Word.{Word};
 ghost use Rattle.query_script.specs.Search.{
-    IsAt, IsBoardOption, IsBody, IsCoordinateWord, IsFlag, IsPattern, most_moves, rect,
+  IsAt,
+  IsBoardOption,
+  IsBody,
+  IsCoordinateWord,
+  IsFlag,
+  IsPattern,
+  most_moves,
+  rect,
 };
 ghost use Rattle.query_script.specs.Words.{IsNumber, bare};
 ghost use Rattle.query_script.specs.Reading.{AreMovesOf, AreParted, BeginsOtherwise, IsPointAt};

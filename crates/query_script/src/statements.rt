@@ -1,6 +1,20 @@
 // The statements that take one line, from the words of a line.
 ghost use Rattle.std.specs.Prelude.{
-    ◌≡◌, ◌≢◌, ◌≤◌, ◌↔◌, ℕ, List, [], ◌∷◌, Option, None, codes, IfOk, IfSome, IfNone, IsTrue,
+  ◌≡◌,
+  ◌≢◌,
+  ◌≤◌,
+  ◌↔◌,
+  ℕ,
+  List,
+  [],
+  ◌∷◌,
+  Option,
+  None,
+  codes,
+  IfOk,
+  IfSome,
+  IfNone,
+  IsTrue,
 };
 ghost use Rattle.pattern_images.specs.declared.query.Query.{Query};
 ghost use Rattle.query_script.specs.declared.statement.Statement.{Statement};

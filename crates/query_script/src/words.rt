@@ -1,15 +1,34 @@
 // Splits a line into its words.
 ghost use Rattle.std.specs.Prelude.{◌≡◌, ◌≢◌, ◌++◌, ◌∷◌, ◌<◌, ◌≤◌, ◌↔◌, ◌⊎◌};
 ghost use Rattle.std.specs.Prelude.{
-    ℕ, List, [], All, length, Option, Some, None, IfOk, IfSome, IfNone, IsTrue,
+  ℕ,
+  List,
+  [],
+  All,
+  length,
+  Option,
+  Some,
+  None,
+  IfOk,
+  IfSome,
+  IfNone,
+  IsTrue,
 };
 ghost use Rattle.query_script.specs.declared.word.Word.{Word};
 ghost use Rattle.query_script.specs.Bytes.{backslash, quote};
 ghost use Rattle.query_script.specs.Words.{
-    AreBlanks, AreWords, IsBareByte, IsBlank, IsWordEnd, escaped, escaped_byte,
+  AreBlanks,
+  AreWords,
+  IsBareByte,
+  IsBlank,
+  IsWordEnd,
+  escaped,
+  escaped_byte,
 };
 ghost use Rattle.query_script.specs.Reading.{
-    BeginsWithNoBareByte, BeginsWithNoBlank, BeginsWithWord,
+  BeginsWithNoBareByte,
+  BeginsWithNoBlank,
+  BeginsWithWord,
 };
 
 use crate::word::Word;

@@ -58,8 +58,8 @@ module _ (all : List File) (path : List ℕ) (before : Counts) where
       let names = names-push files more f g same in
       let first = files-one files more unread lost h k none too names.0 in
       let one = file-one more last bytes text outcome kind trees games
-          (subst (λ n. IsContent all path n bytes) names.1 content) also
-          (subst (λ fs. IsOutcome bytes (with_games before (trees_in (games_of_files fs))) outcome trees) first is) is_too in
+      (subst (λ n. IsContent all path n bytes) names.1 content) also
+      (subst (λ fs. IsOutcome bytes (with_games before (trees_in (games_of_files fs))) outcome trees) first is) is_too in
       ap (λ fs. fs ++ f ∷ []) first ∙ ap (λ n. more ++ import_file n outcome trees ∷ []) names.1 ∙ ap (λ i. more ++ i ∷ []) one
 
   -- an import that is unlisted without a loss has no path

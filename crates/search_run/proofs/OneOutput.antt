@@ -57,8 +57,8 @@ module _ (files : List File) (rules : Rules) (serial : IsTrue rules.serial) (s :
   one-block (p ∷ ps) m n a b one other =
       let number = one-number one.0 other.0 one.4 other.4 in
       let first = search-one p.line (view_at s (last_of s)) (trees-at s h) p.query one.1 other.1
-          (at_last (λ k. IsSearchText p.line (view_at s k) p.query one.1) one.0 one.4 one.5)
-          (at_last (λ k. IsSearchText p.line (view_at s k) p.query other.1) other.0 other.4 other.5) in
+      (at_last (λ k. IsSearchText p.line (view_at s k) p.query one.1) one.0 one.4 one.5)
+      (at_last (λ k. IsSearchText p.line (view_at s k) p.query other.1) other.0 other.4 other.5) in
       let rest = one-block ps one.2 other.2 one.3 other.3 one.6 other.6 in
       let greatest = one.7 ∙ ap (λ k. max k one.2) number ∙ ap (λ (b : Block). max other.0 b.greatest) rest ∙ sym other.7 in
       let text = one.8 ∙ ap (λ t. t ++ one.3) first ∙ ap (λ (b : Block). other.1 ++ b.text) rest ∙ sym other.8 in
@@ -67,8 +67,8 @@ module _ (files : List File) (rules : Rules) (serial : IsTrue rules.serial) (s :
   one-answer : (line : ℕ) (own : Statement) (m n : ℕ) (a b : List ℕ) (next after : State) → IsNamed rules s m → IsNamed rules s n → IsAnswer line (view_at s m) own a → IsAnswer line (view_at s n) own b → next ≡ with_floor s m → after ≡ with_floor s n → passed_by a next ≡ passed_by b after
   one-answer line own m n a b next after named also one other is too =
       let text = answer-unique line (view_at s (last_of s)) (trees-at s h) own a b
-          (at_last (λ k. IsAnswer line (view_at s k) own a) m named one)
-          (at_last (λ k. IsAnswer line (view_at s k) own b) n also other) in
+      (at_last (λ k. IsAnswer line (view_at s k) own a) m named one)
+      (at_last (λ k. IsAnswer line (view_at s k) own b) n also other) in
       let state = is ∙ ap (with_floor s) (one-number m n named also) ∙ sym too in
       λ i. passed_by (text i) (state i)
 
@@ -77,8 +77,8 @@ module _ (files : List File) (rules : Rules) (serial : IsTrue rules.serial) (s :
   one-passing line (statement.Import path) used more a b next after one none other too =
       let counts = counts_of (trees_in (games_in s.log)) in
       let found = finding-one files path counts one.1 other.1
-          (subst (λ e. IsImported files path counts e one.1) (no_loss_is one.0 (ap losses_of (sym one.2) ∙ none)) one.3)
-          (subst (λ e. IsImported files path counts e other.1) (no_loss_is other.0 (ap losses_of (sym other.2) ∙ too)) other.3) in
+      (subst (λ e. IsImported files path counts e one.1) (no_loss_is one.0 (ap losses_of (sym one.2) ∙ none)) one.3)
+      (subst (λ e. IsImported files path counts e other.1) (no_loss_is other.0 (ap losses_of (sym other.2) ∙ too)) other.3) in
       let text = one.4 ∙ sym other.4 in
       let state = one.5 ∙ ap (after_import rules s line) found ∙ sym other.5 in
       λ i. passed_by (text i) (state i)
@@ -124,9 +124,9 @@ module _ (files : List File) (rules : Rules) (serial : IsTrue rules.serial) wher
       let split = push_same placed others p q same in
       let first = one-printed course more placed others s t out so_far h k split.0 (first_none course used none) (first_none more gone too) in
       let passes = one-passing files rules serial t (reached files rules more others t so_far k) q.line q.statement used gone text other next after
-          (subst (λ (r : Printed). IsPassed files rules r.state q.line q.statement used text next) first
-          (subst (λ (r : Placed). IsPassed files rules s r.line r.statement used text next) split.1 is))
-          (second_none course used none) is_too (second_none more gone too) in
+      (subst (λ (r : Printed). IsPassed files rules r.state q.line q.statement used text next) first
+      (subst (λ (r : Placed). IsPassed files rules s r.line r.statement used text next) split.1 is))
+      (second_none course used none) is_too (second_none more gone too) in
       λ i. printed_by (passes i).next ((first i).out ++ (passes i).text)
 
   one-lawful : (placed : List Placed) (course other : List ImportCourse) (a b : List ℕ) → IsLawful files rules course placed a → losses_of course ≡ 0 → IsLawful files rules other placed b → losses_of other ≡ 0 → a ≡ b

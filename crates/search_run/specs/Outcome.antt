@@ -37,7 +37,9 @@ nodes_after before trees = before.nodes + nodes_of trees
 -- the counts of a base with these games more
 abbrev pub with_games : Counts → List Tree → Counts
 with_games before trees = record {
-    games = games_after before trees; nodes = nodes_after before trees }
+  games = games_after before trees;
+  nodes = nodes_after before trees;
+}
 
 -- the counts of a base with these games
 abbrev pub counts_of : List Tree → Counts

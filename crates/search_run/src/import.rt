@@ -1,7 +1,26 @@
 // The import of a folder: which files it has, and what becomes of each.
 ghost use Rattle.std.specs.Prelude.{
-    ◌≡◌, ◌≢◌, ◌⊎◌, ◌↔◌, ◌+◌, ◌<◌, ◌≤◌, ◌∷◌, ◌++◌, [], length, map, vec_len, All, IfOk, IsTrue,
-    OnOk, Some, string_bytes, List, ℕ,
+  ◌≡◌,
+  ◌≢◌,
+  ◌⊎◌,
+  ◌↔◌,
+  ◌+◌,
+  ◌<◌,
+  ◌≤◌,
+  ◌∷◌,
+  ◌++◌,
+  [],
+  length,
+  map,
+  vec_len,
+  All,
+  IfOk,
+  IsTrue,
+  OnOk,
+  Some,
+  string_bytes,
+  List,
+  ℕ,
 };
 ghost use Rattle.kb_edges.specs.Faults.{Rose, RoseBy};
 ghost use Rattle.kb_edges.specs.Files.{File, HasFile};
@@ -9,7 +28,13 @@ ghost use Rattle.kb_edges.specs.Told.{IfTold};
 ghost use Rattle.node_position.specs.Games.{AreNodeChanges};
 ghost use Rattle.search_run.specs.declared.outcome.FileOutcome.TheVariants.{Unread};
 ghost use Rattle.search_run.specs.Course.{
-    Finding, ImportCourse, IsContent, IsImported, games_from, losses_of, trees_in,
+  Finding,
+  ImportCourse,
+  IsContent,
+  IsImported,
+  games_from,
+  losses_of,
+  trees_in,
 };
 ghost use Rattle.search_run.specs.Imported.{Tells, file_reports, games_kept};
 ghost use Rattle.search_run.specs.Log.{segments_of};
@@ -166,11 +191,11 @@ pub fn import_one<F: Folder>(
 ) -> Result<(FileOutcome, Vec<GameTree>), NoMemory>
     ensures outcome { IfTold (F.files folder.old) (λ files. IfOk result (λ r. r.0 ≢ Unread →
         (bytes : List ℕ) × IsContent files path.now name.now bytes
-            × IsOutcome bytes before r.0 r.1.items)) }
+        × IsOutcome bytes before r.0 r.1.items)) }
     ensures unread { IfOk result (λ r. r.0 ≡ Unread →
         Rose (F.faults folder.old) (F.faults folder.new)
         ⊎ ((files : List File) × (F.files folder.old ≡ Some files)
-            × (¬ HasFile files path.now name.now))) }
+        × (¬ HasFile files path.now name.now))) }
     ensures added { IfOk result (λ r. IsAdded before r.0 r.1.items) }
     ensures same { F.files folder.new ≡ F.files folder.old }
     ensures later { F.faults folder.old ≤ F.faults folder.new }

@@ -6,7 +6,12 @@ ghost use Rattle.kb_edges.specs.Files.{File};
 ghost use Rattle.game_tree.specs.Tree.{Tree};
 ghost use Rattle.query_script.specs.declared.statement.Placed.{Placed};
 ghost use Rattle.search_run.specs.Course.{
-    AreNames, Finding, ImportCourse, IsImported, losses_of, nothing_lost,
+  AreNames,
+  Finding,
+  ImportCourse,
+  IsImported,
+  losses_of,
+  nothing_lost,
 };
 ghost use Rattle.search_run.specs.Lawful.{IsBegun, IsLawful, Rules};
 ghost use Rattle.search_run.specs.Outcome.{IsOutcome};

@@ -1,19 +1,31 @@
 // The printed report of an import.
-ghost use Rattle.std.specs.Prelude.{◌≡◌, ◌++◌, OnOk, count_by, length, string_bytes};
+ghost use Rattle.std.specs.Prelude.{◌≡◌, ◌++◌, OnOk, count_by, length};
 ghost use Rattle.search_run.specs.Course.{Finding};
 ghost use Rattle.search_run.specs.Imported.{Tells, file_report, file_reports};
 ghost use Rattle.search_run.specs.Texts.{
-    counts_head, counts_tail, counts_text, file_text, full_text, is_accepted, is_full, is_refused,
-    is_unread, kind_word, listed_text, refused_text, report_text, too_many_text, unlisted_text,
-    unread_text,
+  counts_head,
+  counts_tail,
+  counts_text,
+  file_text,
+  full_text,
+  is_accepted,
+  is_full,
+  is_refused,
+  is_unread,
+  kind_word,
+  listed_text,
+  refused_text,
+  report_text,
+  too_many_text,
+  unlisted_text,
+  unread_text,
 };
 ghost use Rattle.std.specs.List.{flat_map};
 
 use crate::import::{Imported, ImportedFile};
 use crate::outcome::FileOutcome;
-use kb_geometry::NoMemory;
+use kb_geometry::{NoMemory, append, append_decimal, append_decimal_and};
 use sgf_reader::FaultKind;
-use std::fmt::Write;
 
 fn file_count(files: &[ImportedFile]) -> usize
     ensures { result ≡ length (file_reports files.now) }
@@ -65,35 +77,46 @@ fn kind_word(kind: FaultKind) -> &'static str
 }
 
 // Prints the line of a file that was refused.
-fn print_refused(out: &mut String, word: &str, at: u32, name: &str) -> Result<(), NoMemory>
-    ensures { OnOk result (string_bytes out.new
-        ≡ string_bytes out.old ++ refused_text word.now at name.now) }
+fn print_refused(out: &mut Vec<u8>, word: &str, at: u32, name: &str) -> Result<(), NoMemory>
+    ensures { OnOk result (out.new.items
+        ≡ out.old.items ++ refused_text word.now at name.now) }
 {
-    writeln!(out, "refused {word} {at} {name}")?;
+    append(out, b"refused ")?;
+    append(out, word.as_bytes())?;
+    append(out, b" ")?;
+    append_decimal_and(out, u64::from(at), b' ')?;
+    append(out, name.as_bytes())?;
+    append(out, b"\n")?;
     Ok(())
 }
 
 // Prints the line of a file for which there was no room.
-fn print_full(out: &mut String, games: u64, nodes: u64, name: &str) -> Result<(), NoMemory>
-    ensures { OnOk result (string_bytes out.new
-        ≡ string_bytes out.old ++ full_text games nodes name.now) }
+fn print_full(out: &mut Vec<u8>, games: u64, nodes: u64, name: &str) -> Result<(), NoMemory>
+    ensures { OnOk result (out.new.items
+        ≡ out.old.items ++ full_text games nodes name.now) }
 {
-    writeln!(out, "full {games} {nodes} {name}")?;
+    append(out, b"full ")?;
+    append_decimal_and(out, games, b' ')?;
+    append_decimal_and(out, nodes, b' ')?;
+    append(out, name.as_bytes())?;
+    append(out, b"\n")?;
     Ok(())
 }
 
 // Prints the line of a file that was not read.
-fn print_unread(out: &mut String, name: &str) -> Result<(), NoMemory>
-    ensures { OnOk result (string_bytes out.new ≡ string_bytes out.old ++ unread_text name.now) }
+fn print_unread(out: &mut Vec<u8>, name: &str) -> Result<(), NoMemory>
+    ensures { OnOk result (out.new.items ≡ out.old.items ++ unread_text name.now) }
 {
-    writeln!(out, "unread {name}")?;
+    append(out, b"unread ")?;
+    append(out, name.as_bytes())?;
+    append(out, b"\n")?;
     Ok(())
 }
 
 // Prints the line of a file that was not accepted.
-fn print_file(out: &mut String, file: &ImportedFile) -> Result<(), NoMemory>
-    ensures { OnOk result (string_bytes out.new
-        ≡ string_bytes out.old ++ file_text (file_report file.now)) }
+fn print_file(out: &mut Vec<u8>, file: &ImportedFile) -> Result<(), NoMemory>
+    ensures { OnOk result (out.new.items
+        ≡ out.old.items ++ file_text (file_report file.now)) }
 {
     let name = file.name.as_str();
     match file.outcome {
@@ -106,9 +129,9 @@ fn print_file(out: &mut String, file: &ImportedFile) -> Result<(), NoMemory>
 }
 
 // Prints the lines of the files that were not accepted, in order.
-fn print_files(out: &mut String, files: &[ImportedFile]) -> Result<(), NoMemory>
-    ensures { OnOk result (string_bytes out.new
-        ≡ string_bytes out.old ++ flat_map file_text (file_reports files.now)) }
+fn print_files(out: &mut Vec<u8>, files: &[ImportedFile]) -> Result<(), NoMemory>
+    ensures { OnOk result (out.new.items
+        ≡ out.old.items ++ flat_map file_text (file_reports files.now)) }
 {
     for file in files {
         print_file(out, file)?;
@@ -118,51 +141,58 @@ fn print_files(out: &mut String, files: &[ImportedFile]) -> Result<(), NoMemory>
 
 // Prints how many files an import has, and how many were accepted and refused.
 fn print_counts_head(
-    out: &mut String,
+    out: &mut Vec<u8>,
     line: u32,
     files: usize,
     accepted: usize,
     refused: usize,
 ) -> Result<(), NoMemory>
-    ensures { OnOk result (string_bytes out.new
-        ≡ string_bytes out.old ++ counts_head line files accepted refused) }
+    ensures { OnOk result (out.new.items
+        ≡ out.old.items ++ counts_head line files accepted refused) }
 {
-    write!(
-        out,
-        "{line} imported files {files} accepted {accepted} refused {refused}"
-    )?;
+    append_decimal(out, u64::from(line))?;
+    append(out, b" imported files ")?;
+    append_decimal(out, files as u64)?;
+    append(out, b" accepted ")?;
+    append_decimal(out, accepted as u64)?;
+    append(out, b" refused ")?;
+    append_decimal(out, refused as u64)?;
     Ok(())
 }
 
 // Prints for how many files there was no room, how many were not read, the games that were added,
 // and the version after it.
 fn print_counts_tail(
-    out: &mut String,
+    out: &mut Vec<u8>,
     full: usize,
     unread: usize,
     games: usize,
     version: u64,
 ) -> Result<(), NoMemory>
-    ensures { OnOk result (string_bytes out.new
-        ≡ string_bytes out.old ++ counts_tail full unread games version) }
+    ensures { OnOk result (out.new.items
+        ≡ out.old.items ++ counts_tail full unread games version) }
 {
-    writeln!(
-        out,
-        " full {full} unread {unread} games {games} version {version}"
-    )?;
+    append(out, b" full ")?;
+    append_decimal(out, full as u64)?;
+    append(out, b" unread ")?;
+    append_decimal(out, unread as u64)?;
+    append(out, b" games ")?;
+    append_decimal(out, games as u64)?;
+    append(out, b" version ")?;
+    append_decimal_and(out, version, b'\n')?;
     Ok(())
 }
 
 // Prints the counts of an import.
 fn print_counts(
-    out: &mut String,
+    out: &mut Vec<u8>,
     line: u32,
     reports: &[ImportedFile],
     games: usize,
     version: u64,
 ) -> Result<(), NoMemory>
-    ensures { OnOk result (string_bytes out.new
-        ≡ string_bytes out.old ++ counts_text line (file_reports reports.now) games version) }
+    ensures { OnOk result (out.new.items
+        ≡ out.old.items ++ counts_text line (file_reports reports.now) games version) }
 {
     let files = file_count(reports);
     let accepted = accepted_count(reports);
@@ -176,14 +206,14 @@ fn print_counts(
 
 // Prints the report of an import whose files were read.
 fn print_listed(
-    out: &mut String,
+    out: &mut Vec<u8>,
     line: u32,
     files: &[ImportedFile],
     games: usize,
     version: u64,
 ) -> Result<(), NoMemory>
-    ensures { OnOk result (string_bytes out.new
-        ≡ string_bytes out.old ++ listed_text line (file_reports files.now) games version) }
+    ensures { OnOk result (out.new.items
+        ≡ out.old.items ++ listed_text line (file_reports files.now) games version) }
 {
     print_counts(out, line, files, games, version)?;
     print_files(out, files)?;
@@ -191,31 +221,34 @@ fn print_listed(
 }
 
 // Prints the report of an import without a listing.
-fn print_unlisted(out: &mut String, line: u32) -> Result<(), NoMemory>
-    ensures { OnOk result (string_bytes out.new ≡ string_bytes out.old ++ unlisted_text line) }
+fn print_unlisted(out: &mut Vec<u8>, line: u32) -> Result<(), NoMemory>
+    ensures { OnOk result (out.new.items ≡ out.old.items ++ unlisted_text line) }
 {
-    writeln!(out, "{line} imported unlisted")?;
+    append_decimal(out, u64::from(line))?;
+    append(out, b" imported unlisted\n")?;
     Ok(())
 }
 
 // Prints the report of an import of too many names.
-fn print_too_many(out: &mut String, line: u32, names: usize) -> Result<(), NoMemory>
-    ensures { OnOk result (string_bytes out.new
-        ≡ string_bytes out.old ++ too_many_text line names) }
+fn print_too_many(out: &mut Vec<u8>, line: u32, names: usize) -> Result<(), NoMemory>
+    ensures { OnOk result (out.new.items
+        ≡ out.old.items ++ too_many_text line names) }
 {
-    writeln!(out, "{line} imported too many files {names}")?;
+    append_decimal(out, u64::from(line))?;
+    append(out, b" imported too many files ")?;
+    append_decimal_and(out, names as u64, b'\n')?;
     Ok(())
 }
 
 // Prints the report of an import: what was found, and the version after it.
 pub(crate) fn print_report(
-    out: &mut String,
+    out: &mut Vec<u8>,
     line: u32,
     imported: &Imported,
     version: u64,
 ) -> Result<(), NoMemory>
     ensures { OnOk result ((finding : Finding) → Tells imported.now finding →
-        string_bytes out.new ≡ string_bytes out.old ++ report_text line finding version) }
+        out.new.items ≡ out.old.items ++ report_text line finding version) }
 {
     match imported {
         Imported::Unlisted => print_unlisted(out, line)?,

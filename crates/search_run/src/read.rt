@@ -1,7 +1,22 @@
 // Reading a script.
 ghost use Rattle.std.specs.Prelude.{
-    ◌≡◌, ◌≤◌, ◌<◌, ◌+◌, ◌++◌, ℕ, List, [], Some, IfOk, IsErrOf, OnErr, OnOk, length, take, drop,
-    vec_len,
+  ◌≡◌,
+  ◌≤◌,
+  ◌<◌,
+  ◌+◌,
+  ◌++◌,
+  ℕ,
+  List,
+  [],
+  Some,
+  IfOk,
+  IsErrOf,
+  OnErr,
+  OnOk,
+  length,
+  take,
+  drop,
+  vec_len,
 };
 ghost use Rattle.kb_edges.specs.Faults.{Rose};
 ghost use Rattle.kb_edges.specs.Told.{IfTold};

@@ -45,8 +45,7 @@ pub fn run_serial<F: Folder, S: Source, K: Sink>(
     // byte past the limit is read.
     ensures done_left { (bytes : List ℕ) → S.left script.old ≡ Some bytes → result.0 ≡ Status.Done →
         S.left script.new ≡ Some [] }
-    ensures bad_script_left {
-        (bytes : List ℕ) → S.left script.old ≡ Some bytes → (k : ℕ) →
+    ensures bad_script_left { (bytes : List ℕ) → S.left script.old ≡ Some bytes → (k : ℕ) →
         result.0 ≡ Status.BadScript k → S.left script.new ≡ Some (drop 1048577 bytes) }
 
     // Then the statements. The sink fails only where its count rose.
@@ -57,32 +56,32 @@ pub fn run_serial<F: Folder, S: Source, K: Sink>(
         S.left script.old ≡ Some bytes → F.files folder ≡ Some files →
         K.written out.old ≡ Some before →
         result.0 ≡ Status.Done →
-            Prints bytes files before (K.written out.new) (F.faults folder) (F.faults result.1) }
+        Prints bytes files before (K.written out.new) (F.faults folder) (F.faults result.1) }
     ensures stopped { (bytes : List ℕ) (files : List File) (before : List ℕ) →
         S.left script.old ≡ Some bytes → F.files folder ≡ Some files →
         K.written out.old ≡ Some before →
         result.0 ≡ Status.SinkFault →
-            PrintsPrefix bytes files before (K.written out.new) (F.faults folder)
-            (F.faults result.1) }
+        PrintsPrefix bytes files before (K.written out.new) (F.faults folder)
+        (F.faults result.1) }
     ensures no_memory { (bytes : List ℕ) (files : List File) (before : List ℕ) →
         S.left script.old ≡ Some bytes → F.files folder ≡ Some files →
         K.written out.old ≡ Some before →
         result.0 ≡ Status.NoMemory → (K.written out.new ≡ Some before) × (result.1 ≡ folder)
-            ⊎ PrintsPrefix bytes files before (K.written out.new) (F.faults folder)
-            (F.faults result.1) }
+        ⊎ PrintsPrefix bytes files before (K.written out.new) (F.faults folder)
+        (F.faults result.1) }
 
     // Where nothing fails, the run is done, or memory was wanted. Where the folder doesn't fail,
     // nothing is lost.
     ensures complete { (bytes : List ℕ) → S.left script.old ≡ Some bytes → words.now ≡ [] →
         IsInGrammar bytes →
         ¬ Rose (S.faults script.old) (S.faults script.new) →
-            ¬ Rose (K.faults out.old) (K.faults out.new) → (result.0 ≡ Status.Done)
-            ⊎ (result.0 ≡ Status.NoMemory) }
+        ¬ Rose (K.faults out.old) (K.faults out.new) → (result.0 ≡ Status.Done)
+        ⊎ (result.0 ≡ Status.NoMemory) }
     ensures no_loss { (bytes : List ℕ) (files : List File) (before : List ℕ) →
         S.left script.old ≡ Some bytes → F.files folder ≡ Some files →
         K.written out.old ≡ Some before →
         result.0 ≡ Status.Done → ¬ Rose (F.faults folder) (F.faults result.1) →
-            PrintsAll bytes files before (K.written out.new) }
+        PrintsAll bytes files before (K.written out.new) }
 
     // The folder's files stay, and no count of faults falls.
     ensures same { F.files result.1 ≡ F.files folder }

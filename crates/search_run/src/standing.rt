@@ -1,6 +1,21 @@
 // Where a run stands: what it has imported, and the text of each statement there.
 ghost use Rattle.std.specs.Prelude.{
-    ◌≡◌, ◌<◌, ◌≤◌, ◌+◌, ◌^◌, ◌++◌, ◌∷◌, [], List, None, ℕ, IfOk, OnErr, OnOk, All, length,
+  ◌≡◌,
+  ◌<◌,
+  ◌≤◌,
+  ◌+◌,
+  ◌^◌,
+  ◌++◌,
+  ◌∷◌,
+  [],
+  List,
+  None,
+  ℕ,
+  IfOk,
+  OnErr,
+  OnOk,
+  All,
+  length,
 };
 ghost use Rattle.search_run.specs.Imported.{games_kept};
 ghost use Rattle.search_run.specs.Stores.{HaveTheirChanges, HasFewFiles};
@@ -23,11 +38,11 @@ pub(crate) struct Standing {
     games: Vec<Stored>,
     counts: Counts,
     /// The report of an import that isn't joined yet.
-    waiting: Option<String>,
+    waiting: Option<Vec<u8>>,
 }
 
 impl Model for Standing {
-    ghost use Rattle.std.specs.Prelude.{◌≡◌, All, string_bytes};
+    ghost use Rattle.std.specs.Prelude.{◌≡◌, All};
     ghost use Rattle.std.specs.Option.{option_map};
     ghost use Rattle.search_run.specs.Course.{trees_in};
     ghost use Rattle.search_run.specs.Outcome.{counts_of};
@@ -40,7 +55,7 @@ impl Model for Standing {
     ghost view = { λ s. record {
       version = s.version;
       games = games_of s.games.items;
-      waiting = option_map string_bytes s.waiting;
+      waiting = option_map (λ report. report.items) s.waiting;
     } };
 
     ghost invariant = { λ s. (s.counts ≡ counts_of (trees_in (games_of s.games.items)))
@@ -54,7 +69,12 @@ impl Standing {
     ghost use Rattle.session_core.specs.Answers.{IsAnswer, IsAnswered};
     ghost use Rattle.search_run.specs.Run.{serial_rules};
     ghost use Rattle.search_run.specs.Steps.{
-        BlockTexts, IsTextByKept, LeadsOn, kept_report, nothing_kept, view_of,
+      BlockTexts,
+      IsTextByKept,
+      LeadsOn,
+      kept_report,
+      nothing_kept,
+      view_of,
     };
 
     /// The empty base.
@@ -74,7 +94,7 @@ impl Standing {
         ensures { result.now ≡ kept_report self.now }
     {
         match &self.waiting {
-            Some(report) => report.as_bytes(),
+            Some(report) => report.as_slice(),
             None => &[],
         }
     }
@@ -212,7 +232,7 @@ impl Standing {
     {
         let (imported, counts) = import(alloc, folder, path, self.counts)?;
         let version = self.version + imported.versions();
-        let mut report = String::new(alloc);
+        let mut report = Vec::new(alloc);
         print_report(&mut report, line, &imported, version)?;
         add_games(&mut self.games, imported)?;
         self.counts = counts;

@@ -56,7 +56,3 @@ IsAnswered (statement.Import path) = ⊥
 IsAnswered statement.Wait = ⊥
 IsAnswered (statement.Until number) = ⊥
 IsAnswered (statement.Together searches) = ⊥
-
--- the bytes begin with these
-abbrev pub BeginWith : List ℕ → List ℕ → Type 0
-BeginWith bytes first = (rest : List ℕ) × (bytes ≡ first ++ rest)

@@ -6,7 +6,10 @@ use Rattle.session_core.specs.declared.stored.Stored.{Stored}
 -- the game that is stored
 abbrev pub game_of : Stored → Game
 game_of stored = record {
-    file = string_bytes stored.file; place = stored.place; tree = stored.tree }
+  file = string_bytes stored.file;
+  place = stored.place;
+  tree = stored.tree;
+}
 
 -- the games that are stored
 abbrev pub games_of : List Stored → List Game

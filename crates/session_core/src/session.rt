@@ -1,12 +1,22 @@
 // The answers of statements.
 ghost use Rattle.std.specs.Prelude.{
-    ◌≡◌, ◌≤◌, ◌++◌, ◌∷◌, [], ℕ, All, List, OnErr, OnOk, length, string_bytes,
+  ◌≡◌,
+  ◌≤◌,
+  ◌++◌,
+  ◌∷◌,
+  [],
+  ℕ,
+  All,
+  List,
+  OnErr,
+  OnOk,
+  length,
+  string_bytes,
 };
+ghost use mathlib.Core.List.{IsPrefix};
 ghost use Rattle.sgf_writer.specs.Written.{IsWritten};
 ghost use Rattle.query_script.specs.Texts.{game_head};
-ghost use Rattle.session_core.specs.Answers.{
-    BeginWith, IsAnswer, IsAnswered, IsGameText, IsSearchText,
-};
+ghost use Rattle.session_core.specs.Answers.{IsAnswer, IsAnswered, IsGameText, IsSearchText};
 ghost use Rattle.session_core.specs.Games.{HasItsChanges};
 ghost use Rattle.session_core.specs.Stores.{view_of};
 
@@ -50,7 +60,7 @@ impl Session {
         ensures ok { OnOk result ((text : List ℕ)
             × IsAnswer line (view_of number games.now) statement.now text
             × (out.new.items ≡ out.old.items ++ text)) }
-        ensures refused { OnErr result (BeginWith out.new.items out.old.items) }
+        ensures refused { OnErr result (IsPrefix out.old.items out.new.items) }
     {
         match statement {
             Statement::Search { query } => append_search(alloc, line, query, number, games, out),
@@ -78,7 +88,7 @@ impl Session {
         ensures ok { OnOk result ((text : List ℕ)
             × IsSearchText line (view_of number games.now) query.now text
             × (out.new.items ≡ out.old.items ++ text)) }
-        ensures refused { OnErr result (BeginWith out.new.items out.old.items) }
+        ensures refused { OnErr result (IsPrefix out.old.items out.new.items) }
     {
         append_search(alloc, line, query, number, games, out)
     }
@@ -116,7 +126,7 @@ fn append_game(
     ensures ok { OnOk result ((text : List ℕ)
         × IsGameText line (view_of number games.now) game text
         × (out.new.items ≡ out.old.items ++ text)) }
-    ensures refused { OnErr result (BeginWith out.new.items out.old.items) }
+    ensures refused { OnErr result (IsPrefix out.old.items out.new.items) }
 {
     match games.get(game as usize) {
         Some(stored) => append_stored(line, game, number, stored, out),
@@ -134,9 +144,9 @@ fn append_stored(
 ) -> Result<(), NoMemory>
     ensures ok { OnOk result ((written : List ℕ) × IsWritten stored.now.tree written
         × (out.new.items
-            ≡ out.old.items ++ (game_head line game number stored.now.place
-            (string_bytes stored.now.file) ++ (written ++ 10 ∷ [])))) }
-    ensures refused { OnErr result (BeginWith out.new.items out.old.items) }
+        ≡ out.old.items ++ (game_head line game number stored.now.place
+        (string_bytes stored.now.file) ++ (written ++ 10 ∷ [])))) }
+    ensures refused { OnErr result (IsPrefix out.old.items out.new.items) }
 {
     print_game(line, game, number, stored.place, &stored.file, out)?;
     write(&stored.tree, out)?;

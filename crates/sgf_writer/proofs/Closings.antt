@@ -2,8 +2,10 @@
 use Rattle.std.proofs.Common.{◌≡◌, ℕ, ◌<◌, ◌≤◌, List, [], ◌++◌, Option, Some, None, refl, sym, ◌∙◌, ap, arith, inl, inr, append_assoc}
 use Rattle.std.proofs.lemmas.Bool.{cases_lt}
 use Rattle.std.proofs.lemmas.List.{append-nil}
+use mathlib.Core.List.{IsPrefix}
 use Rattle.node_paths.specs.Parents.{IsOnPathTo, higher, itself}
 use Rattle.node_paths.proofs.Ancestors.{IsOnPathTo-between, IsOnPathTo-trans, cases_Option, not_below_sibling, parent-lt, root-parent}
+use Rattle.kb_geometry.proofs.Prefixes.{prefix_same, prefix_trans}
 use Rattle.game_tree.specs.Built.{IsGrown}
 use Rattle.game_tree.specs.Tree.{Tree, first_child_of, next_sibling_of, node_count, parent_of}
 use Rattle.game_tree.proofs.Trees.{next_sibling-facts, next_sibling-root}
@@ -16,16 +18,18 @@ use Rattle.sgf_writer.proofs.Walks.{GoesOn, goes_on-more, goes_on-start}
 pub record IsClosing (tree : Tree) (leaf n : ℕ) (before out : List ℕ) : Type 0 where
   pub within : n < node_count tree
   pub above : IsOnPathTo (parent_of tree) n leaf
+  pub begins : IsPrefix before out
   pub so_far : (next : Option ℕ) (text : List ℕ) → Closes tree n next text → (whole : List ℕ) × Closes tree leaf next whole × (out ++ text ≡ before ++ whole)
 
 pub IsClosing-start : (tree : Tree) (leaf : ℕ) (out : List ℕ) → leaf < node_count tree → IsClosing tree leaf leaf out out
-IsClosing-start tree leaf out within = record { within = within; above = itself; so_far = λ next text c. (text, c, refl) }
+IsClosing-start tree leaf out within = record { within = within; above = itself; begins = prefix_same out; so_far = λ next text c. (text, c, refl) }
 
 module _ (tree : Tree) (grown : IsGrown tree) where
   pub IsClosing-more : (leaf n p : ℕ) (before out new : List ℕ) → IsClosing tree leaf n before out → new ≡ out ++ closing tree n → next_sibling_of tree n ≡ None → parent_of tree n ≡ Some p → IsClosing tree leaf p before new
   IsClosing-more leaf n p before out new c e last parent = record {
     within = omega (arith, parent-lt grown.parents n p parent, c.within);
     above = IsOnPathTo-trans (parent_of tree) (higher parent itself) c.above;
+    begins = prefix_trans before out new c.begins (closing tree n, sym e);
     so_far = λ next text closes.
         let w = c.so_far next (closing tree n ++ text) (last_child last parent closes) in
         (w.0, w.1, ap (λ t. t ++ text) e ∙ append_assoc out (closing tree n) text ∙ w.2);

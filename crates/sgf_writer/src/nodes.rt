@@ -1,5 +1,25 @@
 // The text of one node.
-ghost use Rattle.std.specs.Prelude.{◌≡◌, ◌++◌, ◌<◌, ◌≤◌, ◌==◌, List, [], ◌∷◌, length, Bool, Option, None, Some, OnOk, IfSome, All, if◌then◌else◌};
+ghost use Rattle.std.specs.Prelude.{
+  ◌≡◌,
+  ◌++◌,
+  ◌<◌,
+  ◌≤◌,
+  ◌==◌,
+  List,
+  [],
+  ◌∷◌,
+  length,
+  Bool,
+  Option,
+  None,
+  Some,
+  OnErr,
+  OnOk,
+  IfSome,
+  All,
+  if◌then◌else◌,
+};
+ghost use mathlib.Core.List.{IsPrefix};
 ghost use Rattle.std.specs.Option.{option_map_or};
 ghost use Rattle.kb_geometry.specs.declared.stone.Cell.{Cell};
 ghost use Rattle.game_tree.specs.declared.node.Move.{Move};
@@ -7,16 +27,28 @@ ghost use Rattle.game_tree.specs.declared.node.Setup.{Setup};
 ghost use Rattle.game_tree.specs.Tree.{node_count};
 ghost use Rattle.sgf_writer.specs.Letters.{HasLetter, HasLetters};
 ghost use Rattle.sgf_writer.specs.Parts.{head_text, information_text, setup_text, setter_text};
-ghost use Rattle.sgf_writer.specs.Written.{is_same, move_text, mover_name, node_text, rect_text, root_text, setter_name, setups_text, text_property, value_text};
+ghost use Rattle.sgf_writer.specs.Written.{
+  is_same,
+  move_text,
+  mover_name,
+  node_text,
+  rect_text,
+  root_text,
+  setter_name,
+  setups_text,
+  text_property,
+  value_text,
+};
 
-use crate::values::{append, write_escaped, write_rect, write_size, write_target};
+use crate::values::{write_escaped, write_rect, write_size, write_target};
 use game_tree::{GameTree, Info, Move, Setup};
-use kb_geometry::{Cell, Colour, NoMemory, Shape};
+use kb_geometry::{Cell, Colour, NoMemory, Shape, append};
 
 // Appends `;`, what the root begins with, the node's setups and its move.
 pub(crate) fn write_node(out: &mut Vec<u8>, tree: &GameTree, n: u32) -> Result<(), NoMemory>
     requires { n < node_count tree.now }
-    ensures { OnOk result (out.new.items ≡ out.old.items ++ node_text tree.now n) }
+    ensures ok { OnOk result (out.new.items ≡ out.old.items ++ node_text tree.now n) }
+    ensures refused { OnErr result (IsPrefix out.old.items out.new.items) }
 {
     append(out, b";")?;
     write_start(out, tree, n)?;
@@ -27,8 +59,9 @@ pub(crate) fn write_node(out: &mut Vec<u8>, tree: &GameTree, n: u32) -> Result<(
 
 // Appends what the root begins with, and nothing at another node.
 fn write_start(out: &mut Vec<u8>, tree: &GameTree, n: u32) -> Result<(), NoMemory>
-    ensures { OnOk result (out.new.items ≡ out.old.items
+    ensures ok { OnOk result (out.new.items ≡ out.old.items
         ++ (if n == 0 then root_text tree.now.shape tree.now.info else [])) }
+    ensures refused { OnErr result (IsPrefix out.old.items out.new.items) }
 {
     if n == 0 {
         write_root(out, tree.shape(), tree.info())
@@ -39,7 +72,8 @@ fn write_start(out: &mut Vec<u8>, tree: &GameTree, n: u32) -> Result<(), NoMemor
 
 // Appends what the root begins with.
 fn write_root(out: &mut Vec<u8>, shape: Shape, info: &Info) -> Result<(), NoMemory>
-    ensures { OnOk result (out.new.items ≡ out.old.items ++ root_text shape info.now) }
+    ensures ok { OnOk result (out.new.items ≡ out.old.items ++ root_text shape info.now) }
+    ensures refused { OnErr result (IsPrefix out.old.items out.new.items) }
 {
     write_head(out, shape)?;
     write_information(out, info)?;
@@ -48,7 +82,8 @@ fn write_root(out: &mut Vec<u8>, shape: Shape, info: &Info) -> Result<(), NoMemo
 
 // Appends the game's kind, the file format and the size (SGF FF[4], root properties).
 fn write_head(out: &mut Vec<u8>, shape: Shape) -> Result<(), NoMemory>
-    ensures { OnOk result (out.new.items ≡ out.old.items ++ head_text shape) }
+    ensures ok { OnOk result (out.new.items ≡ out.old.items ++ head_text shape) }
+    ensures refused { OnErr result (IsPrefix out.old.items out.new.items) }
 {
     append(out, b"GM[1]FF[4]SZ[")?;
     write_size(out, shape)?;
@@ -58,7 +93,8 @@ fn write_head(out: &mut Vec<u8>, shape: Shape) -> Result<(), NoMemory>
 
 // Appends the texts of the information (SGF FF[4], game information properties).
 fn write_information(out: &mut Vec<u8>, info: &Info) -> Result<(), NoMemory>
-    ensures { OnOk result (out.new.items ≡ out.old.items ++ information_text info.now) }
+    ensures ok { OnOk result (out.new.items ≡ out.old.items ++ information_text info.now) }
+    ensures refused { OnErr result (IsPrefix out.old.items out.new.items) }
 {
     write_property(out, b"PB", info.black())?;
     write_property(out, b"PW", info.white())?;
@@ -71,7 +107,8 @@ fn write_information(out: &mut Vec<u8>, info: &Info) -> Result<(), NoMemory>
 
 // Appends a property with one text, unless the text is empty.
 fn write_property(out: &mut Vec<u8>, name: &[u8], text: &[u8]) -> Result<(), NoMemory>
-    ensures { OnOk result (out.new.items ≡ out.old.items ++ text_property name.now text.now) }
+    ensures ok { OnOk result (out.new.items ≡ out.old.items ++ text_property name.now text.now) }
+    ensures refused { OnErr result (IsPrefix out.old.items out.new.items) }
 {
     if text.is_empty() {
         append(out, b"")
@@ -83,7 +120,8 @@ fn write_property(out: &mut Vec<u8>, name: &[u8], text: &[u8]) -> Result<(), NoM
 // Appends a property with one text.
 fn write_full_property(out: &mut Vec<u8>, name: &[u8], text: &[u8]) -> Result<(), NoMemory>
     requires { 1 ≤ length text.now }
-    ensures { OnOk result (out.new.items ≡ out.old.items ++ text_property name.now text.now) }
+    ensures ok { OnOk result (out.new.items ≡ out.old.items ++ text_property name.now text.now) }
+    ensures refused { OnErr result (IsPrefix out.old.items out.new.items) }
 {
     append(out, name)?;
     append(out, b"[")?;
@@ -95,7 +133,8 @@ fn write_full_property(out: &mut Vec<u8>, name: &[u8], text: &[u8]) -> Result<()
 // Appends setups in order.
 fn write_setups(out: &mut Vec<u8>, setups: &[Setup]) -> Result<(), NoMemory>
     requires { All (λ (s : Setup). HasLetters s.rect) setups.now }
-    ensures { OnOk result (out.new.items ≡ out.old.items ++ setups_text None setups.now) }
+    ensures ok { OnOk result (out.new.items ≡ out.old.items ++ setups_text None setups.now) }
+    ensures refused { OnErr result (IsPrefix out.old.items out.new.items) }
 {
     let mut before = None;
     for s in setups {
@@ -108,7 +147,8 @@ fn write_setups(out: &mut Vec<u8>, setups: &[Setup]) -> Result<(), NoMemory>
 // Appends one setup, behind one that sets to this cell, if there is one.
 fn write_setup(out: &mut Vec<u8>, before: Option<Cell>, s: Setup) -> Result<(), NoMemory>
     requires { HasLetters s.rect }
-    ensures { OnOk result (out.new.items ≡ out.old.items ++ setup_text before s) }
+    ensures ok { OnOk result (out.new.items ≡ out.old.items ++ setup_text before s) }
+    ensures refused { OnErr result (IsPrefix out.old.items out.new.items) }
 {
     write_setter(out, before, s.cell)?;
     append(out, b"[")?;
@@ -119,7 +159,8 @@ fn write_setup(out: &mut Vec<u8>, before: Option<Cell>, s: Setup) -> Result<(), 
 
 // Appends the identifier of a setup, unless the one before has it too.
 fn write_setter(out: &mut Vec<u8>, before: Option<Cell>, cell: Cell) -> Result<(), NoMemory>
-    ensures { OnOk result (out.new.items ≡ out.old.items ++ setter_text before cell) }
+    ensures ok { OnOk result (out.new.items ≡ out.old.items ++ setter_text before cell) }
+    ensures refused { OnErr result (IsPrefix out.old.items out.new.items) }
 {
     match before {
         Some(other) if is_same(cell, other) => append(out, b""),
@@ -152,7 +193,8 @@ fn setter_name(cell: Cell) -> &'static [u8]
 // Appends a move or a pass, if the node has one.
 fn write_move(out: &mut Vec<u8>, played: Option<Move>) -> Result<(), NoMemory>
     requires { IfSome played (λ (m : Move). IfSome m.point HasLetter) }
-    ensures { OnOk result (out.new.items ≡ out.old.items ++ move_text played) }
+    ensures ok { OnOk result (out.new.items ≡ out.old.items ++ move_text played) }
+    ensures refused { OnErr result (IsPrefix out.old.items out.new.items) }
 {
     match played {
         Some(m) => write_one_move(out, m),
@@ -163,7 +205,8 @@ fn write_move(out: &mut Vec<u8>, played: Option<Move>) -> Result<(), NoMemory>
 // Appends a move or a pass.
 fn write_one_move(out: &mut Vec<u8>, m: Move) -> Result<(), NoMemory>
     requires { IfSome m.point HasLetter }
-    ensures { OnOk result (out.new.items ≡ out.old.items ++ move_text (Some m)) }
+    ensures ok { OnOk result (out.new.items ≡ out.old.items ++ move_text (Some m)) }
+    ensures refused { OnErr result (IsPrefix out.old.items out.new.items) }
 {
     append(out, mover_name(m.colour))?;
     append(out, b"[")?;

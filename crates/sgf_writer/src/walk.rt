@@ -1,19 +1,20 @@
 // The text of a tree, node by node in order of the text.
-ghost use Rattle.std.specs.Prelude.{◌≡◌, ◌<◌, ℕ, List, ◌++◌, OnOk, IfOk, IfSome};
+ghost use Rattle.std.specs.Prelude.{◌≡◌, ◌<◌, ℕ, List, ◌++◌, OnErr, OnOk, IfOk, IfSome};
+ghost use mathlib.Core.List.{IsPrefix};
 ghost use Rattle.game_tree.specs.Tree.{IsTree, node_count};
 ghost use Rattle.sgf_writer.specs.Walk.{Closes, Follows, closing, in_brackets, opening};
 ghost use Rattle.sgf_writer.specs.Written.{IsWritten};
 
 use crate::nodes::write_node;
-use crate::values::append;
 use game_tree::GameTree;
-use kb_geometry::NoMemory;
+use kb_geometry::{NoMemory, append};
 
 // Appends the text of a tree.
 pub(crate) fn write_tree(out: &mut Vec<u8>, tree: &GameTree) -> Result<(), NoMemory>
     requires { IsTree tree.now }
-    ensures { IfOk result (λ _. (text : List ℕ) × IsWritten tree.now text
+    ensures ok { IfOk result (λ _. (text : List ℕ) × IsWritten tree.now text
         × (out.new.items ≡ out.old.items ++ text)) }
+    ensures refused { OnErr result (IsPrefix out.old.items out.new.items) }
 {
     let mut n = 0;
     loop {
@@ -33,6 +34,7 @@ fn write_behind(out: &mut Vec<u8>, tree: &GameTree, n: u32) -> Result<Option<u32
     ensures text { IfOk result (λ next. (text : List ℕ) × Follows tree.now n next text
         × (out.new.items ≡ out.old.items ++ text)) }
     ensures later { IfOk result (λ next. IfSome next (λ s. (n < s) × (s < node_count tree.now))) }
+    ensures refused { OnErr result (IsPrefix out.old.items out.new.items) }
 {
     match tree.first_child(n) {
         Some(child) => Ok(Some(child)),
@@ -40,13 +42,16 @@ fn write_behind(out: &mut Vec<u8>, tree: &GameTree, n: u32) -> Result<Option<u32
     }
 }
 
-// Appends the brackets that are closed behind a leaf, and tells the node that comes next, if there is one.
+// Appends the brackets that are closed behind a leaf, and tells the node that comes next, if there
+// is one.
 fn write_closings(out: &mut Vec<u8>, tree: &GameTree, leaf: u32) -> Result<Option<u32>, NoMemory>
     requires tree { IsTree tree.now }
     requires in_range { leaf < node_count tree.now }
     ensures text { IfOk result (λ next. (text : List ℕ) × Closes tree.now leaf next text
         × (out.new.items ≡ out.old.items ++ text)) }
-    ensures later { IfOk result (λ next. IfSome next (λ s. (leaf < s) × (s < node_count tree.now))) }
+    ensures later { IfOk result (λ next.
+        IfSome next (λ s. (leaf < s) × (s < node_count tree.now))) }
+    ensures refused { OnErr result (IsPrefix out.old.items out.new.items) }
 {
     let mut n = leaf;
     loop {
@@ -65,7 +70,8 @@ fn write_closings(out: &mut Vec<u8>, tree: &GameTree, leaf: u32) -> Result<Optio
 fn write_opening(out: &mut Vec<u8>, tree: &GameTree, n: u32) -> Result<(), NoMemory>
     requires tree { IsTree tree.now }
     requires in_range { n < node_count tree.now }
-    ensures { OnOk result (out.new.items ≡ out.old.items ++ opening tree.now n) }
+    ensures ok { OnOk result (out.new.items ≡ out.old.items ++ opening tree.now n) }
+    ensures refused { OnErr result (IsPrefix out.old.items out.new.items) }
 {
     if is_in_brackets(tree, n) {
         append(out, b"(")
@@ -78,7 +84,8 @@ fn write_opening(out: &mut Vec<u8>, tree: &GameTree, n: u32) -> Result<(), NoMem
 fn write_closing(out: &mut Vec<u8>, tree: &GameTree, n: u32) -> Result<(), NoMemory>
     requires tree { IsTree tree.now }
     requires in_range { n < node_count tree.now }
-    ensures { OnOk result (out.new.items ≡ out.old.items ++ closing tree.now n) }
+    ensures ok { OnOk result (out.new.items ≡ out.old.items ++ closing tree.now n) }
+    ensures refused { OnErr result (IsPrefix out.old.items out.new.items) }
 {
     if is_in_brackets(tree, n) {
         append(out, b")")

@@ -6,13 +6,13 @@ ghost use Rattle.sgf_writer.specs.ReadBack.{IsReadBack};
 
 use crate::walk::write_tree;
 use game_tree::GameTree;
-use kb_geometry::NoMemory;
+use kb_geometry::{NoMemory, cut_back};
 
-/// Appends the canonical text of a tree: `(`, the nodes from the root on, `)`, where a node with more than one
-/// child is followed by each child's text in brackets.
+/// Appends the canonical text of a tree: `(`, the nodes from the root on, `)`, where a node with
+/// more than one child is followed by each child's text in brackets.
 ///
-/// A text of at most 16,777,216 bytes is read and built as exactly this one tree. After `NoMemory` `out` holds
-/// the bytes that it held before.
+/// A text of at most 16,777,216 bytes is read and built as exactly this one tree. After `NoMemory`
+/// `out` holds the bytes that it held before.
 pub fn write(tree: &GameTree, out: &mut Vec<u8>) -> Result<(), NoMemory>
     ensures ok { IfOk result (λ _. (text : List ℕ) × IsWritten tree.now text
         × (out.new.items ≡ out.old.items ++ text)) }
@@ -20,11 +20,8 @@ pub fn write(tree: &GameTree, out: &mut Vec<u8>) -> Result<(), NoMemory>
         IsReadBack text tree.now }
     ensures error { IfErr result (λ _. out.new.items ≡ out.old.items) }
 {
-    // The text is appended whole, so that `out` stays as it is where memory runs out. Each node takes a byte
-    // at least.
-    let nodes = tree.node_count();
-    let mut text = Vec::with_capacity(*out.allocator(), nodes as usize)?;
-    write_tree(&mut text, tree)?;
-    out.extend_from_slice(text.as_slice())?;
-    Ok(())
+    out.reserve(tree.node_count() as usize)?; // Each node takes a byte at least.
+    let len = out.len();
+    let done = write_tree(out, tree);
+    cut_back(out, len, done)
 }

@@ -57,8 +57,7 @@ fn lines_of_statements_are_printed(rt: HostRuntime) -> Result<(), Fail> {
     print_game(8, 9, 10, 11, "a b.sgf", &mut out)?;
     print_game(12, 4294967295, 13, 65535, "c", &mut out)?;
     print_no_game(14, 15, 16, &mut out)?;
-    let wanted =
-        "before\n1 import my games\n4294967295 import \u{e9}\n2 wait version 0\n\
+    let wanted = "before\n1 import my games\n4294967295 import \u{e9}\n2 wait version 0\n\
          3 wait version 18446744073709551615\n4 until 5 version 6\n\
          7 until 4294967295 version 10000000000\n\
          8 game 9 version 10 place 11 file a b.sgf\n\
@@ -117,8 +116,7 @@ fn a_search_with_hits_is_printed(rt: HostRuntime) -> Result<(), Fail> {
         &table,
         &mut out,
     )?;
-    let wanted =
-        "before\n\
+    let wanted = "before\n\
          4294967295 search version 18446744073709551615 games 4294967295 hits 5\n\
          hit 0 0 0 0 0 -\nhit 1 7 3 4 12 B 1 0 now\nhit 2 10 18 0 15 W 18 2 later\n\
          hit 4294967295 65535 5 18 1 B 1 0 later\nhit 4294967295 65535 6 18 8 -\n\

@@ -81,8 +81,7 @@ const WIDE: &str = "(;SZ[5:3]AB[aa][ba])";
 
 const HIGH: &str = "(;SZ[3:5]AB[aa][ba])";
 
-const HANDICAP: &str =
-    "(;GM[1]FF[4]SZ[19]HA[2]AB[dp][pd]\n;W[qp]C[Hi [3d\\]: good game]\n\
+const HANDICAP: &str = "(;GM[1]FF[4]SZ[19]HA[2]AB[dp][pd]\n;W[qp]C[Hi [3d\\]: good game]\n\
      ;B[dd](;W[pq];B[po])(;W[fc];B[cf]))";
 
 const CORNER: &str = "....../....../.....O/...X../....../..X...";

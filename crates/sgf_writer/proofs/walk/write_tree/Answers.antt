@@ -15,11 +15,11 @@ loop-out-preserved c =
     let f = c.in_ok-next.ensures.text in
     let follows = subst (λ (o : Option ℕ). Follows tree c.loop-out.n o f.0) c.in-Some.is f.1 in
     let later = subst (λ (o : Option ℕ). IfSome o (λ s. (c.loop-out.n < s) × (s < node_count tree))) c.in-Some.is c.in_ok-next.ensures.later in
-    IsWriting-more tree (IsGrown-tree _ c.requires) c.loop-out.n c.in-Some.next c.args.out.now.items c.loop-out.out.items c.write_opening.new.out.items c.write_node.new.out.items c.write_behind.new.out.items f.0 c.loop-out.invariant c.in_ok-write_opening.ensures c.in_ok-write_node.ensures follows f.2 later.1
+    IsWriting-more tree (IsGrown-tree _ c.requires) c.loop-out.n c.in-Some.next c.args.out.now.items c.loop-out.out.items c.write_opening.new.out.items c.write_node.new.out.items c.write_behind.new.out.items f.0 c.loop-out.invariant c.in_ok-write_opening.ensures.ok c.in_ok-write_node.ensures.ok follows f.2 later.1
 
-pub returns-in-None : goal.returns-in-None
-returns-in-None c =
+pub returns-in-None-clause-ok : goal.returns-in-None-clause-ok
+returns-in-None-clause-ok c =
     let tree = c.args.tree.now in
     let f = c.in_ok-next.ensures.text in
     let follows = subst (λ (o : Option ℕ). Follows tree c.loop-out.n o f.0) c.in-None.is f.1 in
-    IsWriting-end tree (IsGrown-tree _ c.requires) c.loop-out.n c.args.out.now.items c.loop-out.out.items c.write_opening.new.out.items c.write_node.new.out.items c.write_behind.new.out.items f.0 c.loop-out.invariant c.in_ok-write_opening.ensures c.in_ok-write_node.ensures follows f.2
+    IsWriting-end tree (IsGrown-tree _ c.requires) c.loop-out.n c.args.out.now.items c.loop-out.out.items c.write_opening.new.out.items c.write_node.new.out.items c.write_behind.new.out.items f.0 c.loop-out.invariant c.in_ok-write_opening.ensures.ok c.in_ok-write_node.ensures.ok follows f.2
