@@ -1,7 +1,25 @@
 // The signature of a game, by one walk down its main line.
-ghost use Rattle.std.specs.Prelude.{◌≡◌, ◌≢◌, ◌⊎◌, ◌<◌, ℕ, Option, Some, None, IfSome, IfNone, length, slice_index};
+ghost use Rattle.std.specs.Prelude.{
+  ◌≡◌,
+  ◌≢◌,
+  ◌⊎◌,
+  ◌<◌,
+  ℕ,
+  Option,
+  Some,
+  None,
+  IfSome,
+  IfNone,
+  length,
+  slice_index,
+};
 ghost use Rattle.kb_geometry.specs.declared.shape.Point.{Point};
-ghost use Rattle.dyer_signature.specs.Signatures.{IsSignatureOf, IsSignatureOn, TellsAt, move_numbers};
+ghost use Rattle.dyer_signature.specs.Signatures.{
+  IsSignatureOf,
+  IsSignatureOn,
+  TellsAt,
+  move_numbers,
+};
 
 use crate::Signature;
 use crate::places::with_point;

@@ -27,8 +27,8 @@ fn text_of(alloc: Global, game: Game) -> Result<String, Fail> {
     Ok(text)
 }
 
-// The text of a game on a board whose moves 20, 40, 60, 31, 51 and 71 are told, and whose others are
-// passes.
+// The text of a game on a board whose moves 20, 40, 60, 31, 51 and 71 are told, and whose others
+// are passes.
 fn text_telling(alloc: Global, size: &str, told: &str) -> Result<String, Fail> {
     let mut text = format!(in alloc; "(;SZ[{size}]")?;
     for number in 1..=71 {

@@ -1,6 +1,6 @@
 //! The geometry of a Go board: shapes, points, stones, the changes of a position, and the
-//! symmetries. Beside it what all layers share: lists and texts that contracts see, the answer where
-//! memory is short, and bytes that are appended to a vector.
+//! symmetries. Beside it what all layers share: lists and texts that contracts see, the answer
+//! where memory is short, and bytes that are appended to a vector.
 //!
 //! Stands on the library itoa, which writes digits. In `specs/` are the words of the capture rule:
 //! position, neighbour, group, liberty and the position after a move, and the table of the

@@ -1,5 +1,5 @@
--- Nodes in order of the text, by the numbers of their parents. A parent function gives the number of
--- a node's parent, or none.
+-- Nodes in order of the text, by the numbers of their parents. A parent function gives the number
+-- of a node's parent, or none.
 use Rattle.std.specs.Prelude.{◌≡◌, ℕ, ◌-◌, ◌<◌, ◌≤◌, Option, Some, None}
 
 -- a is n or an ancestor of n

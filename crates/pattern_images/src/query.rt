@@ -30,8 +30,8 @@ impl Query {
     ghost use Rattle.kb_geometry.specs.Symmetry.{number_of_label};
     ghost use Rattle.pattern_images.specs.Query.{IsForBoard, IsLabelOf};
 
-    /// The query that looks for this pattern everywhere: at all nodes of games on all boards, turned
-    /// and mirrored, and with the colours exchanged.
+    /// The query that looks for this pattern everywhere: at all nodes of games on all boards,
+    /// turned and mirrored, and with the colours exchanged.
     pub fn new(pattern: Pattern) -> Query
         ensures { result ≡ record {
           pattern = pattern;

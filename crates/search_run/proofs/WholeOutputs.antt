@@ -7,6 +7,7 @@ use Rattle.std.proofs.lemmas.Grind.{flat_map-append}
 use Rattle.std.proofs.lemmas.List.{append-nil, take_all}
 use Rattle.std.proofs.lemmas.List.Elements.{All-append, All-nil}
 use mathlib.Core.List.{IsPrefix}
+use Rattle.kb_geometry.proofs.Prefixes.{prefix_same, prefix_trans}
 use Rattle.kb_edges.specs.Files.{File}
 use Rattle.query_script.specs.declared.statement.Placed.{Placed}
 use Rattle.query_script.specs.declared.statement.PlacedSearch.{PlacedSearch}
@@ -24,12 +25,6 @@ use Rattle.search_run.proofs.ImportsExist.{HasTree, import-found, imported-trees
 use Rattle.search_run.proofs.StatementLemmas.{floor-joined, floor-named}
 
 -- ---- prefixes
-
-prefix_refl : (text : List ℕ) → IsPrefix text text
-prefix_refl text = ([], append-nil text)
-
-prefix_trans : (a b c : List ℕ) → IsPrefix a b → IsPrefix b c → IsPrefix a c
-prefix_trans a b c p q = (p.0 ++ q.0, sym (append_assoc a p.0 q.0) ∙ ap (λ t. t ++ q.0) p.1 ∙ q.1)
 
 prefix_behind : (text more whole : List ℕ) → IsPrefix more whole → IsPrefix (text ++ more) (text ++ whole)
 prefix_behind text more whole p = (p.0, append_assoc text more p.0 ∙ ap (λ t. text ++ t) p.1)
@@ -166,7 +161,7 @@ module _ (files : List File) (rules : Rules) where
     whole_course = course;
     whole = text ++ waiting_text s;
     lawful = (s, text, printed, refl);
-    prefix = prefix_refl (text ++ waiting_text s);
+    prefix = prefix_same (text ++ waiting_text s);
     losses = refl;
   }
 

@@ -114,13 +114,10 @@ impl Standing {
             Statement::Import { path } => self.import_text(alloc, line, path.as_str()),
             Statement::Wait => self.wait_text(alloc, line),
             Statement::Until { number } => self.until_text(alloc, line, *number),
-            Statement::Search { .. } => {
-                self.answer_text(alloc, session, line, &placed.statement)
-            }
             Statement::Together { searches } => {
                 self.block_text(alloc, session, searches.as_slice())
             }
-            Statement::Game { .. } => self.answer_text(alloc, session, line, &placed.statement),
+            answered => self.answer_text(alloc, session, line, answered),
         }
     }
 

@@ -20,7 +20,8 @@ information_text info =
 
 -- the identifier of a setup, unless the one before has it too
 abbrev pub setter_text : Option Cell → Cell → List ℕ
-setter_text before cell = if option_map_or (is_same cell) before Bool.false then [] else setter_name cell
+setter_text before cell = if option_map_or (is_same cell) before Bool.false then [] else setter_name
+    cell
 
 -- one setup, behind one that sets to this cell, if there is one
 abbrev pub setup_text : Option Cell → Setup → List ℕ

@@ -7,7 +7,8 @@ use Rattle.game_tree.specs.Tree.{Tree}
 use Rattle.game_tree.specs.Trees.{AreTreesOf}
 use Rattle.game_tree.specs.ValueFaults.{HasValueFault}
 
--- The text has no fault, neither of its syntax nor of its values, and the trees of its collection are this one.
+-- The text has no fault, neither of its syntax nor of its values, and the trees of its collection
+-- are this one.
 pub record IsReadBack (text : List ℕ) (tree : Tree) : Type 0 where
   pub collection : Collection
   pub read : IsRead text collection

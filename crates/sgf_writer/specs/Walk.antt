@@ -1,11 +1,14 @@
--- For the writer's private functions: the brackets round a node's text, and what is written between two nodes.
+-- For the writer's private functions: the brackets round a node's text, and what is written between
+-- two nodes.
 use Rattle.std.specs.Prelude.{◌≡◌, ℕ, nat_lt, Bool, List, [], ◌++◌, length, Option, Some, None, codes, if◌then◌else◌}
 use Rattle.std.specs.Option.{option_map_or}
 use Rattle.game_tree.specs.Tree.{Tree, children_of, first_child_of, next_sibling_of, parent_of}
 
--- brackets stand round the text from this node on: that of the root, and that of each of several children
+-- brackets stand round the text from this node on: that of the root, and that of each of several
+-- children
 abbrev pub in_brackets : Tree → ℕ → Bool
-in_brackets tree n = option_map_or (λ p. nat_lt 1 (length (children_of tree p))) (parent_of tree n) Bool.true
+in_brackets tree n = option_map_or (λ p. nat_lt 1 (length (children_of tree p)))
+    (parent_of tree n) Bool.true
 
 -- what stands before the node
 abbrev pub opening : Tree → ℕ → List ℕ
@@ -17,7 +20,8 @@ closing tree n = if in_brackets tree n then codes ")" else []
 
 -- Behind the last node below this one stands this text, and then this node, if there is one.
 pub data Closes (tree : Tree) : ℕ → Option ℕ → List ℕ → Type 0 where
-  before_sibling : {n s : ℕ} → next_sibling_of tree n ≡ Some s → Closes tree n (Some s) (closing tree n)
+  before_sibling : {n s : ℕ} → next_sibling_of tree n ≡ Some s →
+      Closes tree n (Some s) (closing tree n)
   at_end : {n : ℕ} → parent_of tree n ≡ None → Closes tree n None (closing tree n)
   last_child : {n p : ℕ} {next : Option ℕ} {text : List ℕ} →
       next_sibling_of tree n ≡ None →

@@ -33,7 +33,8 @@ point_text p = letter_of p.x ∷ letter_of p.y ∷ []
 abbrev pub rect_text : Rect → List ℕ
 rect_text r =
     if (r.x0 == r.x1) && (r.y0 == r.y1) then point_text (record { x = r.x0; y = r.y0 })
-    else point_text (record { x = r.x0; y = r.y0 }) ++ codes ":" ++ point_text (record { x = r.x1; y = r.y1 })
+    else point_text (record { x = r.x0; y = r.y0 }) ++ codes ":"
+    ++ point_text (record { x = r.x1; y = r.y1 })
 
 -- the identifier of a setup: AB, AW or AE
 abbrev pub setter_name : Cell → List ℕ
@@ -53,8 +54,8 @@ is_same cell.White cell.Empty = Bool.false
 is_same cell.White cell.Black = Bool.false
 is_same cell.White cell.White = Bool.true
 
--- setups in order, behind one that sets to this cell, if there is one: the identifier stands before the
--- first one and wherever the kind changes
+-- setups in order, behind one that sets to this cell, if there is one: the identifier stands before
+-- the first one and wherever the kind changes
 abbrev pub setups_text : Option Cell → List Setup → List ℕ
 setups_text before [] = []
 setups_text before (s ∷ ss) =
@@ -74,7 +75,8 @@ move_text (Some m) = mover_name m.colour ++ value_text (option_map_or point_text
 -- a backslash before each `]` and backslash
 abbrev pub escaped : List ℕ → List ℕ
 escaped text =
-    flat_map (λ b. if (b == backslash) || (b == square_close) then backslash ∷ b ∷ [] else b ∷ []) text
+    flat_map (λ b. if (b == backslash) || (b == square_close) then backslash ∷ b ∷ [] else b
+    ∷ []) text
 
 -- a text of the information, unless it is empty
 abbrev pub text_property : List ℕ → List ℕ → List ℕ
@@ -102,7 +104,8 @@ node_text tree n =
     ++ setups_text None (node_at tree n).setups ++ move_text (node_at tree n).played
 
 mutual
-  -- The text from a node on: the node, and then its one child's text, or each child's text in brackets.
+  -- The text from a node on: the node, and then its one child's text, or each child's text in
+  -- brackets.
   pub data IsWrittenFrom (tree : Tree) : ℕ → List ℕ → Type 0 where
     leaf : {n : ℕ} → children_of tree n ≡ [] → IsWrittenFrom tree n (node_text tree n)
     only_child : {n : ℕ} (child : ℕ) (text : List ℕ) →

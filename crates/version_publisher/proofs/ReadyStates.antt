@@ -5,7 +5,8 @@ use Rattle.logbook.specs.Pages.{Book}
 use Rattle.version_publisher.specs.declared.state.Content.{Content}
 use Rattle.version_publisher.specs.Contents.{items_in, content, extended, merged_content, last_two_joined, IsReady}
 use Rattle.version_publisher.proofs.PartLists.{joined-merged_last}
-use Rattle.version_publisher.proofs.Prefixes.{prefix_trans, prefix_rest, prefix_same}
+use Rattle.kb_geometry.proofs.Prefixes.{prefix_same, prefix_trans}
+use Rattle.version_publisher.proofs.Prefixes.{prefix_rest}
 
 module _ {A : Type 0} where
   pub joined-append : (xs ys : List (List A)) → items_in (xs ++ ys) ≡ items_in xs ++ items_in ys

@@ -12,7 +12,8 @@ use Rattle.logbook.specs.Pages.{Book}
 use Rattle.version_publisher.specs.declared.state.Content.{Content}
 use Rattle.version_publisher.specs.declared.state.Knowledge.{Knowledge}
 use Rattle.version_publisher.specs.Contents.{Opening, opening_of, content, KnowsOnly, KnowsOne, IsLawfulContent, IsLawfulSeat, IsEmptyOrAmong, AreEmpty, ArePrefixes, LookTells, PublishTells, ReadsArePublished, MayFollow, nothing_known, after_look, after_publish}
-use Rattle.version_publisher.proofs.Prefixes.{prefix_trans, prefix_same, prefix_of_empty}
+use Rattle.kb_geometry.proofs.Prefixes.{prefix_same, prefix_trans}
+use Rattle.version_publisher.proofs.Prefixes.{prefix_of_empty}
 
 pub both_know : (b : Opening) (v w : List Opening) → KnowsOnly b v → KnowsOnly b w → KnowsOnly b (v ++ w)
 both_know b [] w p q = q
