@@ -8,6 +8,7 @@ use Rattle.std.proofs.lemmas.List.{append-nil, take_all}
 use Rattle.kb_edges.specs.Faults.{RoseBy}
 use Rattle.kb_edges.specs.Files.{File}
 use Rattle.query_script.specs.declared.statement.PlacedSearch.{PlacedSearch}
+use Rattle.query_script.specs.declared.statement.Statement.{Statement}
 use Rattle.query_script.specs.declared.statement.Statement.TheVariants as statement
 use Rattle.query_script.specs.Texts.{import_text, until_text, wait_text}
 use Rattle.pattern_images.specs.declared.query.Query.{Query}
@@ -83,13 +84,22 @@ module _ (files : List File) (s : State) (kept : Kept) (is : IsKept s kept) (lin
       let are = BlockTexts-are s kept is searches text block in
       ([], with_floor s are.0, (are.0, are.2, refl, refl))
 
-  pub text-search : (query : Query) → IsSearchText line (view_of kept) query text → IsStatementText files serial_rules s line (statement.Search query) text
+  text-search : (query : Query) → IsSearchText line (view_of kept) query text → IsStatementText files serial_rules s line (statement.Search query) text
   text-search query of =
       ([], with_floor s (last_of s), (last_of s, last_named s kept is, rw (view_kept s kept is) of, refl, refl))
 
-  pub text-game : (number : ℕ) → IsAnswer line (view_of kept) (statement.Game number) text → IsStatementText files serial_rules s line (statement.Game number) text
+  text-game : (number : ℕ) → IsAnswer line (view_of kept) (statement.Game number) text → IsStatementText files serial_rules s line (statement.Game number) text
   text-game number of =
       ([], with_floor s (last_of s), (last_of s, last_named s kept is, rw (view_kept s kept is) of, refl, refl))
+
+  -- of one that is answered from the games of a version
+  pub text-answered : (own : Statement) → IsAnswer line (view_of kept) own text → IsStatementText files serial_rules s line own text
+  text-answered (statement.Search query) of = text-search query of
+  text-answered (statement.Game number) of = text-game number of
+  text-answered (statement.Import path) of = absurd of
+  text-answered statement.Wait of = absurd of
+  text-answered (statement.Until number) of = absurd of
+  text-answered (statement.Together searches) of = absurd of
 
 -- ---- where a statement leads
 
