@@ -1,0 +1,3 @@
+pub mod DateTexts
+pub mod FirstDates
+pub mod Calendars

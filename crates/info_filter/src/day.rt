@@ -1,7 +1,9 @@
 // The day of a game. jiff knows which dates there are, and their numbers.
-ghost use Rattle.std.specs.Prelude.{◌≡◌, ◌++◌, ◌<◌, ◌≤◌, ◌↔◌, ℕ, List, [], ◌∷◌, All, IfSome, IsNone, IsTrue};
+ghost use Rattle.std.specs.Prelude.{◌≡◌, ◌++◌, ◌<◌, ◌≤◌, ◌↔◌, ℕ, List, [], ◌∷◌, All, length, take, slice_index, pos, IfSome, IsNone, IsTrue};
 ghost use Rattle.std.specs.Char.{digit_value};
+ghost use Rattle.jiff_core.specs.Calendar.{IsCivilDate, days_from_civil};
 ghost use Rattle.sgf_reader.specs.Bytes.{space};
+ghost use Rattle.info_filter.specs.DateParts.{BeginsWithNumber, BeginsWithPart, BeginsWithYear};
 ghost use Rattle.info_filter.specs.Day.{IsDateByte, IsDateText, IsDayOf, IsFirstDate, IsNumber};
 
 use jiff::civil::Date;
@@ -17,6 +19,18 @@ pub fn day_of(date: &[u8]) -> Option<i32>
     ensures { IsDayOf date.now result }
 {
     let (year, month, day) = date_parts(first_date(date))?;
+    day_number(year, month, day)
+}
+
+// The number of a day, if the calendar has it.
+fn day_number(year: u16, month: u8, day: u8) -> Option<i32>
+    requires year { year ≤ 9999 }
+    requires month { month ≤ 99 }
+    requires day { day ≤ 99 }
+    ensures some { IfSome result (λ number. IsCivilDate (pos year) month day
+        × (number ≡ days_from_civil (pos year) month day)) }
+    ensures none { IsNone result → ¬ IsCivilDate (pos year) month day }
+{
     let date = Date::new(year as i16, month as i8, day as i8).ok()?;
     Some(date.to_plain().to_unix_epoch_day())
 }
@@ -26,11 +40,20 @@ fn first_date(text: &[u8]) -> &[u8]
     ensures { IsFirstDate text.now result.now }
 {
     let shown = behind_white(text);
-    let end = shown
-        .iter()
-        .position(|b| !is_date_byte(*b))
-        .unwrap_or(shown.len());
-    &shown[..end]
+    &shown[..date_end(shown)]
+}
+
+// How many bytes at the beginning of a text dates are made of.
+fn date_end(text: &[u8]) -> usize
+    ensures within { result ≤ length text.now }
+    ensures made { All IsDateByte (take result text.now) }
+    ensures longest { result < length text.now → ¬ IsDateByte (slice_index text.now result) }
+{
+    let mut end = 0;
+    while end < text.len() && is_date_byte(text[end]) {
+        end += 1;
+    }
+    end
 }
 
 // A text without the white space before it.
@@ -63,14 +86,51 @@ fn date_parts(date: &[u8]) -> Option<(u16, u8, u8)>
         (parts.0 ≤ 9999) × (parts.1 ≤ 99) × (parts.2 ≤ 99)) }
     ensures none { IsNone result → (y m d : ℕ) → ¬ IsDateText date.now y m d }
 {
-    match date {
-        [a, b, c, d, b'-', e, f, b'-', g, h] => {
-            Some((year_of(*a, *b, *c, *d)?, two_digits(*e, *f)?, two_digits(*g, *h)?))
-        }
-        [a, b, c, d, b'-', e, f] => Some((year_of(*a, *b, *c, *d)?, two_digits(*e, *f)?, 1)),
-        [a, b, c, d] => Some((year_of(*a, *b, *c, *d)?, 1, 1)),
-        _ => None,
+    let (year, behind_year) = leading_year(date)?;
+    let (month, behind_month) = leading_part(behind_year)?;
+    let (day, rest) = leading_part(behind_month)?;
+    if rest.is_empty() {
+        Some((year, month, day))
+    } else {
+        None
     }
+}
+
+// The year at the beginning of a date, and what stands behind it.
+fn leading_year(date: &[u8]) -> Option<(u16, &[u8])>
+    ensures some { IfSome result (λ read. BeginsWithYear date.now read.0 read.1.now) }
+    ensures small { IfSome result (λ read. read.0 ≤ 9999) }
+    ensures none { IsNone result → (n : ℕ) (rest : List ℕ) → ¬ BeginsWithYear date.now n rest }
+{
+    let [a, b, c, d, rest @ ..] = date else {
+        return None;
+    };
+    Some((year_of(*a, *b, *c, *d)?, rest))
+}
+
+// The month or the day of the month that stands next in a date, and what stands behind it. At the
+// end of the date it is 1.
+fn leading_part(text: &[u8]) -> Option<(u8, &[u8])>
+    ensures some { IfSome result (λ read. BeginsWithPart text.now read.0 read.1.now) }
+    ensures small { IfSome result (λ read. read.0 ≤ 99) }
+    ensures none { IsNone result → (n : ℕ) (rest : List ℕ) → ¬ BeginsWithPart text.now n rest }
+{
+    if text.is_empty() {
+        return Some((1, text));
+    }
+    written_part(text)
+}
+
+// The month or the day of the month that stands next in a date.
+fn written_part(text: &[u8]) -> Option<(u8, &[u8])>
+    ensures some { IfSome result (λ read. BeginsWithNumber text.now read.0 read.1.now) }
+    ensures small { IfSome result (λ read. read.0 ≤ 99) }
+    ensures none { IsNone result → (n : ℕ) (rest : List ℕ) → ¬ BeginsWithNumber text.now n rest }
+{
+    let [b'-', tens, ones, rest @ ..] = text else {
+        return None;
+    };
+    Some((two_digits(*tens, *ones)?, rest))
 }
 
 // The year that four digits write.
