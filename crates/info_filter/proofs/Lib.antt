@@ -1,3 +1,4 @@
 pub mod DateTexts
 pub mod FirstDates
 pub mod Calendars
+pub mod Conditions

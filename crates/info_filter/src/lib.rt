@@ -8,6 +8,8 @@
 
 mod condition;
 mod day;
+mod filter;
 
 pub use condition::{Condition, ConditionList};
 pub use day::day_of;
+pub use filter::{Filter, accepts, accepts_known};
