@@ -2,3 +2,5 @@ pub mod DateTexts
 pub mod FirstDates
 pub mod Calendars
 pub mod Conditions
+pub mod Entries
+pub mod TableRows

@@ -9,7 +9,11 @@
 mod condition;
 mod day;
 mod filter;
+mod players;
+mod score;
+mod seat;
 
 pub use condition::{Condition, ConditionList};
 pub use day::day_of;
 pub use filter::{Filter, accepts, accepts_known};
+pub use players::{PlayerRow, PlayerRows, Players};
