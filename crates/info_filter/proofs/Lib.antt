@@ -4,3 +4,4 @@ pub mod Calendars
 pub mod Conditions
 pub mod Entries
 pub mod TableRows
+pub mod Tables
