@@ -5,3 +5,4 @@ pub mod Conditions
 pub mod Entries
 pub mod TableRows
 pub mod Tables
+pub mod OneTable

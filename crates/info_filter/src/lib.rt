@@ -9,6 +9,7 @@
 mod condition;
 mod day;
 mod filter;
+mod laws;
 mod players;
 mod score;
 mod seat;
@@ -16,4 +17,8 @@ mod seat;
 pub use condition::{Condition, ConditionList};
 pub use day::day_of;
 pub use filter::{Filter, accepts, accepts_known};
+pub use laws::{
+    a_list_of_games_has_one_table, a_row_counts_at_most_two_sides_of_a_game,
+    a_text_has_one_day_or_none,
+};
 pub use players::{PlayerRow, PlayerRows, Players};
