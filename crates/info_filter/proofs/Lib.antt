@@ -6,3 +6,4 @@ pub mod Entries
 pub mod TableRows
 pub mod Tables
 pub mod OneTable
+pub mod SomeDay
