@@ -36,8 +36,14 @@ pub day_there : (text date : List ℕ) (y m d : ℕ) (found : Option ℤ) →
     (IsNone found → ¬ IsCivilDate (pos y) m d) →
     IsDayOf text found
 day_there text date y m d (Some number) first written some none = record {
-  date = date; year = y; month = m; day = d;
-  first = first; written = written; in_calendar = some.0; number_is = some.1;
+  date = date;
+  year = y;
+  month = m;
+  day = d;
+  first = first;
+  written = written;
+  in_calendar = some.0;
+  number_is = some.1;
 }
 day_there text date y m d None first written some none = λ number has.
     let same = first_once text has.date date has.first first in

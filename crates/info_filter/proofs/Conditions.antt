@@ -43,7 +43,9 @@ bytes_found text bytes (before, after, is) = (length before, subst (λ xs. Occur
 pub day_passes : (text : List ℕ) (day : Option ℤ) (P : ℤ → Type 0) → IsDayOf text day → (passed : Bool) → IsTrue passed ↔ IsSomeAnd day P → IsTrue passed ↔ ((number : ℤ) × HasDay text number × P number)
 day_passes text (Some number) P has passed test = (
   λ yes. (number, has, test.0 yes),
-  λ (other, other_has, passes). test.1 (subst P (day_once text other number other_has has) passes))
+  λ (other, other_has, passes). test.1 (subst P (day_once text other number other_has has) passes),
+)
 day_passes text None P none passed test = (
   λ yes. absurd (test.0 yes),
-  λ (other, other_has, passes). absurd (none other other_has))
+  λ (other, other_has, passes). absurd (none other other_has),
+)

@@ -44,8 +44,8 @@ split_once P (x ∷ xs) (y ∷ ys) rest more all all' none none' e =
 pub first_once : (text one other : List ℕ) → IsFirstDate text one → IsFirstDate text other → one ≡ other
 first_once text one other a b =
     let (_, shown) = split_once (λ (x : ℕ). x ≤ 32) a.white b.white (one ++ a.rest) (other ++ b.rest) a.skipped b.skipped
-        (λ x r e low. let high : 32 < x = a.all_skipped x r e in omega (arith, high, low))
-        (λ x r e low. let high : 32 < x = b.all_skipped x r e in omega (arith, high, low))
-        (sym a.parts ∙ b.parts) in
+    (λ x r e low. let high : 32 < x = a.all_skipped x r e in omega (arith, high, low))
+    (λ x r e low. let high : 32 < x = b.all_skipped x r e in omega (arith, high, low))
+    (sym a.parts ∙ b.parts) in
     let (same, _) = split_once IsDateByte one other a.rest b.rest a.made b.made a.longest b.longest shown in
     same

@@ -131,3 +131,7 @@ length_sides (game ∷ games) = let rest = length_sides games in omega (arith, r
 pub few_games : (games : List Information) (rows : List TableRow) → IsTable games rows → All (λ (row : TableRow). row.games ≤ 2 * length games) rows
 few_games games rows table = All-weaker (IsTold (sides_of games)) (λ (row : TableRow). row.games ≤ 2 * length games)
     (λ row told. let most = count_by-le-length (is_of row.name) (sides_of games) in let long = length_sides games in let is = told.games in omega (arith, most, long, is)) rows table.told
+
+-- to the table of so few games another game can be added
+pub room_for_game : (games : List Information) (rows : List TableRow) → IsTable games rows → length games ≤ 2000000000 → All (λ (row : TableRow). row.games ≤ 4000000000) rows
+room_for_game games rows table few = All-weaker (λ (row : TableRow). row.games ≤ 2 * length games) (λ (row : TableRow). row.games ≤ 4000000000) (λ row le. omega (arith, le, few)) rows (few_games games rows table)

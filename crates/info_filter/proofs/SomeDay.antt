@@ -44,19 +44,22 @@ part P tells (x ∷ xs) = elim (tells x) [
 first_some : (text : List ℕ) → (date : List ℕ) × IsFirstDate text date
 first_some text =
     let (white, shown, is, skipped, first) = part (λ (b : ℕ). b ≤ 32) (λ b. tells_le b 32) text in
-    let (date, rest, shown_is, made_of, longest) = part IsDateByte (λ b. tells_either (tells_both (tells_le 48 b) (tells_le b 57)) (tells_eq b 45)) shown in
-    (date, record {
-      white = white;
-      rest = rest;
-      parts = is ∙ ap (λ xs. white ++ xs) shown_is;
-      skipped = skipped;
-      all_skipped = λ b more e. high_enough b (first b more (shown_is ∙ e));
-      made = made_of;
-      longest = longest;
-    })
+    let (date, rest, shown_is, made_of, longest) = part IsDateByte (λ b. tells_either (tells_both (tells_le 48 b) (tells_le b 57)) (tells_eq b 45)) shown in (
+      date,
+      record {
+        white = white;
+        rest = rest;
+        parts = is ∙ ap (λ xs. white ++ xs) shown_is;
+        skipped = skipped;
+        all_skipped = λ b more e. high_enough b (first b more (shown_is ∙ e));
+        made = made_of;
+        longest = longest;
+      },
+    )
   where
     tells_eq : (a b : ℕ) → Tells (a ≡ b)
     tells_eq a b = elim (eqb_tells a b) [ inl (t, e) ↦ inl e | inr (f, n) ↦ inr n ]
+
     high_enough : (b : ℕ) → ¬ (b ≤ 32) → 32 < b
     high_enough b never = elim (leb_tells b 32) [ inl (t, le) ↦ absurd (never le) | inr (f, lt) ↦ lt ]
 
@@ -125,6 +128,7 @@ tells_date date = elim (tells_year date) [
     ]
   ]
 ]
+
 -- ---- days
 
 tells_year_number : (y : ℕ) → Tells (IsYear (pos y))

@@ -188,7 +188,7 @@ told_with sides (row ∷ rows) side named told own absent = elim (told_name side
       (All-cons (IsTold (sides ++ side ∷ [])) row (with_side rows side)
       (told_other sides row side differ (All-head (IsTold sides) row rows told))
       (told_with sides rows side named (All-tail (IsTold sides) row rows told) (pairs_tail (λ (a b : TableRow). a.name ≢ b.name) row rows own)
-        (λ none. absent (All-cons (λ (r : TableRow). r.name ≢ side.name) row rows (λ is. differ (sym is)) none))))
+      (λ none. absent (All-cons (λ (r : TableRow). r.name ≢ side.name) row rows (λ is. differ (sym is)) none))))
 ]
 
 -- ---- each name has a row

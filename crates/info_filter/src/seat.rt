@@ -39,18 +39,13 @@ pub(crate) fn seat_of(
 }
 
 // Counts a side of a game where its name has its row.
-pub(crate) fn add_side(
-    scores: &mut IndexMap<Vec<u8>, Score>,
-    seat: Seat,
-    won: bool,
-    lost: bool,
-)
+pub(crate) fn add_side(scores: &mut IndexMap<Vec<u8>, Score>, seat: Seat, won: bool, lost: bool)
     requires room { 1 ≤ spare scores.old }
     requires seat { (name : List ℕ) × IsSeat scores.old.entries name seat }
     requires small { All (λ (row : TableRow). row.games ≤ 4294967294) (rows_of scores.old.entries) }
     ensures added { (name : List ℕ) → IsSeat scores.old.entries name seat →
         IsSideAdded (rows_of scores.old.entries)
-            (record { name = name; won = won; lost = lost }) (rows_of scores.new.entries) }
+        (record { name = name; won = won; lost = lost }) (rows_of scores.new.entries) }
     ensures kept { (name : List ℕ) (other : Seat) →
         IsSeat scores.old.entries name other → IsSeat scores.new.entries name other }
     ensures spare { spare scores.old ≤ spare scores.new + 1 }

@@ -19,10 +19,12 @@ fn games_of(alloc: Global, text: &[u8]) -> Result<Vec<GameTree>, Fail> {
 // How many games of a text a filter accepts.
 fn accepted(alloc: Global, text: &[u8], filter: &Filter) -> Result<usize, Fail> {
     let games = games_of(alloc, text)?;
-    Ok(games
-        .iter()
-        .filter(|game| accepts(filter, game.info()))
-        .count())
+    Ok(
+        games
+            .iter()
+            .filter(|game| accepts(filter, game.info()))
+            .count(),
+    )
 }
 
 // What a condition on a text is about.
@@ -90,7 +92,12 @@ const TEXTS: [(&[u8], Field, &[u8], usize); 28] = [
     (b"(;SZ[9])", Field::Player, b"a", 0),
     // The first value of a property counts, also where it is empty.
     (b"(;PB[][Ito])", Field::Black, b"Ito", 0),
-    (b"(;PB[Ito][])(;PB[Sato])(;PW[Ito])", Field::Player, b"Ito", 2),
+    (
+        b"(;PB[Ito][])(;PB[Sato])(;PW[Ito])",
+        Field::Player,
+        b"Ito",
+        2,
+    ),
     (b"(;PB[Ito][])(;PB[Sato])(;PW[Ito])", Field::Black, b"to", 2),
     // Bytes of any kind.
     (ODD_GAME, Field::Black, b"a]b\"c\\d e f\xff", 1),
@@ -317,13 +324,22 @@ const TABLES: [(&[u8], &[u8]); 11] = [
         b"1 1 0 A\n2 0 2 B\n1 1 0 C\n",
     ),
     // Black's name comes first, and the order isn't that of the bytes.
-    (b"(;PW[A]PB[Z])(;PB[M]PW[A])", b"1 0 0 Z\n2 0 0 A\n1 0 0 M\n"),
+    (
+        b"(;PW[A]PB[Z])(;PB[M]PW[A])",
+        b"1 0 0 Z\n2 0 0 A\n1 0 0 M\n",
+    ),
     // A name on both sides of a game.
     (b"(;PB[A]PW[A]RE[B+R])", b"2 1 1 A\n"),
-    (b"(;PB[A]PW[A]RE[W+R])(;PB[A]PW[B]RE[W+R])", b"3 1 2 A\n1 1 0 B\n"),
+    (
+        b"(;PB[A]PW[A]RE[W+R])(;PB[A]PW[B]RE[W+R])",
+        b"3 1 2 A\n1 1 0 B\n",
+    ),
     (b"(;PB[A]PW[A])", b"2 0 0 A\n"),
     // Empty and absent names are skipped.
-    (b"(;PB[]PW[B]RE[W+R])(;PB[A]RE[W+R])(;RE[B+R])", b"1 1 0 B\n1 0 1 A\n"),
+    (
+        b"(;PB[]PW[B]RE[W+R])(;PB[A]RE[W+R])(;RE[B+R])",
+        b"1 1 0 B\n1 0 1 A\n",
+    ),
     (b"(;SZ[9])", b""),
     // No side won.
     (
@@ -331,8 +347,14 @@ const TABLES: [(&[u8], &[u8]); 11] = [
         b"4 0 0 A\n4 0 0 B\n",
     ),
     // Names differ as bytes do.
-    (b"(;PB[a]PW[A])(;PB[a ]PW[A])", b"1 0 0 a\n2 0 0 A\n1 0 0 a \n"),
-    (b"(;PB[\xff\xfe]PW[\"\\]\"])", b"1 0 0 \xff\xfe\n1 0 0 \"]\"\n"),
+    (
+        b"(;PB[a]PW[A])(;PB[a ]PW[A])",
+        b"1 0 0 a\n2 0 0 A\n1 0 0 a \n",
+    ),
+    (
+        b"(;PB[\xff\xfe]PW[\"\\]\"])",
+        b"1 0 0 \xff\xfe\n1 0 0 \"]\"\n",
+    ),
     (b"(;PB[a\x00b\nc]PW[a b c])", b"2 0 0 a b c\n"),
 ];
 

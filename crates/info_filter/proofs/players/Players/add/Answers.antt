@@ -9,9 +9,11 @@ add_side-requires-clause-seat c =
     (c.black.result.now, subst (λ es. IsSeat es c.black.result.now c.in_ok-black.black) (sym c.in_ok-reserve.ensures.entries) c.in_ok-black.ensures)
 
 pub add_side-requires-2-clause-seat : goal.add_side-requires-2-clause-seat
-add_side-requires-2-clause-seat c =
-    (c.white.result.now, c.add_side.ensures.kept c.white.result.now c.in_ok-white.white
-    (subst (λ es. IsSeat es c.white.result.now c.in_ok-white.white) (sym c.in_ok-reserve.ensures.entries) c.in_ok-white.ensures))
+add_side-requires-2-clause-seat c = (
+  c.white.result.now,
+  c.add_side.ensures.kept c.white.result.now c.in_ok-white.white
+      (subst (λ es. IsSeat es c.white.result.now c.in_ok-white.white) (sym c.in_ok-reserve.ensures.entries) c.in_ok-white.ensures),
+)
 
 pub add_side-requires-2-clause-small : goal.add_side-requires-2-clause-small
 add_side-requires-2-clause-small c =
