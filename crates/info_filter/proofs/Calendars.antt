@@ -1,5 +1,5 @@
 -- Days of the calendar, as jiff tells them and as the words of specs/ do.
-use Rattle.std.proofs.Common.{◌≡◌, ◌∙◌, ◌≤◌, ◌<◌, ◌^◌, ℕ, List, ℤ, pos, Option, Some, None, IfSome, IsNone, refl, sym, ap, subst, arith, w8, w16, w32, to_z, of_z}
+use Rattle.std.proofs.Common.{◌≡◌, ◌∙◌, ◌≤◌, ℕ, List, ℤ, pos, Option, Some, None, IfSome, IsNone, refl, sym, subst, arith, w8, w16, to_z}
 use Rattle.std.specs.Prelude.{IfOk, Ok, Err}
 use Rattle.std.specs.Result.{result_ok}
 use Rattle.std.specs.declared.result.Result.{Result}

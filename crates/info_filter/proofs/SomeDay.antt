@@ -6,7 +6,7 @@ use Rattle.std.proofs.lemmas.Bool.Decides.{eqb_tells, leb_tells}
 use Rattle.std.proofs.lemmas.List.Elements.{All-cons, All-nil}
 use Rattle.jiff_core.specs.Calendar.{IsCivilDate, IsYear, days_from_civil, days_in_month}
 use Rattle.jiff.proofs.SpanFacts.{signed_arith}
-use Rattle.info_filter.specs.Day.{HasDay, IsDateByte, IsDateText, IsDayOf, IsFirstDate, IsNumber}
+use Rattle.info_filter.specs.Day.{IsDateByte, IsDateText, IsDayOf, IsFirstDate, IsNumber}
 use Rattle.info_filter.specs.DateParts.{BeginsWithNumber, BeginsWithPart, BeginsWithYear, missing, there}
 use Rattle.info_filter.proofs.Calendars.{day_once, day_there, no_day}
 use Rattle.info_filter.proofs.DateTexts.{made, no_day as no_day_part, no_end, no_month, no_year}

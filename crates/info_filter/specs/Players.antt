@@ -71,8 +71,7 @@ pub record IsTold (sides : List Side) (row : TableRow) : Type 0 where
   pub wins : row.wins ≡ count_by (λ (side : Side). is_of row.name side && side.won) sides
   pub losses : row.losses ≡ count_by (λ (side : Side). is_of row.name side && side.lost) sides
 
--- one name is seen before another: among the first sides, so many as one likes, it is there and the
--- other isn't
+-- One name is seen before another: it is among some first sides, and the other isn't.
 pub record IsSeenBefore (sides : List Side) (one other : List ℕ) : Type 0 where
   pub seen : List Side
   pub rest : List Side
@@ -80,11 +79,15 @@ pub record IsSeenBefore (sides : List Side) (one other : List ℕ) : Type 0 wher
   pub there : Any (λ (side : Side). side.name ≡ one) seen
   pub absent : All (λ (side : Side). side.name ≢ other) seen
 
+-- there is a row of this name
+abbrev pub HasRowOf : List ℕ → List TableRow → Type 0
+HasRowOf name rows = Any (λ (row : TableRow). row.name ≡ name) rows
+
 -- Each name of the sides that isn't empty has a row, in the order in which the names are seen
 -- first. So no name has two.
 pub record AreRows (sides : List Side) (rows : List TableRow) : Type 0 where
   pub told : All (IsTold sides) rows
-  pub complete : All (λ (side : Side). side.name ≢ [] → Any (λ (row : TableRow). row.name ≡ side.name) rows) sides
+  pub complete : All (λ (side : Side). side.name ≢ [] → HasRowOf side.name rows) sides
   pub ordered : AllPairs (λ (a b : TableRow). IsSeenBefore sides a.name b.name) rows
 
 -- the players' table of a list of games

@@ -4,4 +4,9 @@ use Rattle.info_filter.specs.declared.players.PlayerRow.{PlayerRow}
 
 -- the row of the table that is shown
 abbrev pub shown_row : PlayerRow → TableRow
-shown_row row = record { name = row.name.now; games = row.games; wins = row.wins; losses = row.losses }
+shown_row row = record {
+  name = row.name.now;
+  games = row.games;
+  wins = row.wins;
+  losses = row.losses;
+}

@@ -1,5 +1,5 @@
 -- Words of the private functions that keep the players' table.
-use Rattle.std.specs.Prelude.{◌≡◌, ◌≢◌, ℕ, ◌+◌, ◌<◌, Bool, cond, if◌then◌else◌, List, [], ◌∷◌, map, length, Option, Some, None, slice_get}
+use Rattle.std.specs.Prelude.{◌≡◌, ◌≢◌, ℕ, ◌+◌, ◌<◌, Bool, if◌then◌else◌, List, [], ◌∷◌, map, length, Option, Some, None, slice_get}
 use Rattle.std.specs.List.{position_or_len}
 use Rattle.std.specs.Map.{keys_of, lookup}
 use Rattle.std.specs.Str.{bytes_eq}
@@ -41,11 +41,16 @@ counted row side = record {
   losses = row.losses + one_if side.lost;
 }
 
--- the rows with one side more, which has a name: it is counted in the row of its name, or gets a new
--- one at the end
+-- a row of this name that counts nothing yet
+abbrev pub new_row : List ℕ → TableRow
+new_row name = record { name = name; games = 0; wins = 0; losses = 0 }
+
+-- the rows with one side more, which has a name: it is counted in the row of its name, or gets a
+-- new one at the end
 abbrev pub with_side : List TableRow → Side → List TableRow
-with_side [] side = counted (record { name = side.name; games = 0; wins = 0; losses = 0 }) side ∷ []
-with_side (row ∷ rows) side = cond (bytes_eq side.name row.name) (counted row side ∷ rows) (row ∷ with_side rows side)
+with_side [] side = counted (new_row side.name) side ∷ []
+with_side (row ∷ rows) side =
+    if bytes_eq side.name row.name then counted row side ∷ rows else row ∷ with_side rows side
 
 -- the rows with one side more, which may have no name
 pub record IsSideAdded (old : List TableRow) (side : Side) (new : List TableRow) : Type 0 where

@@ -115,6 +115,25 @@ fn texts_are_found_where_they_stand(rt: HostRuntime) -> Result<(), Fail> {
     Ok(())
 }
 
+// A game whose name of the black player is almost as long as a file may be.
+fn long_game(alloc: Global) -> Result<Vec<u8>, NoMemory> {
+    let mut text = Vec::new(alloc);
+    text.extend_from_slice(b"(;PB[")?;
+    text.resize(16_777_000, b'a')?;
+    text.extend_from_slice(b"b]DT[1970-01-02])")?;
+    Ok(text)
+}
+
+#[test]
+fn long_names_are_searched(rt: HostRuntime) -> Result<(), Fail> {
+    let game = long_game(rt.alloc())?;
+    for (text, count) in [(b"aab".as_slice(), 1), (b"ab]".as_slice(), 0)] {
+        let filter = text_filter(rt.alloc(), Field::Player, text)?;
+        assert_eq!(rt; accepted(rt.alloc(), game.as_slice(), &filter)?, count);
+    }
+    Ok(())
+}
+
 // Games with each class of result, two of Black.
 const RESULTS: &[u8] = b"(;RE[B+R])(;RE[B+])(;RE[W+0.5])(;RE[0])(;RE[Draw])(;RE[Draw])
     (;RE[Void])(;RE[?])(;RE[])(;RE[b+R])(;RE[ B+R])(;SZ[9])";

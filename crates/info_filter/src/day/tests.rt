@@ -1,4 +1,5 @@
 use super::*;
+use std::alloc::AllocError;
 
 // Texts of dates and their days.
 const DAYS: [(&[u8], Option<i32>); 46] = [
@@ -62,4 +63,16 @@ fn texts_have_their_days(rt: HostRuntime) {
     for (text, day) in DAYS {
         assert_eq!(rt; day_of(text), day);
     }
+}
+
+#[test]
+fn long_texts_have_their_days(rt: HostRuntime) -> Result<(), AllocError> {
+    let mut text = Vec::new(rt.alloc());
+    text.resize(16_777_216, b' ')?;
+    assert_eq!(rt; day_of(text.as_slice()), None);
+    text.extend_from_slice(b"1970-01-02")?;
+    assert_eq!(rt; day_of(text.as_slice()), Some(1));
+    text.resize(33_554_432, b'0')?;
+    assert_eq!(rt; day_of(text.as_slice()), None);
+    Ok(())
 }

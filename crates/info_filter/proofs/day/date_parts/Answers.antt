@@ -1,4 +1,4 @@
-use Rattle.std.proofs.Common.{refl, sym, ◌==◌, length, ℕ, ◌<◌, ◌≤◌, arith, [], subst}
+use Rattle.std.proofs.Common.{refl, subst}
 use Rattle.info_filter.specs.DateParts.{BeginsWithPart}
 use Rattle.info_filter.proofs.DateTexts.{made, no_day, no_end, no_month, no_year, nothing_left, something_left}
 use Rattle.info_filter.proofs.day.date_parts.Goals as goal

@@ -1,4 +1,4 @@
-use Rattle.std.proofs.Common.{ℕ, List, ◌∙◌, All, refl, subst, arith}
+use Rattle.std.proofs.Common.{List, ◌∙◌, All, refl, rules, subst}
 use Rattle.std.proofs.lemmas.List.{take_all}
 use Rattle.std.proofs.lemmas.List.Elements.{All-more}
 use Rattle.info_filter.specs.declared.condition.Condition.{Condition}
@@ -8,7 +8,7 @@ use Rattle.info_filter.proofs.filter.accepts_known.Goals as goal
 pub loop-condition-preserved : goal.loop-condition-preserved
 loop-condition-preserved c =
     All-more (λ (x : Condition). IsMetBy x c.args.info.now) c.as_slice-condition-items.result.now c.loop-condition.condition-index c.condition-item.result c.loop-condition-test.true c.loop-condition.invariant
-    (subst (λ (x : Condition). IsMetBy x c.args.info.now) c.condition-item.is (c.is_met.ensures.0 c.if-not-is_met.false))
+    (subst (λ (x : Condition). IsMetBy x c.args.info.now) c.condition-item.is (c.is_met.ensures.0 (search rules)))
 
 pub returns : goal.returns
 returns c =

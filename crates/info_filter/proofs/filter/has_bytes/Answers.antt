@@ -1,6 +1,5 @@
 use Rattle.std.proofs.Common.{ℕ, List, subst, sym}
 use Rattle.memchr.specs.Find.{OccursAt}
-use Rattle.info_filter.specs.Filter.{HasBytes}
 use Rattle.info_filter.proofs.Conditions.{bytes_found, found_bytes}
 use Rattle.info_filter.proofs.filter.has_bytes.Goals as goal
 

@@ -1,4 +1,4 @@
-use Rattle.std.proofs.Common.{◌≡◌, map, take}
+use Rattle.std.proofs.Common.{map, take}
 use Rattle.game_tree.specs.Tree.{Tree}
 use Rattle.info_filter.specs.Players.{IsTable}
 use Rattle.info_filter.proofs.tests.table_of.Given as goal

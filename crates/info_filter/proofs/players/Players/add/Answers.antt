@@ -1,4 +1,4 @@
-use Rattle.std.proofs.Common.{◌≡◌, ◌∙◌, ◌≤◌, ℕ, All, ap, arith, sym, subst}
+use Rattle.std.proofs.Common.{◌≡◌, ◌∙◌, ◌≤◌, All, ap, arith, sym, subst}
 use Rattle.info_filter.specs.Players.{IsTable, Side, TableRow, is_black_win, is_white_win}
 use Rattle.info_filter.specs.Seats.{IsSeat, IsSideAdded, rows_of}
 use Rattle.info_filter.proofs.Tables.{game_added, same_side, small_added}
