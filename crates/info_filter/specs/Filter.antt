@@ -7,7 +7,7 @@ use Rattle.info_filter.specs.declared.condition.Condition.TheVariants as conditi
 use Rattle.info_filter.specs.declared.filter.Filter.{Filter}
 use Rattle.info_filter.specs.Day.{HasDay}
 
--- the bytes stand somewhere in the text, next to each other; no bytes stand in every text
+-- The bytes stand somewhere in the text, next to each other. The empty text stands in every text.
 abbrev pub HasBytes : List ℕ → List ℕ → Type 0
 HasBytes text bytes =
     (before : List ℕ) × (after : List ℕ) × (text ≡ before ++ (bytes ++ after))

@@ -6,8 +6,8 @@ use kb_geometry::{NoMemory, Outcome};
 use std::alloc::Global;
 use std::marker::Model;
 
-/// One demand on the information of a game. Bytes are compared as they stand, so upper and lower
-/// case differ, and no bytes are found in every text, in an absent name too. Days are numbers, and
+/// What is asked of the information of a game. Bytes are compared as they stand, so upper and lower
+/// case differ. The empty text is found in every text, in an absent name too. Days are numbers, and
 /// 1970-01-01 is 0.
 #[derive(Debug, Drop)]
 pub enum Condition {

@@ -35,7 +35,7 @@ fn day_number(year: u16, month: u8, day: u8) -> Option<i32>
     Some(date.to_plain().to_unix_epoch_day())
 }
 
-// The first date of a text, which may be none.
+// The first date of a text, which may be empty.
 fn first_date(text: &[u8]) -> &[u8]
     ensures { IsFirstDate text.now result.now }
 {
