@@ -1,0 +1,6 @@
+pub mod Day
+pub mod DateParts
+pub mod Filter
+pub mod Players
+pub mod Seats
+pub mod Rows

@@ -1,0 +1,145 @@
+// The table of players. indexmap keeps the names in the order of first sight.
+ghost use Rattle.std.specs.Prelude.{◌≡◌, ◌++◌, ◌≤◌, List, [], ◌∷◌, All, OnErr, OnOk};
+ghost use Rattle.game_tree.specs.Information.{Information};
+ghost use Rattle.std.specs.Iterator.{YieldsFirstBy, item_count};
+ghost use Rattle.info_filter.specs.Players.{IsTable, TableRow, is_black_win, is_white_win};
+
+use crate::score::Score;
+use crate::seat::{Seat, add_side, seat_of};
+use game_tree::Info;
+use indexmap::IndexMap;
+use indexmap::map::Iter;
+use kb_geometry::{NoMemory, Outcome};
+use std::alloc::Global;
+use std::marker::Model;
+
+/// The table of the players of games: each name that isn't empty once, in the order of first sight,
+/// with its three counts. Contracts see it as the list of its rows.
+#[derive(Debug, Drop)]
+pub struct Players {
+    scores: IndexMap<Vec<u8>, Score>,
+}
+
+impl Model for Players {
+    ghost use Rattle.std.specs.Prelude.{List, map};
+    ghost use Rattle.info_filter.specs.Players.{TableRow};
+    ghost use Rattle.info_filter.specs.Seats.{rows_of};
+
+    ghost Value = { List TableRow };
+
+    ghost view = { λ p. rows_of p.scores.entries };
+}
+
+impl Players {
+    /// The table of no game.
+    pub fn new(alloc: Global) -> Self
+        ensures { result ≡ [] }
+    {
+        Players {
+            scores: IndexMap::new(alloc),
+        }
+    }
+
+    /// Adds a game: its player of the black stones, then that of the white ones. A name gets one
+    /// game for each side that it plays, a win where that side won and a loss where the other side
+    /// won. An empty name is skipped. The only error is `NoMemory`, and then nothing is added.
+    pub fn add(&mut self, alloc: Global, info: &Info) -> Result<(), NoMemory>
+        requires { All (λ (row : TableRow). row.games ≤ 4000000000) self.old }
+        ensures ok { OnOk result ((games : List Information) →
+            IsTable games self.old → IsTable (games ++ (info.now ∷ [])) self.new) }
+        ensures err { OnErr result (self.new ≡ self.old) }
+    {
+        let black = seat_of(&self.scores, alloc, info.black())?;
+        let white = seat_of(&self.scores, alloc, info.white())?;
+        self.scores.reserve(2)?;
+        let outcome = info.outcome();
+        let (black_wins, white_wins) = (is_black_win(outcome), is_white_win(outcome));
+        add_side(&mut self.scores, black, black_wins, white_wins);
+        add_side(&mut self.scores, white, white_wins, black_wins);
+        Ok(())
+    }
+
+    /// The rows, in the order in which their names were seen first.
+    pub fn rows(&self) -> PlayerRows<'_>
+        ensures { result ≡ self.now }
+    {
+        PlayerRows {
+            scores: self.scores.iter(),
+        }
+    }
+}
+
+/// A row of the players' table: a name, how many sides of games are of it, and how many of these
+/// won and lost.
+#[derive(Clone, Copy, Debug, PartialEq, Eq, Hash)]
+pub struct PlayerRow<'a> {
+    pub name: &'a [u8],
+    pub games: u32,
+    pub wins: u32,
+    pub losses: u32,
+}
+
+/// An iterator over the rows of a players' table. Contracts see it as the list of the rows that are
+/// left.
+#[derive(Debug, Drop)]
+pub struct PlayerRows<'a> {
+    scores: Iter<'a, Vec<u8>, Score>,
+}
+
+impl<'a> Model for PlayerRows<'a> {
+    ghost use Rattle.std.specs.Prelude.{List};
+    ghost use Rattle.info_filter.specs.Players.{TableRow};
+    ghost use Rattle.info_filter.specs.Seats.{rows_of};
+
+    ghost Value = { List TableRow };
+
+    ghost view = { λ r. rows_of r.scores };
+}
+
+impl<'a> Iterator for PlayerRows<'a> {
+    type Item = PlayerRow<'a>;
+
+    ghost use Rattle.info_filter.specs.Rows.{shown_row};
+
+    ghost next_gives = { YieldsFirstBy shown_row (λ rest. rest) };
+
+    ghost remaining = { item_count (λ rest. rest) };
+
+    fn next(&mut self) -> Option<PlayerRow<'a>> {
+        let (name, score) = self.scores.next()?;
+        Some(PlayerRow {
+            name: name.as_slice(),
+            games: score.games,
+            wins: score.wins,
+            losses: score.losses,
+        })
+    }
+}
+
+// Whether the player of the black stones won.
+fn is_black_win(outcome: Outcome) -> bool
+    ensures { result ≡ is_black_win outcome }
+{
+    match outcome {
+        Outcome::Black => true,
+        Outcome::White => false,
+        Outcome::Draw => false,
+        Outcome::Void => false,
+        Outcome::Unknown => false,
+        Outcome::Other => false,
+    }
+}
+
+// Whether the player of the white stones won.
+fn is_white_win(outcome: Outcome) -> bool
+    ensures { result ≡ is_white_win outcome }
+{
+    match outcome {
+        Outcome::Black => false,
+        Outcome::White => true,
+        Outcome::Draw => false,
+        Outcome::Void => false,
+        Outcome::Unknown => false,
+        Outcome::Other => false,
+    }
+}
