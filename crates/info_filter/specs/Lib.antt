@@ -1,6 +1,8 @@
+-- Words that contracts of public functions rest on.
 pub mod Day
-pub mod DateParts
 pub mod Filter
 pub mod Players
-pub mod Seats
+-- Words of private functions.
+pub mod DateParts
 pub mod Rows
+pub mod Seats

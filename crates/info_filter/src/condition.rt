@@ -1,10 +1,9 @@
 // What a filter asks of a game's information.
-ghost use Rattle.std.specs.Prelude.{◌≡◌, List, IfOk};
+ghost use Rattle.std.specs.Prelude.{◌≡◌, IfOk};
 
 use game_tree::Bytes;
-use kb_geometry::{NoMemory, Outcome};
+use kb_geometry::{Items, NoMemory, Outcome};
 use std::alloc::Global;
-use std::marker::Model;
 
 /// What is asked of the information of a game. Bytes are compared as they stand, so upper and lower
 /// case differ. The empty text is found in every text, in an absent name too. Days are numbers, and
@@ -48,43 +47,4 @@ impl Condition {
 }
 
 /// Conditions. Contracts see them as a list.
-#[derive(Debug, Drop)]
-pub struct ConditionList {
-    items: Vec<Condition>,
-}
-
-impl Model for ConditionList {
-    ghost use Rattle.std.specs.Prelude.{List};
-    ghost use Rattle.info_filter.specs.declared.condition.Condition.{Condition};
-
-    ghost Value = { List Condition };
-
-    ghost view = { λ c. c.items.items };
-}
-
-impl ConditionList {
-    /// Holds these conditions.
-    pub fn new(items: Vec<Condition>) -> Self
-        ensures { result ≡ items.items }
-    {
-        ConditionList { items }
-    }
-
-    /// The conditions.
-    pub fn as_slice(&self) -> &[Condition]
-        ensures { result.now ≡ self.now }
-    {
-        self.items.as_slice()
-    }
-
-    /// An equal list. The only error is `NoMemory`.
-    pub fn copy(&self, alloc: Global) -> Result<ConditionList, NoMemory>
-        ensures { IfOk result (λ copied. copied ≡ self.now) }
-    {
-        let mut items = Vec::new(alloc);
-        for condition in self.items.as_slice() {
-            items.push(condition.copy(alloc)?)?;
-        }
-        Ok(ConditionList { items })
-    }
-}
+pub type ConditionList = Items<Condition>;

@@ -1,5 +1,23 @@
 // The day of a game. jiff knows which dates there are, and their numbers.
-ghost use Rattle.std.specs.Prelude.{◌≡◌, ◌++◌, ◌<◌, ◌≤◌, ◌↔◌, ℕ, List, [], ◌∷◌, All, length, take, slice_index, pos, IfSome, IsNone, IsTrue};
+ghost use Rattle.std.specs.Prelude.{
+  ◌≡◌,
+  ◌++◌,
+  ◌<◌,
+  ◌≤◌,
+  ◌↔◌,
+  ℕ,
+  List,
+  [],
+  ◌∷◌,
+  All,
+  length,
+  take,
+  slice_index,
+  pos,
+  IfSome,
+  IsNone,
+  IsTrue,
+};
 ghost use Rattle.std.specs.Char.{digit_value};
 ghost use Rattle.jiff_core.specs.Calendar.{IsCivilDate, days_from_civil};
 ghost use Rattle.sgf_reader.specs.Bytes.{space};

@@ -21,8 +21,13 @@ impl Filter {
     pub fn copy(&self, alloc: Global) -> Result<Filter, NoMemory>
         ensures { IfOk result (λ copied. copied ≡ self.now) }
     {
-        let conditions = self.conditions.copy(alloc)?;
-        Ok(Filter { conditions })
+        let mut conditions = Vec::new(alloc);
+        for condition in self.conditions.as_slice() {
+            conditions.push(condition.copy(alloc)?)?;
+        }
+        Ok(Filter {
+            conditions: ConditionList::new(conditions),
+        })
     }
 }
 

@@ -2,8 +2,8 @@
 //!
 //! Stands on game_tree for the information, and on libraries: bstr finds bytes in texts, jiff knows
 //! the calendar and indexmap keeps players in the order of first sight. In `specs/` are the words
-//! for the day of a game, for what a condition asks, and for the table of a list of games. The layer
-//! above uses that [`accepts`] is the conjunction of the conditions.
+//! for the day of a game, for what a condition asks, and for the table of a list of games. The
+//! layer above uses that [`accepts`] is the conjunction of the conditions.
 #![tactic(auto)]
 
 mod condition;

@@ -1,5 +1,6 @@
 -- Words that contracts of public functions rest on.
 pub mod Occurrences
+
 -- Words of private functions.
 pub mod Areas
 pub mod Begins

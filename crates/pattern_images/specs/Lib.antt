@@ -5,6 +5,7 @@ pub mod ImageList
 pub mod Pattern
 pub mod Placements
 pub mod Query
+
 -- Words of private functions.
 pub mod Listing
 pub mod Stored

@@ -5,6 +5,7 @@ pub mod Search
 pub mod Statements
 pub mod Texts
 pub mod Words
+
 -- Words of private functions.
 pub mod Lines
 pub mod Progress

@@ -3,5 +3,6 @@ pub mod Answers
 pub mod Games
 pub mod Hits
 pub mod Stores
+
 -- Words of private functions.
 pub mod Searching

@@ -1,6 +1,7 @@
 -- Words that contracts of public functions rest on.
 pub mod ReadBack
 pub mod Written
+
 -- Words of private functions.
 pub mod Letters
 pub mod Parts
