@@ -4,7 +4,6 @@ pub mod Changes
 pub mod Deltas
 pub mod PointSet
 pub mod Walking
-
 -- Words of private functions.
 pub mod ChangedPoints
 pub mod Runs

@@ -9,7 +9,6 @@ pub mod Tree
 pub mod Trees
 pub mod Value
 pub mod ValueFaults
-
 -- Words of private functions.
 pub mod Built
 pub mod GameFaults

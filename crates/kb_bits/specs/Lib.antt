@@ -1,6 +1,5 @@
 -- Words that contracts of public functions rest on.
 pub mod Members
-
 -- Words of private functions.
 pub mod MemberLaws
 pub mod WordLaws

@@ -1,6 +1,5 @@
 -- Words that contracts of public functions rest on.
 pub mod Occurrences
-
 -- Words of private functions.
 pub mod Areas
 pub mod Begins

@@ -5,7 +5,6 @@ pub mod ImageList
 pub mod Pattern
 pub mod Placements
 pub mod Query
-
 -- Words of private functions.
 pub mod Listing
 pub mod Stored

@@ -5,7 +5,6 @@ pub mod Search
 pub mod Statements
 pub mod Texts
 pub mod Words
-
 -- Words of private functions.
 pub mod Lines
 pub mod Progress

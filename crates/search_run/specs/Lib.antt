@@ -8,7 +8,6 @@ pub mod Run
 pub mod Script
 pub mod Serial
 pub mod Texts
-
 -- Words of private functions.
 pub mod Imported
 pub mod Reads

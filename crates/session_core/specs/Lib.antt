@@ -3,6 +3,5 @@ pub mod Answers
 pub mod Games
 pub mod Hits
 pub mod Stores
-
 -- Words of private functions.
 pub mod Searching

@@ -3,7 +3,6 @@ pub mod Bytes
 pub mod Faults
 pub mod Grammar
 pub mod Limits
-
 -- Words of private functions.
 pub mod Reading
 pub mod Scan

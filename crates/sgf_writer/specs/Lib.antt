@@ -1,7 +1,6 @@
 -- Words that contracts of public functions rest on.
 pub mod ReadBack
 pub mod Written
-
 -- Words of private functions.
 pub mod Letters
 pub mod Parts
