@@ -7,7 +7,7 @@ use Rattle.kb_geometry.specs.declared.shape.Shape.{Shape}
 use Rattle.kb_geometry.specs.Board.{IsOnBoard}
 use Rattle.kb_geometry.specs.Symmetry.{inverse_number, moved}
 use Rattle.kb_geometry.proofs.Symmetries.{moved-inverse}
-use Rattle.dyer_signature.specs.Images.{IsCanonicalForm, IsImage}
+use Rattle.dyer_signature.specs.Images.{IsCanonicalForm, IsSignatureImage}
 use Rattle.dyer_signature.specs.Patterns.{Matches}
 use Rattle.dyer_signature.specs.Signatures.{IsSignatureOn, TellsAt}
 use Rattle.dyer_signature.proofs.ByteOrder.{most_from_not_less, same_least}
@@ -26,7 +26,7 @@ moved-back shape first second same (Some p) inside = ap (λ r. Some r) (same p i
 
 module _ (shape : Shape) (signature : List ℕ) (on : IsSignatureOn shape signature) where
   -- an image of an image is an image
-  pub image-again : (image other : List ℕ) → IsImage shape signature image → IsImage shape image other → IsImage shape signature other
+  pub image-again : (image other : List ℕ) → IsSignatureImage shape signature image → IsSignatureImage shape image other → IsSignatureImage shape signature other
   image-again image other first second =
       let one : AreJoined shape first.number second.number =
       joined shape first.number second.number first.is_symmetry second.is_symmetry first.is_allowed second.is_allowed in
@@ -52,7 +52,7 @@ module _ (shape : Shape) (signature : List ℕ) (on : IsSignatureOn shape signat
       }
 
   -- and the signature is an image of each of its images
-  pub image-back : (image : List ℕ) → IsImage shape signature image → IsImage shape image signature
+  pub image-back : (image : List ℕ) → IsSignatureImage shape signature image → IsSignatureImage shape image signature
   image-back image first = record {
     number = inverse_number first.number;
     is_symmetry = inverse-lt shape first.number first.is_symmetry;
@@ -74,7 +74,7 @@ module _ (shape : Shape) (signature : List ℕ) (on : IsSignatureOn shape signat
   }
 
 -- an image has the images of its signature
-pub same_images : (shape : Shape) (signature image : List ℕ) → IsSignatureOn shape signature → IsImage shape signature image → (other : List ℕ) → IsImage shape image other ↔ IsImage shape signature other
+pub same_images : (shape : Shape) (signature image : List ℕ) → IsSignatureOn shape signature → IsSignatureImage shape signature image → (other : List ℕ) → IsSignatureImage shape image other ↔ IsSignatureImage shape signature other
 same_images shape signature image on first other = (
   λ second. image-again shape signature on image other first second,
   λ second. image-again shape image (any_image-on_board shape signature image on first) signature other (image-back shape signature on image first) second,
@@ -87,7 +87,7 @@ canonical-only shape signature a b at_a at_b =
 
 module _ (shape : Shape) (signature other : List ℕ) (on : IsSignatureOn shape signature) (on_too : IsSignatureOn shape other) (form form_too : List ℕ) (is : IsCanonicalForm shape signature form) (is_too : IsCanonicalForm shape other form_too) where
   -- the form of an image is that of the signature
-  pub canonical-image : IsImage shape signature other → form ≡ form_too
+  pub canonical-image : IsSignatureImage shape signature other → form ≡ form_too
   canonical-image first =
       let of_signature : IsCanonicalForm shape signature form_too = record {
         is_image = image-again shape signature on other form_too first is_too.is_image;
@@ -97,13 +97,13 @@ module _ (shape : Shape) (signature other : List ℕ) (on : IsSignatureOn shape 
       canonical-only shape signature form form_too is of_signature
 
   -- and where the forms are one, each signature is an image of the other
-  pub image-canonical : form ≡ form_too → IsImage shape signature other
+  pub image-canonical : form ≡ form_too → IsSignatureImage shape signature other
   image-canonical e =
-      let there : IsImage shape other form = subst (IsImage shape other) (sym e) is_too.is_image in
+      let there : IsSignatureImage shape other form = subst (IsSignatureImage shape other) (sym e) is_too.is_image in
       image-again shape signature on form other is.is_image (image-back shape other on_too form there)
 
 -- an image matches where its signature does
-pub matches-image : (shape : Shape) (signature image pattern : List ℕ) → IsSignatureOn shape signature → IsImage shape signature image → Matches shape image pattern ↔ Matches shape signature pattern
+pub matches-image : (shape : Shape) (signature image pattern : List ℕ) → IsSignatureOn shape signature → IsSignatureImage shape signature image → Matches shape image pattern ↔ Matches shape signature pattern
 matches-image shape signature image pattern on first = (
   λ found. (found.0, (same_images shape signature image on first found.0).0 found.1, found.2),
   λ found. (found.0, (same_images shape signature image on first found.0).1 found.1, found.2),

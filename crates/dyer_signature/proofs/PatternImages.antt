@@ -5,9 +5,10 @@ use Rattle.std.specs.Prelude.{slice_index}
 use Rattle.kb_geometry.specs.declared.shape.Point.{Point}
 use Rattle.kb_geometry.specs.declared.shape.Shape.{Shape}
 use Rattle.kb_geometry.specs.Symmetry.{IsAllowed}
+use Rattle.sgf_reader.specs.Grammar.{IsLetter}
 use Rattle.game_tree.specs.Value.{IsCoordinate}
 use Rattle.dyer_signature.specs.Images.{IsImageUnder}
-use Rattle.dyer_signature.specs.Patterns.{Agrees, IsLetter, IsPatternByte, Matches, star}
+use Rattle.dyer_signature.specs.Patterns.{Agrees, IsSignaturePatternByte, Matches, star}
 use Rattle.dyer_signature.specs.Signatures.{IsPair, question_mark}
 use Rattle.dyer_signature.proofs.Pairs.{place_of_byte}
 use Rattle.dyer_signature.proofs.Turnings.{image-only}
@@ -51,8 +52,8 @@ abbrev IsSignatureByte : ℕ → Type 0
 IsSignatureByte byte = IsLetter byte ⊎ (byte ≡ question_mark)
 
 letter_byte : (a n : ℕ) → IsCoordinate a n → IsLetter a
-letter_byte a n (inl h) = inl (omega arith, omega arith)
-letter_byte a n (inr h) = inr (omega arith, omega arith)
+letter_byte a n (inl h) = inr (omega arith, omega arith)
+letter_byte a n (inr h) = inl (omega arith, omega arith)
 
 pair_bytes : (p : Option Point) (a b : ℕ) → IsPair p a b → IsSignatureByte a × IsSignatureByte b
 pair_bytes None a b is = (inr is.0, inr is.1)
@@ -66,12 +67,12 @@ image_byte shape number signature image is_moved k lt =
     let P : ℕ → Type 0 = λ i. IsSignatureByte (slice_index image i) in
     elim at [ inl e ↦ subst P (sym e) both.0 | inr e ↦ subst P (sym e) both.1 ]
 
-pattern_byte : (a b : ℕ) → a ≡ b → IsSignatureByte a → IsPatternByte b
+pattern_byte : (a b : ℕ) → a ≡ b → IsSignatureByte a → IsSignaturePatternByte b
 pattern_byte a b e (inl h) = inl (subst IsLetter e h)
 pattern_byte a b e (inr h) = inr (inl (sym e ∙ h))
 
 -- each byte of a pattern that matches is a letter, `?` or `*`
-pub matched_bytes : (shape : Shape) (signature pattern : List ℕ) → Matches shape signature pattern → (k : ℕ) → k < 12 → IsPatternByte (slice_index pattern k)
+pub matched_bytes : (shape : Shape) (signature pattern : List ℕ) → Matches shape signature pattern → (k : ℕ) → k < 12 → IsSignaturePatternByte (slice_index pattern k)
 matched_bytes shape signature pattern (image, of_it, agrees) k lt = elim (cases_eq (slice_index pattern k) star) [
   | inl e ↦ inr (inr e)
   | inr ne ↦

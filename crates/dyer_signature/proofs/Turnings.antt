@@ -8,7 +8,7 @@ use Rattle.kb_geometry.specs.declared.shape.Shape.{Shape}
 use Rattle.kb_geometry.specs.Board.{IsOnBoard}
 use Rattle.kb_geometry.specs.Symmetry.{IsAllowed, moved}
 use Rattle.kb_geometry.proofs.Symmetries.{moved-on_board}
-use Rattle.dyer_signature.specs.Images.{IsCanonicalForm, IsImage, IsImageUnder, IsLess}
+use Rattle.dyer_signature.specs.Images.{IsCanonicalForm, IsSignatureImage, IsImageUnder, IsLess}
 use Rattle.dyer_signature.specs.Signatures.{IsPair, IsSignatureOn, TellsAt}
 use Rattle.dyer_signature.proofs.ByteOrder.{IsAtMost, most-itself, most-trans, most_from_not_less, not_less}
 use Rattle.dyer_signature.proofs.Pairs.{IsPair-only, same_bytes}
@@ -108,7 +108,7 @@ itself shape (Some p) a b is = is
 
 -- the least of the images under the first symmetries, the signature itself among them
 pub record IsLeastBelow (shape : Shape) (end : ℕ) (signature least : List ℕ) : Type 0 where
-  pub is_image : IsImage shape signature least
+  pub is_image : IsSignatureImage shape signature least
   pub is_least : (number : ℕ) (image : List ℕ) →
       number < end →
       IsAllowed number shape →
@@ -122,7 +122,7 @@ module _ (shape : Shape) (signature : List ℕ) where
     each = λ place lt. let (p, told, inside) = on.each place lt in (p, told, itself shape p _ _ told);
   }
 
-  pub image-itself : IsSignatureOn shape signature → IsImage shape signature signature
+  pub image-itself : IsSignatureOn shape signature → IsSignatureImage shape signature signature
   image-itself on = record {
     number = 0;
     is_symmetry = omega arith;
@@ -145,8 +145,8 @@ module _ (shape : Shape) (signature : List ℕ) where
   pub least-more : (n : ℕ) (old image new : List ℕ) → n < 8 → IsAllowed n shape → IsImageUnder shape n signature image → ((new ≡ old) ⊎ (new ≡ image)) → ¬ IsLess old new → ¬ IsLess image new → IsLeastBelow shape n signature old → IsLeastBelow shape (n + 1) signature new
   least-more n old image new lt allowed is_moved one first second so_far = record {
     is_image = elim one [
-      | inl e ↦ subst (IsImage shape signature) (sym e) so_far.is_image
-      | inr e ↦ subst (IsImage shape signature) (sym e)
+      | inl e ↦ subst (IsSignatureImage shape signature) (sym e) so_far.is_image
+      | inr e ↦ subst (IsSignatureImage shape signature) (sym e)
           (record { number = n; is_symmetry = lt; is_allowed = allowed; is_moved = is_moved })
     ];
     is_least = λ number other below may is_other. elim (cases_lt number n) [
@@ -180,6 +180,6 @@ module _ (shape : Shape) (signature : List ℕ) where
   }
 
   -- an image is a signature on the board
-  pub any_image-on_board : (image : List ℕ) → IsSignatureOn shape signature → IsImage shape signature image → IsSignatureOn shape image
+  pub any_image-on_board : (image : List ℕ) → IsSignatureOn shape signature → IsSignatureImage shape signature image → IsSignatureOn shape image
   any_image-on_board image on of_it =
       image-on_board shape of_it.number signature image of_it.is_symmetry of_it.is_allowed on of_it.is_moved

@@ -19,7 +19,7 @@ pub record IsImageUnder (shape : Shape) (number : ℕ) (signature image : List �
       × TellsAt image place (option_map (moved number shape) point)
 
 -- an image of a signature: under one of the symmetries that the board allows
-pub record IsImage (shape : Shape) (signature image : List ℕ) : Type 0 where
+pub record IsSignatureImage (shape : Shape) (signature image : List ℕ) : Type 0 where
   pub number : ℕ
   pub is_symmetry : number < 8
   pub is_allowed : IsAllowed number shape
@@ -31,5 +31,5 @@ IsLess first second = slice_cmp nat_cmp first second ≡ Less
 
 -- The canonical form of a signature: one of its images, and no image is less.
 pub record IsCanonicalForm (shape : Shape) (signature form : List ℕ) : Type 0 where
-  pub is_image : IsImage shape signature form
-  pub is_least : (image : List ℕ) → IsImage shape signature image → ¬ IsLess image form
+  pub is_image : IsSignatureImage shape signature form
+  pub is_least : (image : List ℕ) → IsSignatureImage shape signature image → ¬ IsLess image form

@@ -2,7 +2,7 @@
 ghost use Rattle.std.specs.Prelude.{◌≡◌, ◌↔◌, ℕ, List};
 ghost use Rattle.kb_geometry.specs.declared.shape.Shape.{Shape};
 ghost use Rattle.game_tree.specs.Tree.{IsTree, Tree};
-ghost use Rattle.dyer_signature.specs.Images.{IsCanonicalForm, IsImage};
+ghost use Rattle.dyer_signature.specs.Images.{IsCanonicalForm, IsSignatureImage};
 ghost use Rattle.dyer_signature.specs.Patterns.{Matches};
 ghost use Rattle.dyer_signature.specs.Signatures.{IsSignatureOf, IsSignatureOn};
 
@@ -22,8 +22,8 @@ pub fn a_signature_has_one_canonical_form()
 /// An image of a signature has the same images as the signature, itself among them.
 pub fn an_image_has_the_images_of_its_signature()
     ensures { (shape : Shape) (signature image : List ℕ) →
-        IsSignatureOn shape signature → IsImage shape signature image →
-        (other : List ℕ) → IsImage shape image other ↔ IsImage shape signature other }
+        IsSignatureOn shape signature → IsSignatureImage shape signature image →
+        (other : List ℕ) → IsSignatureImage shape image other ↔ IsSignatureImage shape signature other }
 {}
 
 /// Two signatures on one board have one canonical form exactly where the second is an image of the
@@ -32,13 +32,13 @@ pub fn images_alone_have_one_canonical_form()
     ensures { (shape : Shape) (signature other form form_of_other : List ℕ) →
         IsSignatureOn shape signature → IsSignatureOn shape other →
         IsCanonicalForm shape signature form → IsCanonicalForm shape other form_of_other →
-        IsImage shape signature other ↔ (form ≡ form_of_other) }
+        IsSignatureImage shape signature other ↔ (form ≡ form_of_other) }
 {}
 
 /// An image of a signature, the canonical form among them, matches a pattern exactly where the
 /// signature does.
 pub fn an_image_matches_where_its_signature_does()
     ensures { (shape : Shape) (signature image pattern : List ℕ) →
-        IsSignatureOn shape signature → IsImage shape signature image →
+        IsSignatureOn shape signature → IsSignatureImage shape signature image →
         Matches shape image pattern ↔ Matches shape signature pattern }
 {}

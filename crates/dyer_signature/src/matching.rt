@@ -1,6 +1,6 @@
 // Which signatures a pattern matches.
 ghost use Rattle.std.specs.Prelude.{◌≡◌, ◌<◌, ℕ, IsTrue, ◌↔◌, false, slice_index};
-ghost use Rattle.dyer_signature.specs.Patterns.{Agrees, IsPatternByte, Matches};
+ghost use Rattle.dyer_signature.specs.Patterns.{Agrees, IsSignaturePatternByte, Matches};
 ghost use Rattle.dyer_signature.specs.Signatures.{IsSignatureOn};
 
 use crate::images::{SYMMETRIES, image_by};
@@ -16,7 +16,7 @@ pub fn matches(s: &Signature, shape: Shape, pattern: &SigPattern) -> bool
     requires { IsSignatureOn shape s.now.bytes }
     ensures value { IsTrue result ↔ Matches shape s.now.bytes pattern.now.bytes }
     ensures other_byte { (k : ℕ) → k < 12 →
-        ¬ IsPatternByte (slice_index pattern.now.bytes k) → result ≡ false }
+        ¬ IsSignaturePatternByte (slice_index pattern.now.bytes k) → result ≡ false }
 {
     for number in 0..SYMMETRIES {
         if let Some(image) = image_by(s, shape, number) {

@@ -2,7 +2,7 @@
 use Rattle.std.proofs.Common.{◌≡◌, ◌∙◌, ◌++◌, ◌≤◌, ◌==◌, ℕ, true, false, List, [], ◌∷◌, length, slice_index_or, Option, Some, None, IfSome, Bor, refl, sym, ap, subst, arith}
 use Rattle.std.proofs.lemmas.Bool.{eqb-true}
 use Rattle.std.specs.Str.Parse.{digits_value}
-use Rattle.info_filter.specs.Day.{IsDateText, IsNumber, whole, without_day, year_alone}
+use Rattle.info_filter.specs.Day.{IsDateText, IsNumberOfDigits, whole, without_day, year_alone}
 use Rattle.info_filter.specs.DateParts.{BeginsWithNumber, BeginsWithPart, BeginsWithYear, missing, there}
 
 -- ---- lists of two and four
@@ -21,19 +21,19 @@ four_of (a ∷ b ∷ c ∷ []) e = absurd (omega (arith, e))
 four_of (a ∷ b ∷ c ∷ d ∷ []) e = (a, b, c, d, refl)
 four_of (a ∷ b ∷ c ∷ d ∷ f ∷ rest) e = absurd (omega (arith, e))
 
-year_leads : (year rest : List ℕ) (y : ℕ) → IsNumber year 4 y → BeginsWithYear (year ++ rest) y rest
+year_leads : (year rest : List ℕ) (y : ℕ) → IsNumberOfDigits year 4 y → BeginsWithYear (year ++ rest) y rest
 year_leads year rest y number =
     let (a, b, c, d, is) = four_of year number.many_digits in
-    (a, b, c, d, ap (λ xs. xs ++ rest) is, subst (λ xs. IsNumber xs 4 y) is number)
+    (a, b, c, d, ap (λ xs. xs ++ rest) is, subst (λ xs. IsNumberOfDigits xs 4 y) is number)
 
-number_leads : (digits rest : List ℕ) (n : ℕ) → IsNumber digits 2 n → BeginsWithNumber (45 ∷ (digits ++ rest)) n rest
+number_leads : (digits rest : List ℕ) (n : ℕ) → IsNumberOfDigits digits 2 n → BeginsWithNumber (45 ∷ (digits ++ rest)) n rest
 number_leads digits rest n number =
     let (a, b, is) = two_of digits number.many_digits in
-    (a, b, ap (λ xs. 45 ∷ (xs ++ rest)) is, subst (λ xs. IsNumber xs 2 n) is number)
+    (a, b, ap (λ xs. 45 ∷ (xs ++ rest)) is, subst (λ xs. IsNumberOfDigits xs 2 n) is number)
 
 -- ---- one reading only
 
-number_once : (digits others : List ℕ) (many n k : ℕ) → digits ≡ others → IsNumber digits many n → IsNumber others many k → n ≡ k
+number_once : (digits others : List ℕ) (many n k : ℕ) → digits ≡ others → IsNumberOfDigits digits many n → IsNumberOfDigits others many k → n ≡ k
 number_once digits others many n k same one other = sym one.value ∙ ap (digits_value 10) same ∙ other.value
 
 pub year_once : (text : List ℕ) (n k : ℕ) (rest more : List ℕ) → BeginsWithYear text n rest → BeginsWithYear text k more → (n ≡ k) × (rest ≡ more)
@@ -157,14 +157,14 @@ date_once date y m d y' m' d' one other =
 -- ---- what is told of bytes by their places
 
 -- a text whose first four bytes are no number begins with no year
-pub year_missing : (text : List ℕ) → ((n : ℕ) → ¬ IsNumber (slice_index_or text 0 0 ∷ slice_index_or text 1 0 ∷ slice_index_or text 2 0 ∷ slice_index_or text 3 0 ∷ []) 4 n) → (n : ℕ) (rest : List ℕ) → ¬ BeginsWithYear text n rest
+pub year_missing : (text : List ℕ) → ((n : ℕ) → ¬ IsNumberOfDigits (slice_index_or text 0 0 ∷ slice_index_or text 1 0 ∷ slice_index_or text 2 0 ∷ slice_index_or text 3 0 ∷ []) 4 n) → (n : ℕ) (rest : List ℕ) → ¬ BeginsWithYear text n rest
 year_missing text none n rest (a, b, c, d, is, number) =
     let first : a ≡ slice_index_or text 0 0 = sym (ap (λ xs. slice_index_or xs 0 0) is) in
     let second : b ≡ slice_index_or text 1 0 = sym (ap (λ xs. slice_index_or xs 1 0) is) in
     let third : c ≡ slice_index_or text 2 0 = sym (ap (λ xs. slice_index_or xs 2 0) is) in
     let fourth : d ≡ slice_index_or text 3 0 = sym (ap (λ xs. slice_index_or xs 3 0) is) in
     let same : a ∷ b ∷ c ∷ d ∷ [] ≡ slice_index_or text 0 0 ∷ slice_index_or text 1 0 ∷ slice_index_or text 2 0 ∷ slice_index_or text 3 0 ∷ [] = cc in
-    none n (subst (λ xs. IsNumber xs 4 n) same number)
+    none n (subst (λ xs. IsNumberOfDigits xs 4 n) same number)
 
 -- ---- a part that may be missing
 

@@ -4,7 +4,7 @@ use Rattle.std.specs.Prelude.{AllPairs, Any, count_by}
 use Rattle.std.proofs.lemmas.List.Elements.{All-weaker}
 use Rattle.std.proofs.lemmas.List.Sums.{count_by-le-length}
 use Rattle.game_tree.specs.Information.{Information}
-use Rattle.info_filter.specs.Players.{AreRows, IsSeenBefore, IsTable, IsTold, Side, TableRow, is_of, sides_of}
+use Rattle.info_filter.specs.Players.{ArePlayerRows, IsSeenBefore, IsPlayersTable, IsToldOfPlayer, Side, TableRow, is_side_of, sides_of}
 use Rattle.info_filter.specs.Seats.{IsSideAdded, with_side}
 use Rattle.info_filter.proofs.TableRows.{any_cases, any_head, any_not_all, any_nothing, any_tail, empty_or_not, no_rows, pairs_head, pairs_tail, side_added, told_side}
 
@@ -77,25 +77,25 @@ one_first sides a b one other = elim (compare one.seen other.seen one.rest other
 -- ---- one table
 
 -- two rows of one name are equal
-row_once : (sides : List Side) (a b : TableRow) → IsTold sides a → IsTold sides b → a.name ≡ b.name → a ≡ b
+row_once : (sides : List Side) (a b : TableRow) → IsToldOfPlayer sides a → IsToldOfPlayer sides b → a.name ≡ b.name → a ≡ b
 row_once sides a b one other same =
-    let games = one.games ∙ ap (λ (n : List ℕ). count_by (is_of n) sides) same ∙ sym other.games in
-    let wins = one.wins ∙ ap (λ (n : List ℕ). count_by (λ (x : Side). is_of n x && x.won) sides) same ∙ sym other.wins in
-    let losses = one.losses ∙ ap (λ (n : List ℕ). count_by (λ (x : Side). is_of n x && x.lost) sides) same ∙ sym other.losses in
+    let games = one.games ∙ ap (λ (n : List ℕ). count_by (is_side_of n) sides) same ∙ sym other.games in
+    let wins = one.wins ∙ ap (λ (n : List ℕ). count_by (λ (x : Side). is_side_of n x && x.won) sides) same ∙ sym other.wins in
+    let losses = one.losses ∙ ap (λ (n : List ℕ). count_by (λ (x : Side). is_side_of n x && x.lost) sides) same ∙ sym other.losses in
     λ i. record { name = same i; games = games i; wins = wins i; losses = losses i }
 
 -- a row of one table is in the other
-row_there : (sides : List Side) (a b : List TableRow) (row : TableRow) → AreRows sides a → AreRows sides b → IsIn row a → IsIn row b
+row_there : (sides : List Side) (a b : List TableRow) (row : TableRow) → ArePlayerRows sides a → ArePlayerRows sides b → IsIn row a → IsIn row b
 row_there sides a b row one other there =
-    let told = all_at (IsTold sides) row a one.told there in
+    let told = all_at (IsToldOfPlayer sides) row a one.told there in
     let (j, side, side_within, side_is, side_name) = told_side sides row told in
     let named : side.name ≢ [] = λ nothing. told.named (sym side_name ∙ nothing) in
     let has = subst (λ (x : Side). x.name ≢ [] → Any (λ (r : TableRow). r.name ≡ x.name) b) side_is (other.complete j side side_within) named in
     let (k, found, within, is, name) = has in
-    let found_told = subst (IsTold sides) is (other.told k found within) in
+    let found_told = subst (IsToldOfPlayer sides) is (other.told k found within) in
     (k, found, within, is, row_once sides found row found_told told (name ∙ side_name))
 
-pub rows_once : (sides : List Side) (a b : List TableRow) → AreRows sides a → AreRows sides b → a ≡ b
+pub rows_once : (sides : List Side) (a b : List TableRow) → ArePlayerRows sides a → ArePlayerRows sides b → a ≡ b
 rows_once sides a b one other =
     same_lists (λ (x y : TableRow). IsSeenBefore sides x.name y.name) (λ x y before after. one_first sides x.name y.name before after) a b one.ordered other.ordered
     (λ row there. row_there sides a b row one other there) (λ row there. row_there sides b a row other one there)
@@ -108,8 +108,8 @@ side_some old side = elim (empty_or_not side.name) [
   | inr named ↦ (with_side old side, record { nameless = λ nothing. absurd (named nothing); named = λ _. refl })
 ]
 
-rows_from : (done rest : List Side) (rows : List TableRow) → AreRows done rows → (more : List TableRow) × AreRows (done ++ rest) more
-rows_from done [] rows are = (rows, subst (λ (xs : List Side). AreRows xs rows) (sym (no_rest done)) are)
+rows_from : (done rest : List Side) (rows : List TableRow) → ArePlayerRows done rows → (more : List TableRow) × ArePlayerRows (done ++ rest) more
+rows_from done [] rows are = (rows, subst (λ (xs : List Side). ArePlayerRows xs rows) (sym (no_rest done)) are)
   where
     no_rest : (xs : List Side) → xs ++ [] ≡ xs
     no_rest [] = refl
@@ -117,9 +117,9 @@ rows_from done [] rows are = (rows, subst (λ (xs : List Side). AreRows xs rows)
 rows_from done (side ∷ rest) rows are =
     let (next, added) = side_some rows side in
     let (more, all) = rows_from (done ++ side ∷ []) rest next (side_added done rows next side added are) in
-    (more, subst (λ (xs : List Side). AreRows xs more) (append_assoc done (side ∷ []) rest) all)
+    (more, subst (λ (xs : List Side). ArePlayerRows xs more) (append_assoc done (side ∷ []) rest) all)
 
-pub rows_some : (sides : List Side) → (rows : List TableRow) × AreRows sides rows
+pub rows_some : (sides : List Side) → (rows : List TableRow) × ArePlayerRows sides rows
 rows_some sides = rows_from [] sides [] no_rows
 
 -- ---- few games
@@ -128,10 +128,10 @@ length_sides : (games : List Information) → length (sides_of games) ≡ 2 * le
 length_sides [] = refl
 length_sides (game ∷ games) = let rest = length_sides games in omega (arith, rest)
 
-pub few_games : (games : List Information) (rows : List TableRow) → IsTable games rows → All (λ (row : TableRow). row.games ≤ 2 * length games) rows
-few_games games rows table = All-weaker (IsTold (sides_of games)) (λ (row : TableRow). row.games ≤ 2 * length games)
-    (λ row told. let most = count_by-le-length (is_of row.name) (sides_of games) in let long = length_sides games in let is = told.games in omega (arith, most, long, is)) rows table.told
+pub few_games : (games : List Information) (rows : List TableRow) → IsPlayersTable games rows → All (λ (row : TableRow). row.games ≤ 2 * length games) rows
+few_games games rows table = All-weaker (IsToldOfPlayer (sides_of games)) (λ (row : TableRow). row.games ≤ 2 * length games)
+    (λ row told. let most = count_by-le-length (is_side_of row.name) (sides_of games) in let long = length_sides games in let is = told.games in omega (arith, most, long, is)) rows table.told
 
 -- to the table of so few games another game can be added
-pub room_for_game : (games : List Information) (rows : List TableRow) → IsTable games rows → length games ≤ 2000000000 → All (λ (row : TableRow). row.games ≤ 4000000000) rows
+pub room_for_game : (games : List Information) (rows : List TableRow) → IsPlayersTable games rows → length games ≤ 2000000000 → All (λ (row : TableRow). row.games ≤ 4000000000) rows
 room_for_game games rows table few = All-weaker (λ (row : TableRow). row.games ≤ 2 * length games) (λ (row : TableRow). row.games ≤ 4000000000) (λ row le. omega (arith, le, few)) rows (few_games games rows table)

@@ -6,7 +6,7 @@ use Rattle.std.proofs.lemmas.Bool.Decides.{eqb_tells, leb_tells}
 use Rattle.std.proofs.lemmas.List.Elements.{All-cons, All-nil}
 use Rattle.jiff_core.specs.Calendar.{IsCivilDate, IsYear, days_from_civil, days_in_month}
 use Rattle.jiff.proofs.SpanFacts.{signed_arith}
-use Rattle.info_filter.specs.Day.{IsDateByte, IsDateText, IsDayOf, IsFirstDate, IsNumber}
+use Rattle.info_filter.specs.Day.{IsDateByte, IsDateText, IsDayOf, IsFirstDate, IsNumberOfDigits}
 use Rattle.info_filter.specs.DateParts.{BeginsWithNumber, BeginsWithPart, BeginsWithYear, missing, there}
 use Rattle.info_filter.proofs.Calendars.{day_once, day_there, no_day}
 use Rattle.info_filter.proofs.DateTexts.{made, no_day as no_day_part, no_end, no_month, no_year}
@@ -69,7 +69,7 @@ tells_digits : (digits : List ℕ) → Tells (AllDigits 10 digits)
 tells_digits [] = inl tt
 tells_digits (c ∷ cs) = tells_both (tells_lt (digit_value c) 10) (tells_digits cs)
 
-tells_number : (digits : List ℕ) (many : ℕ) → length digits ≡ many → Tells ((n : ℕ) × IsNumber digits many n)
+tells_number : (digits : List ℕ) (many : ℕ) → length digits ≡ many → Tells ((n : ℕ) × IsNumberOfDigits digits many n)
 tells_number digits many long = elim (tells_digits digits) [
   | inl all ↦ inl (digits_value 10 digits, record { many_digits = long; all_digits = all; value = refl })
   | inr never ↦ inr (λ (n, number). never number.all_digits)
@@ -84,7 +84,7 @@ tells_year (a ∷ b ∷ c ∷ d ∷ rest) = elim (tells_number (a ∷ b ∷ c �
   | inl (n, number) ↦ inl (n, rest, (a, b, c, d, refl, number))
   | inr never ↦ inr (λ (n, more, (a', b', c', d', is, number)).
       let same : a' ∷ b' ∷ c' ∷ d' ∷ [] ≡ a ∷ b ∷ c ∷ d ∷ [] = cc (is) in
-      never (n, subst (λ xs. IsNumber xs 4 n) same number))
+      never (n, subst (λ xs. IsNumberOfDigits xs 4 n) same number))
 ]
 
 tells_number_part : (text : List ℕ) → Tells ((n : ℕ) × (rest : List ℕ) × BeginsWithNumber text n rest)
@@ -97,7 +97,7 @@ tells_number_part (x ∷ a ∷ b ∷ rest) = elim (eqb_tells x 45) [
     | inl (n, number) ↦ inl (n, rest, (a, b, (λ i. hyphen i ∷ a ∷ b ∷ rest), number))
     | inr never ↦ inr (λ (n, more, (a', b', is, number)).
         let same : a' ∷ b' ∷ [] ≡ a ∷ b ∷ [] = cc (is) in
-        never (n, subst (λ xs. IsNumber xs 2 n) same number))
+        never (n, subst (λ xs. IsNumberOfDigits xs 2 n) same number))
   ]
 ]
 

@@ -6,8 +6,8 @@ use Rattle.std.specs.Cmp.Lexicographic.{other_text, same_text}
 use Rattle.std.proofs.lemmas.List.Elements.{All-append, All-cons, All-head, All-nil, All-tail, All-weaker}
 use Rattle.std.proofs.lemmas.List.Kept.{AllPairs-cons}
 use Rattle.std.proofs.lemmas.List.Sums.{sum_by-append, sum_by-cons}
-use Rattle.info_filter.specs.Players.{AreRows, IsSeenBefore, IsTold, Side, TableRow, is_of}
-use Rattle.info_filter.specs.Seats.{IsSideAdded, counted, one_if, with_side}
+use Rattle.info_filter.specs.Players.{ArePlayerRows, IsSeenBefore, IsToldOfPlayer, Side, TableRow, is_side_of}
+use Rattle.info_filter.specs.Seats.{IsSideAdded, with_side_counted, one_if, with_side}
 
 -- ---- names
 
@@ -95,31 +95,31 @@ count_something p (x ∷ sides) some = by (p x) refl (count_something p sides)
         any_tail (λ (y : Side). p y ≡ true) x sides (rest (omega (arith, some, whole, first)))
 
 -- a name without a side is counted nowhere
-none_of : (name : List ℕ) (q : Side → Bool) (sides : List Side) → HasNoSide name sides → count_by (λ (x : Side). is_of name x && q x) sides ≡ 0
-none_of name q sides none = count_nothing (λ (x : Side). is_of name x && q x) sides (All-weaker (λ (x : Side). x.name ≢ name) (λ (x : Side). (is_of name x && q x) ≡ false) (λ x differ. other x differ) sides none)
+none_of : (name : List ℕ) (q : Side → Bool) (sides : List Side) → HasNoSide name sides → count_by (λ (x : Side). is_side_of name x && q x) sides ≡ 0
+none_of name q sides none = count_nothing (λ (x : Side). is_side_of name x && q x) sides (All-weaker (λ (x : Side). x.name ≢ name) (λ (x : Side). (is_side_of name x && q x) ≡ false) (λ x differ. other x differ) sides none)
   where
-    other : (x : Side) → x.name ≢ name → (is_of name x && q x) ≡ false
+    other : (x : Side) → x.name ≢ name → (is_side_of name x && q x) ≡ false
     other x differ = elim (told_name x.name name) [ inl same ↦ absurd (differ same.1) | inr test ↦ ap (λ b. b && q x) test.0 ]
 
-none_named : (name : List ℕ) (sides : List Side) → HasNoSide name sides → count_by (is_of name) sides ≡ 0
-none_named name sides none = count_nothing (is_of name) sides (All-weaker (λ (x : Side). x.name ≢ name) (λ (x : Side). is_of name x ≡ false) (λ x differ. other x differ) sides none)
+none_named : (name : List ℕ) (sides : List Side) → HasNoSide name sides → count_by (is_side_of name) sides ≡ 0
+none_named name sides none = count_nothing (is_side_of name) sides (All-weaker (λ (x : Side). x.name ≢ name) (λ (x : Side). is_side_of name x ≡ false) (λ x differ. other x differ) sides none)
   where
-    other : (x : Side) → x.name ≢ name → is_of name x ≡ false
+    other : (x : Side) → x.name ≢ name → is_side_of name x ≡ false
     other x differ = elim (told_name x.name name) [ inl same ↦ absurd (differ same.1) | inr test ↦ test.0 ]
 
 -- ---- what a row tells, with one side more
 
 -- a row of another name tells the same
-told_other : (sides : List Side) (row : TableRow) (side : Side) → side.name ≢ row.name → IsTold sides row → IsTold (sides ++ side ∷ []) row
+told_other : (sides : List Side) (row : TableRow) (side : Side) → side.name ≢ row.name → IsToldOfPlayer sides row → IsToldOfPlayer (sides ++ side ∷ []) row
 told_other sides row side differ told = elim (told_name side.name row.name) [
   | inl same ↦ absurd (differ same.1)
   | inr test ↦
-      let games = count_push (is_of row.name) sides side in
-      let wins = count_push (λ (x : Side). is_of row.name x && x.won) sides side in
-      let losses = count_push (λ (x : Side). is_of row.name x && x.lost) sides side in
-      let no_game : one_if (is_of row.name side) ≡ 0 = ap one_if test.0 in
-      let no_win : one_if (is_of row.name side && side.won) ≡ 0 = ap (λ b. one_if (b && side.won)) test.0 in
-      let no_loss : one_if (is_of row.name side && side.lost) ≡ 0 = ap (λ b. one_if (b && side.lost)) test.0 in
+      let games = count_push (is_side_of row.name) sides side in
+      let wins = count_push (λ (x : Side). is_side_of row.name x && x.won) sides side in
+      let losses = count_push (λ (x : Side). is_side_of row.name x && x.lost) sides side in
+      let no_game : one_if (is_side_of row.name side) ≡ 0 = ap one_if test.0 in
+      let no_win : one_if (is_side_of row.name side && side.won) ≡ 0 = ap (λ b. one_if (b && side.won)) test.0 in
+      let no_loss : one_if (is_side_of row.name side && side.lost) ≡ 0 = ap (λ b. one_if (b && side.lost)) test.0 in
       record {
         named = told.named;
         some = told.some;
@@ -131,16 +131,16 @@ told_other sides row side differ told = elim (told_name side.name row.name) [
 
 -- the row of the side's own name has one side more
 told_own : (sides : List Side) (row : TableRow) (side : Side) → side.name ≡ row.name → row.name ≢ [] →
-    row.games ≡ count_by (is_of row.name) sides → row.wins ≡ count_by (λ (x : Side). is_of row.name x && x.won) sides → row.losses ≡ count_by (λ (x : Side). is_of row.name x && x.lost) sides →
-    IsTold (sides ++ side ∷ []) (counted row side)
+    row.games ≡ count_by (is_side_of row.name) sides → row.wins ≡ count_by (λ (x : Side). is_side_of row.name x && x.won) sides → row.losses ≡ count_by (λ (x : Side). is_side_of row.name x && x.lost) sides →
+    IsToldOfPlayer (sides ++ side ∷ []) (with_side_counted row side)
 told_own sides row side same named is_games is_wins is_losses =
-    let passes : is_of row.name side ≡ true = ap (λ n. bytes_eq n row.name) same ∙ own_name row.name in
-    let games = count_push (is_of row.name) sides side in
-    let wins = count_push (λ (x : Side). is_of row.name x && x.won) sides side in
-    let losses = count_push (λ (x : Side). is_of row.name x && x.lost) sides side in
-    let one_game : one_if (is_of row.name side) ≡ 1 = ap one_if passes in
-    let one_win : one_if (is_of row.name side && side.won) ≡ one_if side.won = ap (λ b. one_if (b && side.won)) passes in
-    let one_loss : one_if (is_of row.name side && side.lost) ≡ one_if side.lost = ap (λ b. one_if (b && side.lost)) passes in
+    let passes : is_side_of row.name side ≡ true = ap (λ n. bytes_eq n row.name) same ∙ own_name row.name in
+    let games = count_push (is_side_of row.name) sides side in
+    let wins = count_push (λ (x : Side). is_side_of row.name x && x.won) sides side in
+    let losses = count_push (λ (x : Side). is_side_of row.name x && x.lost) sides side in
+    let one_game : one_if (is_side_of row.name side) ≡ 1 = ap one_if passes in
+    let one_win : one_if (is_side_of row.name side && side.won) ≡ one_if side.won = ap (λ b. one_if (b && side.won)) passes in
+    let one_loss : one_if (is_side_of row.name side && side.lost) ≡ one_if side.lost = ap (λ b. one_if (b && side.lost)) passes in
     record {
       named = named;
       some = omega arith;
@@ -150,12 +150,12 @@ told_own sides row side same named is_games is_wins is_losses =
     }
 
 -- rows of other names tell the same
-told_others : (sides : List Side) (rows : List TableRow) (side : Side) → HasNoRow side.name rows → All (IsTold sides) rows → All (IsTold (sides ++ side ∷ [])) rows
-told_others sides [] side none told = All-nil (IsTold (sides ++ side ∷ []))
+told_others : (sides : List Side) (rows : List TableRow) (side : Side) → HasNoRow side.name rows → All (IsToldOfPlayer sides) rows → All (IsToldOfPlayer (sides ++ side ∷ [])) rows
+told_others sides [] side none told = All-nil (IsToldOfPlayer (sides ++ side ∷ []))
 told_others sides (row ∷ rows) side none told =
-    All-cons (IsTold (sides ++ side ∷ [])) row rows
-    (told_other sides row side (λ e. All-head (λ (r : TableRow). r.name ≢ side.name) row rows none (sym e)) (All-head (IsTold sides) row rows told))
-    (told_others sides rows side (All-tail (λ (r : TableRow). r.name ≢ side.name) row rows none) (All-tail (IsTold sides) row rows told))
+    All-cons (IsToldOfPlayer (sides ++ side ∷ [])) row rows
+    (told_other sides row side (λ e. All-head (λ (r : TableRow). r.name ≢ side.name) row rows none (sym e)) (All-head (IsToldOfPlayer sides) row rows told))
+    (told_others sides rows side (All-tail (λ (r : TableRow). r.name ≢ side.name) row rows none) (All-tail (IsToldOfPlayer sides) row rows told))
 
 -- each row has a name of its own
 abbrev pub HaveOwnNames : List TableRow → Type 0
@@ -167,36 +167,36 @@ pairs_head R x xs pairs k d within = pairs 0 (suc k) d (omega arith) (omega (ari
 pub pairs_tail : {X : Type 0} (R : X → X → Type 0) (x : X) (xs : List X) → AllPairs R (x ∷ xs) → AllPairs R xs
 pairs_tail R x xs pairs i j d before within = pairs (suc i) (suc j) d (omega (arith, before)) (omega (arith, within))
 
-told_with : (sides : List Side) (rows : List TableRow) (side : Side) → side.name ≢ [] → All (IsTold sides) rows → HaveOwnNames rows → (HasNoRow side.name rows → HasNoSide side.name sides) →
-    All (IsTold (sides ++ side ∷ [])) (with_side rows side)
+told_with : (sides : List Side) (rows : List TableRow) (side : Side) → side.name ≢ [] → All (IsToldOfPlayer sides) rows → HaveOwnNames rows → (HasNoRow side.name rows → HasNoSide side.name sides) →
+    All (IsToldOfPlayer (sides ++ side ∷ [])) (with_side rows side)
 told_with sides [] side named told own absent =
     let none = absent (All-nil (λ (r : TableRow). r.name ≢ side.name)) in
     let first : TableRow = record { name = side.name; games = 0; wins = 0; losses = 0 } in
-    All-cons (IsTold (sides ++ side ∷ [])) (counted first side) []
+    All-cons (IsToldOfPlayer (sides ++ side ∷ [])) (with_side_counted first side) []
     (told_own sides first side refl named (sym (none_named side.name sides none)) (sym (none_of side.name (λ (x : Side). x.won) sides none)) (sym (none_of side.name (λ (x : Side). x.lost) sides none)))
-    (All-nil (IsTold (sides ++ side ∷ [])))
+    (All-nil (IsToldOfPlayer (sides ++ side ∷ [])))
 told_with sides (row ∷ rows) side named told own absent = elim (told_name side.name row.name) [
   | inl (e, same) ↦
-      let head = All-head (IsTold sides) row rows told in
+      let head = All-head (IsToldOfPlayer sides) row rows told in
       let others : HasNoRow side.name rows = All-weaker (λ (r : TableRow). row.name ≢ r.name) (λ (r : TableRow). r.name ≢ side.name) (λ r differ is. differ (sym same ∙ sym is)) rows (pairs_head (λ (a b : TableRow). a.name ≢ b.name) row rows own) in
       rw e
-      (All-cons (IsTold (sides ++ side ∷ [])) (counted row side) rows
+      (All-cons (IsToldOfPlayer (sides ++ side ∷ [])) (with_side_counted row side) rows
       (told_own sides row side same head.named head.games head.wins head.losses)
-      (told_others sides rows side others (All-tail (IsTold sides) row rows told)))
+      (told_others sides rows side others (All-tail (IsToldOfPlayer sides) row rows told)))
   | inr (e, differ) ↦
       rw e
-      (All-cons (IsTold (sides ++ side ∷ [])) row (with_side rows side)
-      (told_other sides row side differ (All-head (IsTold sides) row rows told))
-      (told_with sides rows side named (All-tail (IsTold sides) row rows told) (pairs_tail (λ (a b : TableRow). a.name ≢ b.name) row rows own)
+      (All-cons (IsToldOfPlayer (sides ++ side ∷ [])) row (with_side rows side)
+      (told_other sides row side differ (All-head (IsToldOfPlayer sides) row rows told))
+      (told_with sides rows side named (All-tail (IsToldOfPlayer sides) row rows told) (pairs_tail (λ (a b : TableRow). a.name ≢ b.name) row rows own)
       (λ none. absent (All-cons (λ (r : TableRow). r.name ≢ side.name) row rows (λ is. differ (sym is)) none))))
 ]
 
 -- ---- each name has a row
 
 own_row : (rows : List TableRow) (side : Side) → HasRow side.name (with_side rows side)
-own_row [] side = any_head (λ (r : TableRow). r.name ≡ side.name) (counted (record { name = side.name; games = 0; wins = 0; losses = 0 }) side) [] refl
+own_row [] side = any_head (λ (r : TableRow). r.name ≡ side.name) (with_side_counted (record { name = side.name; games = 0; wins = 0; losses = 0 }) side) [] refl
 own_row (row ∷ rows) side = elim (told_name side.name row.name) [
-  | inl (e, same) ↦ rw e (any_head (λ (r : TableRow). r.name ≡ side.name) (counted row side) rows (sym same))
+  | inl (e, same) ↦ rw e (any_head (λ (r : TableRow). r.name ≡ side.name) (with_side_counted row side) rows (sym same))
   | inr (e, differ) ↦ rw e (any_tail (λ (r : TableRow). r.name ≡ side.name) row (with_side rows side) (own_row rows side))
 ]
 
@@ -204,8 +204,8 @@ row_stays : (name : List ℕ) (rows : List TableRow) (side : Side) → HasRow na
 row_stays name [] side has = absurd (any_nothing (λ (r : TableRow). r.name ≡ name) has)
 row_stays name (row ∷ rows) side has = elim (told_name side.name row.name) [
   | inl (e, same) ↦ rw e (elim (any_cases (λ (r : TableRow). r.name ≡ name) row rows has) [
-    | inl here ↦ any_head (λ (r : TableRow). r.name ≡ name) (counted row side) rows here
-    | inr later ↦ any_tail (λ (r : TableRow). r.name ≡ name) (counted row side) rows later
+    | inl here ↦ any_head (λ (r : TableRow). r.name ≡ name) (with_side_counted row side) rows here
+    | inr later ↦ any_tail (λ (r : TableRow). r.name ≡ name) (with_side_counted row side) rows later
   ])
   | inr (e, differ) ↦ rw e (elim (any_cases (λ (r : TableRow). r.name ≡ name) row rows has) [
     | inl here ↦ any_head (λ (r : TableRow). r.name ≡ name) row (with_side rows side) here
@@ -258,26 +258,26 @@ pairs_weaker R Q xs weaker pairs i j d before within = weaker _ _ (pairs i j d b
 all_with : (P : List ℕ → Type 0) (rows : List TableRow) (side : Side) → All (λ (r : TableRow). P r.name) rows → (HasNoRow side.name rows → P side.name) → All (λ (r : TableRow). P r.name) (with_side rows side)
 all_with P [] side all last =
     let Q = λ (r : TableRow). P r.name in
-    All-cons Q (counted (record { name = side.name; games = 0; wins = 0; losses = 0 }) side) [] (last (All-nil (λ (r : TableRow). r.name ≢ side.name))) (All-nil Q)
+    All-cons Q (with_side_counted (record { name = side.name; games = 0; wins = 0; losses = 0 }) side) [] (last (All-nil (λ (r : TableRow). r.name ≢ side.name))) (All-nil Q)
 all_with P (row ∷ rows) side all last =
     let Q = λ (r : TableRow). P r.name in
     let head : P row.name = All-head Q row rows all in
     elim (told_name side.name row.name) [
-      | inl (e, same) ↦ rw e (All-cons Q (counted row side) rows head (All-tail Q row rows all))
+      | inl (e, same) ↦ rw e (All-cons Q (with_side_counted row side) rows head (All-tail Q row rows all))
       | inr (e, differ) ↦ rw e (All-cons Q row (with_side rows side) head (all_with P rows side (All-tail Q row rows all) (λ none. last (All-cons (λ (r : TableRow). r.name ≢ side.name) row rows (λ is. differ (sym is)) none))))
     ]
 
 ordered_with : (sides : List Side) (rows : List TableRow) (side : Side) → AreOrdered sides rows → All (λ (r : TableRow). HasSide r.name sides) rows → (HasNoRow side.name rows → HasNoSide side.name sides) → AreOrdered (sides ++ side ∷ []) (with_side rows side)
 ordered_with sides [] side ordered seen absent =
     let R = λ (a b : TableRow). IsSeenBefore (sides ++ side ∷ []) a.name b.name in
-    let row = counted (record { name = side.name; games = 0; wins = 0; losses = 0 }) side in
+    let row = with_side_counted (record { name = side.name; games = 0; wins = 0; losses = 0 }) side in
     AllPairs-cons R row [] (All-nil (R row)) (λ i j d before within. absurd (omega (arith, within)))
 ordered_with sides (row ∷ rows) side ordered seen absent =
     let R = λ (a b : TableRow). IsSeenBefore sides a.name b.name in
     let Q = λ (a b : TableRow). IsSeenBefore (sides ++ side ∷ []) a.name b.name in
     let heads : All (λ (r : TableRow). IsSeenBefore (sides ++ side ∷ []) row.name r.name) rows = All-weaker (R row) (Q row) (λ r before. before_more sides (side ∷ []) row.name r.name before) rows (pairs_head R row rows ordered) in
     elim (told_name side.name row.name) [
-      | inl (e, same) ↦ rw e (AllPairs-cons Q (counted row side) rows heads (pairs_weaker R Q rows (λ x y before. before_more sides (side ∷ []) x.name y.name before) (pairs_tail R row rows ordered)))
+      | inl (e, same) ↦ rw e (AllPairs-cons Q (with_side_counted row side) rows heads (pairs_weaker R Q rows (λ x y before. before_more sides (side ∷ []) x.name y.name before) (pairs_tail R row rows ordered)))
       | inr (e, differ) ↦
           let absent_here : HasNoRow side.name rows → HasNoSide side.name sides = λ none. absent (All-cons (λ (r : TableRow). r.name ≢ side.name) row rows (λ is. differ (sym is)) none) in
           let first : HasSide row.name sides = All-head (λ (r : TableRow). HasSide r.name sides) row rows seen in
@@ -290,26 +290,26 @@ ordered_with sides (row ∷ rows) side ordered seen absent =
 -- ---- the rows of one side more
 
 -- the name of a row is that of a side
-pub told_side : (sides : List Side) (row : TableRow) → IsTold sides row → HasSide row.name sides
+pub told_side : (sides : List Side) (row : TableRow) → IsToldOfPlayer sides row → HasSide row.name sides
 told_side sides row told =
-    let (k, x, within, is, passes) = count_something (is_of row.name) sides (let e = told.games in let some = told.some in omega (arith, e, some)) in
+    let (k, x, within, is, passes) = count_something (is_side_of row.name) sides (let e = told.games in let some = told.some in omega (arith, e, some)) in
     (k, x, within, is, same_text x.name row.name (sym passes))
 
-named_added : (sides : List Side) (rows : List TableRow) (side : Side) → side.name ≢ [] → AreRows sides rows → AreRows (sides ++ side ∷ []) (with_side rows side)
+named_added : (sides : List Side) (rows : List TableRow) (side : Side) → side.name ≢ [] → ArePlayerRows sides rows → ArePlayerRows (sides ++ side ∷ []) (with_side rows side)
 named_added sides rows side named are =
     let own : HaveOwnNames rows = pairs_weaker (λ (a b : TableRow). IsSeenBefore sides a.name b.name) (λ (a b : TableRow). a.name ≢ b.name) rows (λ x y before. before_differ sides x.name y.name before) are.ordered in
     let absent = no_side sides rows side.name named are.complete in
     record {
       told = told_with sides rows side named are.told own absent;
       complete = complete_with sides rows side are.complete;
-      ordered = ordered_with sides rows side are.ordered (All-weaker (IsTold sides) (λ (r : TableRow). HasSide r.name sides) (λ r told. told_side sides r told) rows are.told) absent;
+      ordered = ordered_with sides rows side are.ordered (All-weaker (IsToldOfPlayer sides) (λ (r : TableRow). HasSide r.name sides) (λ r told. told_side sides r told) rows are.told) absent;
     }
 
-nameless_added : (sides : List Side) (rows : List TableRow) (side : Side) → side.name ≡ [] → AreRows sides rows → AreRows (sides ++ side ∷ []) rows
+nameless_added : (sides : List Side) (rows : List TableRow) (side : Side) → side.name ≡ [] → ArePlayerRows sides rows → ArePlayerRows (sides ++ side ∷ []) rows
 nameless_added sides rows side nothing are =
     let P = λ (x : Side). x.name ≢ [] → HasRow x.name rows in
     record {
-      told = told_others sides rows side (All-weaker (IsTold sides) (λ (r : TableRow). r.name ≢ side.name) (λ r told is. told.named (is ∙ nothing)) rows are.told) are.told;
+      told = told_others sides rows side (All-weaker (IsToldOfPlayer sides) (λ (r : TableRow). r.name ≢ side.name) (λ r told is. told.named (is ∙ nothing)) rows are.told) are.told;
       complete = All-append P sides (side ∷ []) are.complete (All-cons P side [] (λ named. absurd (named nothing)) (All-nil P));
       ordered = pairs_weaker (λ (a b : TableRow). IsSeenBefore sides a.name b.name) (λ (a b : TableRow). IsSeenBefore (sides ++ side ∷ []) a.name b.name) rows (λ x y before. before_more sides (side ∷ []) x.name y.name before) are.ordered;
     }
@@ -319,16 +319,16 @@ pub empty_or_not : (name : List ℕ) → (name ≡ []) ⊎ (name ≢ [])
 empty_or_not [] = inl refl
 empty_or_not (b ∷ name) = inr (λ e. absurd cc)
 
-pub side_added : (sides : List Side) (old new : List TableRow) (side : Side) → IsSideAdded old side new → AreRows sides old → AreRows (sides ++ side ∷ []) new
+pub side_added : (sides : List Side) (old new : List TableRow) (side : Side) → IsSideAdded old side new → ArePlayerRows sides old → ArePlayerRows (sides ++ side ∷ []) new
 side_added sides old new side added are = elim (empty_or_not side.name) [
-  | inl nothing ↦ subst (AreRows (sides ++ side ∷ [])) (sym (added.nameless nothing)) (nameless_added sides old side nothing are)
-  | inr named ↦ subst (AreRows (sides ++ side ∷ [])) (sym (added.named named)) (named_added sides old side named are)
+  | inl nothing ↦ subst (ArePlayerRows (sides ++ side ∷ [])) (sym (added.nameless nothing)) (nameless_added sides old side nothing are)
+  | inr named ↦ subst (ArePlayerRows (sides ++ side ∷ [])) (sym (added.named named)) (named_added sides old side named are)
 ]
 
 -- no side has no row
-pub no_rows : AreRows [] []
+pub no_rows : ArePlayerRows [] []
 no_rows = record {
-  told = All-nil (IsTold []);
+  told = All-nil (IsToldOfPlayer []);
   complete = All-nil (λ (x : Side). x.name ≢ [] → HasRow x.name []);
   ordered = λ i j d before within. absurd (omega (arith, within));
 }

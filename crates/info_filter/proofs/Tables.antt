@@ -2,8 +2,8 @@
 use Rattle.std.proofs.Common.{◌≡◌, ◌+◌, ◌++◌, ◌≤◌, ℕ, Bool, List, [], ◌∷◌, All, refl, sym, ap, subst, arith, inl, inr}
 use Rattle.std.proofs.lemmas.List.Elements.{All-cons, All-head, All-nil, All-tail, All-weaker}
 use Rattle.game_tree.specs.Information.{Information}
-use Rattle.info_filter.specs.Players.{AreRows, IsTable, Side, TableRow, black_side, sides_of, white_side}
-use Rattle.info_filter.specs.Seats.{IsSideAdded, counted, with_side}
+use Rattle.info_filter.specs.Players.{ArePlayerRows, IsPlayersTable, Side, TableRow, black_side, sides_of, white_side}
+use Rattle.info_filter.specs.Seats.{IsSideAdded, with_side_counted, with_side}
 use Rattle.info_filter.proofs.Entries.{side_of}
 use Rattle.info_filter.proofs.TableRows.{empty_or_not, side_added, told_name}
 
@@ -16,9 +16,9 @@ sides_push : (games : List Information) (info : Information) → sides_of (games
 sides_push [] info = refl
 sides_push (game ∷ games) info = ap (λ (xs : List Side). black_side game ∷ white_side game ∷ xs) (sides_push games info)
 
-pub game_added : (games : List Information) (info : Information) (old between new : List TableRow) → IsSideAdded old (black_side info) between → IsSideAdded between (white_side info) new → IsTable games old → IsTable (games ++ info ∷ []) new
+pub game_added : (games : List Information) (info : Information) (old between new : List TableRow) → IsSideAdded old (black_side info) between → IsSideAdded between (white_side info) new → IsPlayersTable games old → IsPlayersTable (games ++ info ∷ []) new
 game_added games info old between new black white table =
-    subst (λ (sides : List Side). AreRows sides new) (sym (sides_push games info))
+    subst (λ (sides : List Side). ArePlayerRows sides new) (sym (sides_push games info))
     (side_added (sides_of games ++ black_side info ∷ []) between new (white_side info) white (side_added (sides_of games) old between (black_side info) black table))
 
 -- ---- the number of games of a row, with one side more
@@ -29,13 +29,13 @@ AreSmall most rows = All (λ (row : TableRow). row.games ≤ most) rows
 small_with : (most : ℕ) (rows : List TableRow) (side : Side) → AreSmall most rows → AreSmall (most + 1) (with_side rows side)
 small_with most [] side small =
     let P = λ (r : TableRow). r.games ≤ most + 1 in
-    All-cons P (counted (record { name = side.name; games = 0; wins = 0; losses = 0 }) side) [] (omega arith) (All-nil P)
+    All-cons P (with_side_counted (record { name = side.name; games = 0; wins = 0; losses = 0 }) side) [] (omega arith) (All-nil P)
 small_with most (row ∷ rows) side small =
     let S = λ (r : TableRow). r.games ≤ most in
     let P = λ (r : TableRow). r.games ≤ most + 1 in
     let head : row.games ≤ most = All-head S row rows small in
     elim (told_name side.name row.name) [
-      | inl (e, same) ↦ rw e (All-cons P (counted row side) rows (omega (arith, head)) (All-weaker S P (λ r le. omega (arith, le)) rows (All-tail S row rows small)))
+      | inl (e, same) ↦ rw e (All-cons P (with_side_counted row side) rows (omega (arith, head)) (All-weaker S P (λ r le. omega (arith, le)) rows (All-tail S row rows small)))
       | inr (e, differ) ↦ rw e (All-cons P row (with_side rows side) (omega (arith, head)) (small_with most rows side (All-tail S row rows small)))
     ]
 

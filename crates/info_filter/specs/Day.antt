@@ -24,7 +24,7 @@ pub record IsFirstDate (text date : List ℕ) : Type 0 where
   pub longest : (b : ℕ) (more : List ℕ) → rest ≡ b ∷ more → ¬ IsDateByte b
 
 -- a number of so many decimal digits, with zeros in front where it has fewer
-pub record IsNumber (digits : List ℕ) (many n : ℕ) : Type 0 where
+pub record IsNumberOfDigits (digits : List ℕ) (many n : ℕ) : Type 0 where
   pub many_digits : length digits ≡ many
   pub all_digits : AllDigits 10 digits
   pub value : digits_value 10 digits ≡ n
@@ -33,13 +33,13 @@ pub record IsNumber (digits : List ℕ) (many n : ℕ) : Type 0 where
 -- is 1.
 pub data IsDateText : List ℕ → ℕ → ℕ → ℕ → Type 0 where
   whole : {y m d : ℕ} (year month day : List ℕ) →
-      IsNumber year 4 y → IsNumber month 2 m → IsNumber day 2 d →
+      IsNumberOfDigits year 4 y → IsNumberOfDigits month 2 m → IsNumberOfDigits day 2 d →
       IsDateText (year ++ (hyphen ∷ (month ++ (hyphen ∷ day)))) y m d
   without_day : {y m : ℕ} (year month : List ℕ) →
-      IsNumber year 4 y → IsNumber month 2 m →
+      IsNumberOfDigits year 4 y → IsNumberOfDigits month 2 m →
       IsDateText (year ++ (hyphen ∷ month)) y m 1
   year_alone : {y : ℕ} (year : List ℕ) →
-      IsNumber year 4 y →
+      IsNumberOfDigits year 4 y →
       IsDateText year y 1 1
 
 -- The game of this date's text was played on this day, by the day's number: its first date is of

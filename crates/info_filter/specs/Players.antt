@@ -59,17 +59,17 @@ pub record TableRow : Type 0 where
   pub losses : ℕ
 
 -- whether the side is of this name
-abbrev pub is_of : List ℕ → Side → Bool
-is_of name side = bytes_eq side.name name
+abbrev pub is_side_of : List ℕ → Side → Bool
+is_side_of name side = bytes_eq side.name name
 
 -- The row tells of a player: of a name that isn't empty, and of all sides of that name. A name that
 -- plays both sides of a game has two of them.
-pub record IsTold (sides : List Side) (row : TableRow) : Type 0 where
+pub record IsToldOfPlayer (sides : List Side) (row : TableRow) : Type 0 where
   pub named : row.name ≢ []
   pub some : 1 ≤ row.games
-  pub games : row.games ≡ count_by (is_of row.name) sides
-  pub wins : row.wins ≡ count_by (λ (side : Side). is_of row.name side && side.won) sides
-  pub losses : row.losses ≡ count_by (λ (side : Side). is_of row.name side && side.lost) sides
+  pub games : row.games ≡ count_by (is_side_of row.name) sides
+  pub wins : row.wins ≡ count_by (λ (side : Side). is_side_of row.name side && side.won) sides
+  pub losses : row.losses ≡ count_by (λ (side : Side). is_side_of row.name side && side.lost) sides
 
 -- One name is seen before another: it is among some first sides, and the other isn't.
 pub record IsSeenBefore (sides : List Side) (one other : List ℕ) : Type 0 where
@@ -85,11 +85,11 @@ HasRowOf name rows = Any (λ (row : TableRow). row.name ≡ name) rows
 
 -- Each name of the sides that isn't empty has a row, in the order in which the names are seen
 -- first. So no name has two.
-pub record AreRows (sides : List Side) (rows : List TableRow) : Type 0 where
-  pub told : All (IsTold sides) rows
+pub record ArePlayerRows (sides : List Side) (rows : List TableRow) : Type 0 where
+  pub told : All (IsToldOfPlayer sides) rows
   pub complete : All (λ (side : Side). side.name ≢ [] → HasRowOf side.name rows) sides
   pub ordered : AllPairs (λ (a b : TableRow). IsSeenBefore sides a.name b.name) rows
 
 -- the players' table of a list of games
-abbrev pub IsTable : List Information → List TableRow → Type 0
-IsTable games rows = AreRows (sides_of games) rows
+abbrev pub IsPlayersTable : List Information → List TableRow → Type 0
+IsPlayersTable games rows = ArePlayerRows (sides_of games) rows

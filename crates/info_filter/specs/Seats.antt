@@ -17,24 +17,24 @@ abbrev pub Entry : Type 0
 Entry = Vec ℕ Global × Score
 
 -- whether two names are equal
-abbrev pub is_same : Vec ℕ Global → Vec ℕ Global → Bool
-is_same a b = bytes_eq a.items b.items
+abbrev pub is_same_name : Vec ℕ Global → Vec ℕ Global → Bool
+is_same_name a b = bytes_eq a.items b.items
 
 -- the row of an entry
 abbrev pub row_of : Entry → TableRow
 row_of e = record { name = e.0.items; games = e.1.games; wins = e.1.wins; losses = e.1.losses }
 
 -- the rows of the entries
-abbrev pub rows_of : List Entry → List TableRow
-rows_of es = map row_of es
+abbrev pub table_rows_of : List Entry → List TableRow
+table_rows_of es = map row_of es
 
 -- 1 if it is true, else 0
 abbrev pub one_if : Bool → ℕ
 one_if b = if b then 1 else 0
 
 -- the row with one side more
-abbrev pub counted : TableRow → Side → TableRow
-counted row side = record {
+abbrev pub with_side_counted : TableRow → Side → TableRow
+with_side_counted row side = record {
   name = row.name;
   games = row.games + 1;
   wins = row.wins + one_if side.won;
@@ -48,9 +48,9 @@ new_row name = record { name = name; games = 0; wins = 0; losses = 0 }
 -- the rows with one side more, which has a name: it is counted in the row of its name, or gets a
 -- new one at the end
 abbrev pub with_side : List TableRow → Side → List TableRow
-with_side [] side = counted (new_row side.name) side ∷ []
+with_side [] side = with_side_counted (new_row side.name) side ∷ []
 with_side (row ∷ rows) side =
-    if bytes_eq side.name row.name then counted row side ∷ rows else row ∷ with_side rows side
+    if bytes_eq side.name row.name then with_side_counted row side ∷ rows else row ∷ with_side rows side
 
 -- the rows with one side more, which may have no name
 pub record IsSideAdded (old : List TableRow) (side : Side) (new : List TableRow) : Type 0 where
@@ -58,7 +58,7 @@ pub record IsSideAdded (old : List TableRow) (side : Side) (new : List TableRow)
   pub named : side.name ≢ [] → new ≡ with_side old side
 
 -- the score with one side more
-pub record IsOneMore (won lost : Bool) (old new : Score) : Type 0 where
+pub record IsOneSideMore (won lost : Bool) (old new : Score) : Type 0 where
   pub games : new.games ≡ old.games + 1
   pub wins : new.wins ≡ old.wins + one_if won
   pub losses : new.losses ≡ old.losses + one_if lost
@@ -71,21 +71,21 @@ pub record IsFirst (won lost : Bool) (new : Score) : Type 0 where
 
 -- the score of a name, if it had one, with one side more
 abbrev pub IsNext : Bool → Bool → Option Score → Score → Type 0
-IsNext won lost (Some old) new = IsOneMore won lost old new
+IsNext won lost (Some old) new = IsOneSideMore won lost old new
 IsNext won lost None new = IsFirst won lost new
 
 -- one side more is counted in the entry with this number
 abbrev pub IsCountedAt : List Entry → ℕ → Bool → Bool → List Entry → Type 0
 IsCountedAt old i won lost new =
     (name : Vec ℕ Global) × (score : Score) × (next : Score)
-    × (slice_get old i ≡ Some (name, score)) × IsOneMore won lost score next
+    × (slice_get old i ≡ Some (name, score)) × IsOneSideMore won lost score next
     × (new ≡ set_value_at old i next)
 
 -- one side more is counted for this name
 abbrev pub IsCountedFor : List Entry → Vec ℕ Global → Bool → Bool → List Entry → Type 0
 IsCountedFor old name won lost new =
-    (next : Score) × IsNext won lost (lookup (is_same name) old) next
-    × (new ≡ insert_entry is_same old name next)
+    (next : Score) × IsNext won lost (lookup (is_same_name name) old) next
+    × (new ≡ insert_entry is_same_name old name next)
 
 -- where the name has its row in the entries
 abbrev pub IsSeat : List Entry → List ℕ → Seat → Type 0

@@ -22,7 +22,7 @@ ghost use Rattle.std.specs.Char.{digit_value};
 ghost use Rattle.jiff_core.specs.Calendar.{IsCivilDate, days_from_civil};
 ghost use Rattle.sgf_reader.specs.Bytes.{space};
 ghost use Rattle.info_filter.specs.DateParts.{BeginsWithNumber, BeginsWithPart, BeginsWithYear};
-ghost use Rattle.info_filter.specs.Day.{IsDateByte, IsDateText, IsDayOf, IsFirstDate, IsNumber};
+ghost use Rattle.info_filter.specs.Day.{IsDateByte, IsDateText, IsDayOf, IsFirstDate, IsNumberOfDigits};
 
 use jiff::civil::Date;
 
@@ -153,9 +153,9 @@ fn written_part(text: &[u8]) -> Option<(u8, &[u8])>
 
 // The year that four digits write.
 fn year_of(a: u8, b: u8, c: u8, d: u8) -> Option<u16>
-    ensures some { IfSome result (λ n. IsNumber (a ∷ b ∷ c ∷ d ∷ []) 4 n) }
+    ensures some { IfSome result (λ n. IsNumberOfDigits (a ∷ b ∷ c ∷ d ∷ []) 4 n) }
     ensures small { IfSome result (λ n. n ≤ 9999) }
-    ensures none { IsNone result → (n : ℕ) → ¬ IsNumber (a ∷ b ∷ c ∷ d ∷ []) 4 n }
+    ensures none { IsNone result → (n : ℕ) → ¬ IsNumberOfDigits (a ∷ b ∷ c ∷ d ∷ []) 4 n }
 {
     let century = two_digits(a, b)?;
     let year = two_digits(c, d)?;
@@ -164,9 +164,9 @@ fn year_of(a: u8, b: u8, c: u8, d: u8) -> Option<u16>
 
 // The number that two digits write.
 fn two_digits(tens: u8, ones: u8) -> Option<u8>
-    ensures some { IfSome result (λ n. IsNumber (tens ∷ ones ∷ []) 2 n) }
+    ensures some { IfSome result (λ n. IsNumberOfDigits (tens ∷ ones ∷ []) 2 n) }
     ensures small { IfSome result (λ n. n ≤ 99) }
-    ensures none { IsNone result → (n : ℕ) → ¬ IsNumber (tens ∷ ones ∷ []) 2 n }
+    ensures none { IsNone result → (n : ℕ) → ¬ IsNumberOfDigits (tens ∷ ones ∷ []) 2 n }
 {
     Some(digit_of(tens)? * 10 + digit_of(ones)?)
 }

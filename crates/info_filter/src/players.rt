@@ -2,7 +2,7 @@
 ghost use Rattle.std.specs.Prelude.{◌≡◌, ◌++◌, ◌≤◌, List, [], ◌∷◌, All, OnErr, OnOk};
 ghost use Rattle.game_tree.specs.Information.{Information};
 ghost use Rattle.std.specs.Iterator.{YieldsFirstBy, item_count};
-ghost use Rattle.info_filter.specs.Players.{IsTable, TableRow, is_black_win, is_white_win};
+ghost use Rattle.info_filter.specs.Players.{IsPlayersTable, TableRow, is_black_win, is_white_win};
 
 use crate::score::Score;
 use crate::seat::{Seat, add_side, seat_of};
@@ -23,11 +23,11 @@ pub struct Players {
 impl Model for Players {
     ghost use Rattle.std.specs.Prelude.{List, map};
     ghost use Rattle.info_filter.specs.Players.{TableRow};
-    ghost use Rattle.info_filter.specs.Seats.{rows_of};
+    ghost use Rattle.info_filter.specs.Seats.{table_rows_of};
 
     ghost Value = { List TableRow };
 
-    ghost view = { λ p. rows_of p.scores.entries };
+    ghost view = { λ p. table_rows_of p.scores.entries };
 }
 
 impl Players {
@@ -46,7 +46,7 @@ impl Players {
     pub fn add(&mut self, alloc: Global, info: &Info) -> Result<(), NoMemory>
         requires { All (λ (row : TableRow). row.games ≤ 4000000000) self.old }
         ensures ok { OnOk result ((games : List Information) →
-            IsTable games self.old → IsTable (games ++ (info.now ∷ [])) self.new) }
+            IsPlayersTable games self.old → IsPlayersTable (games ++ (info.now ∷ [])) self.new) }
         ensures err { OnErr result (self.new ≡ self.old) }
     {
         let black = seat_of(&self.scores, alloc, info.black())?;
@@ -89,11 +89,11 @@ pub struct PlayerRows<'a> {
 impl<'a> Model for PlayerRows<'a> {
     ghost use Rattle.std.specs.Prelude.{List};
     ghost use Rattle.info_filter.specs.Players.{TableRow};
-    ghost use Rattle.info_filter.specs.Seats.{rows_of};
+    ghost use Rattle.info_filter.specs.Seats.{table_rows_of};
 
     ghost Value = { List TableRow };
 
-    ghost view = { λ r. rows_of r.scores };
+    ghost view = { λ r. table_rows_of r.scores };
 }
 
 impl<'a> Iterator for PlayerRows<'a> {

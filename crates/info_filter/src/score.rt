@@ -12,7 +12,7 @@ pub(crate) struct Score {
 }
 
 impl Score {
-    ghost use Rattle.info_filter.specs.Seats.{IsOneMore};
+    ghost use Rattle.info_filter.specs.Seats.{IsOneSideMore};
 
     // The score of no side.
     pub(crate) fn none() -> Self
@@ -30,7 +30,7 @@ impl Score {
     // The score with one side more.
     pub(crate) fn with(self, won: bool, lost: bool) -> Self
         requires { self.games ≤ 4294967294 }
-        ensures { IsOneMore won lost self result }
+        ensures { IsOneSideMore won lost self result }
     {
         Score {
             games: self.games + 1,

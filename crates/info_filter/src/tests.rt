@@ -1,6 +1,6 @@
 ghost use Rattle.std.specs.Prelude.{◌≤◌, List, length, map, IfOk};
 ghost use Rattle.game_tree.specs.Tree.{Tree};
-ghost use Rattle.info_filter.specs.Players.{IsTable};
+ghost use Rattle.info_filter.specs.Players.{IsPlayersTable};
 
 use super::*;
 use game_tree::{Bytes, GameTree, build};
@@ -314,7 +314,7 @@ fn a_filter_is_copied(rt: HostRuntime) -> Result<(), Fail> {
 // The table of the players of some games.
 fn table_of(alloc: Global, games: &[GameTree]) -> Result<Players, NoMemory>
     requires { length games.now ≤ 400000 }
-    ensures { IfOk result (λ players. IsTable (map (λ (t : Tree). t.info) games.now) players) }
+    ensures { IfOk result (λ players. IsPlayersTable (map (λ (t : Tree). t.info) games.now) players) }
 {
     let mut players = Players::new(alloc);
     for game in games {

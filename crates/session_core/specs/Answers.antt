@@ -6,6 +6,7 @@ use Rattle.continuation_table.specs.Table.{IsTable, TableView}
 use Rattle.sgf_writer.specs.Written.{IsWritten}
 use Rattle.query_script.specs.declared.statement.Statement.{Statement}
 use Rattle.query_script.specs.declared.statement.Statement.TheVariants as statement
+use Rattle.query_script.specs.Bytes.{line_feed}
 use Rattle.query_script.specs.Texts.{game_head, no_game_text, search_text}
 use Rattle.node_position.specs.Games.{Game}
 use Rattle.session_core.specs.Hits.{AreHits}
@@ -35,7 +36,7 @@ pub data IsGameText (line : ℕ) (view : View) (number : ℕ) : List ℕ → Typ
       IsThere view.games number game →
       IsWritten game.tree written →
       IsGameText line view number
-      (game_head line number view.version game.place game.file ++ (written ++ 10 ∷ []))
+      (game_head line number view.version game.place game.file ++ (written ++ line_feed ∷ []))
   none : length view.games ≤ number →
       IsGameText line view number (no_game_text line number view.version)
 

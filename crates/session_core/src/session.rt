@@ -15,6 +15,7 @@ ghost use Rattle.std.specs.Prelude.{
 };
 ghost use mathlib.Core.List.{IsPrefix};
 ghost use Rattle.sgf_writer.specs.Written.{IsWritten};
+ghost use Rattle.query_script.specs.Bytes.{line_feed};
 ghost use Rattle.query_script.specs.Texts.{game_head};
 ghost use Rattle.session_core.specs.Answers.{IsAnswer, IsAnswered, IsGameText, IsSearchText};
 ghost use Rattle.session_core.specs.Games.{HasItsChanges};
@@ -145,7 +146,7 @@ fn append_stored(
     ensures ok { OnOk result ((written : List ℕ) × IsWritten stored.now.tree written
         × (out.new.items
         ≡ out.old.items ++ (game_head line game number stored.now.place
-        (string_bytes stored.now.file) ++ (written ++ 10 ∷ [])))) }
+        (string_bytes stored.now.file) ++ (written ++ line_feed ∷ [])))) }
     ensures refused { OnErr result (IsPrefix out.old.items out.new.items) }
 {
     print_game(line, game, number, stored.place, &stored.file, out)?;
