@@ -31,7 +31,8 @@ pub fn next_of(tree: &GameTree, deltas: &NodeDeltas, images: &Images, found: &Fo
     requires node { found.now.node < node_count tree.now }
     ensures some { IfSome result (λ next. (i : ℕ) → i < length images.now.placements →
         IsPlaceOf (placement_at images.now.placements i) found.now.place →
-        IsContinuation tree.now deltas.now (placement_at images.now.placements i) found.now.node next) }
+        IsContinuation tree.now deltas.now (placement_at images.now.placements i)
+        found.now.node next) }
     ensures none { IfNone result ((i : ℕ) → i < length images.now.placements →
         IsPlaceOf (placement_at images.now.placements i) found.now.place →
         (next : Next) → ¬ IsContinuation tree.now deltas.now (placement_at images.now.placements i)

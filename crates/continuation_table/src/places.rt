@@ -69,7 +69,8 @@ fn row_holds(images: &Images, i: usize, known: &KnownCells, dy: u8) -> bool
     requires row { dy < (placement_at images.now.placements i).grid.rows }
     ensures { IsTrue result ↔ ((dx : ℕ) → dx < (placement_at images.now.placements i).grid.cols →
         Allows (cell_in (placement_at images.now.placements i).grid dx dy)
-        (known_cell known.now.cells (number_under images.now.shape (placement_at images.now.placements i) dx dy))) }
+        (known_cell known.now.cells
+        (number_under images.now.shape (placement_at images.now.placements i) dx dy))) }
 {
     let shape = images.shape();
     let place = images.place(i);

@@ -23,7 +23,8 @@ pub fn a_signature_has_one_canonical_form()
 pub fn an_image_has_the_images_of_its_signature()
     ensures { (shape : Shape) (signature image : List ℕ) →
         IsSignatureOn shape signature → IsSignatureImage shape signature image →
-        (other : List ℕ) → IsSignatureImage shape image other ↔ IsSignatureImage shape signature other }
+        (other : List ℕ) →
+        IsSignatureImage shape image other ↔ IsSignatureImage shape signature other }
 {}
 
 /// Two signatures on one board have one canonical form exactly where the second is an image of the

@@ -2,7 +2,7 @@
 pub mod Day
 pub mod Filter
 pub mod Players
+pub mod Rows
 -- Words of private functions.
 pub mod DateParts
-pub mod Rows
 pub mod Seats

@@ -50,7 +50,8 @@ new_row name = record { name = name; games = 0; wins = 0; losses = 0 }
 abbrev pub with_side : List TableRow → Side → List TableRow
 with_side [] side = with_side_counted (new_row side.name) side ∷ []
 with_side (row ∷ rows) side =
-    if bytes_eq side.name row.name then with_side_counted row side ∷ rows else row ∷ with_side rows side
+    if bytes_eq side.name row.name then with_side_counted row side ∷ rows
+    else row ∷ with_side rows side
 
 -- the rows with one side more, which may have no name
 pub record IsSideAdded (old : List TableRow) (side : Side) (new : List TableRow) : Type 0 where

@@ -22,7 +22,13 @@ ghost use Rattle.std.specs.Char.{digit_value};
 ghost use Rattle.jiff_core.specs.Calendar.{IsCivilDate, days_from_civil};
 ghost use Rattle.sgf_reader.specs.Bytes.{space};
 ghost use Rattle.info_filter.specs.DateParts.{BeginsWithNumber, BeginsWithPart, BeginsWithYear};
-ghost use Rattle.info_filter.specs.Day.{IsDateByte, IsDateText, IsDayOf, IsFirstDate, IsNumberOfDigits};
+ghost use Rattle.info_filter.specs.Day.{
+  IsDateByte,
+  IsDateText,
+  IsDayOf,
+  IsFirstDate,
+  IsNumberOfDigits,
+};
 
 use jiff::civil::Date;
 

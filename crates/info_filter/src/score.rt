@@ -1,7 +1,7 @@
 // What is counted for a name.
 ghost use Rattle.std.specs.Prelude.{◌≡◌, ◌≤◌};
 
-/// How many sides of games are of a name, and how many of these won and lost.
+// How many sides of games are of a name, and how many of these won and lost.
 #[derive(Clone, Copy, Debug)]
 pub(crate) struct Score {
     pub(crate) games: u32,

@@ -2,7 +2,13 @@
 ghost use Rattle.std.specs.Prelude.{◌+◌, ◌<◌, ◌≤◌, ℕ, List, length, All, IfOk};
 ghost use Rattle.indexmap.specs.IndexMap.{spare};
 ghost use Rattle.info_filter.specs.Players.{TableRow};
-ghost use Rattle.info_filter.specs.Seats.{IsCountedAt, IsCountedFor, IsSeat, IsSideAdded, table_rows_of};
+ghost use Rattle.info_filter.specs.Seats.{
+  IsCountedAt,
+  IsCountedFor,
+  IsSeat,
+  IsSideAdded,
+  table_rows_of,
+};
 ghost use Rattle.info_filter.specs.declared.seat.Seat.{Seat};
 
 use crate::score::Score;
@@ -10,14 +16,14 @@ use indexmap::IndexMap;
 use kb_geometry::NoMemory;
 use std::alloc::Global;
 
-/// Where a name has its row.
+// Where a name has its row.
 #[derive(Debug, Drop)]
 pub(crate) enum Seat {
-    /// Nowhere: the name is empty.
+    // Nowhere: the name is empty.
     Nowhere,
-    /// It has a row with this number.
+    // It has a row with this number.
     Row(usize),
-    /// It has none yet, and here is a copy of it.
+    // It has none yet, and here is a copy of it.
     New(Vec<u8>),
 }
 
@@ -42,7 +48,8 @@ pub(crate) fn seat_of(
 pub(crate) fn add_side(scores: &mut IndexMap<Vec<u8>, Score>, seat: Seat, won: bool, lost: bool)
     requires room { 1 ≤ spare scores.old }
     requires seat { (name : List ℕ) × IsSeat scores.old.entries name seat }
-    requires small { All (λ (row : TableRow). row.games ≤ 4294967294) (table_rows_of scores.old.entries) }
+    requires small { All (λ (row : TableRow). row.games ≤ 4294967294)
+        (table_rows_of scores.old.entries) }
     ensures added { (name : List ℕ) → IsSeat scores.old.entries name seat →
         IsSideAdded (table_rows_of scores.old.entries)
         (record { name = name; won = won; lost = lost }) (table_rows_of scores.new.entries) }
@@ -60,7 +67,8 @@ pub(crate) fn add_side(scores: &mut IndexMap<Vec<u8>, Score>, seat: Seat, won: b
 // Counts a side in a row.
 fn add_to_row(scores: &mut IndexMap<Vec<u8>, Score>, row: usize, won: bool, lost: bool)
     requires within { row < length scores.old.entries }
-    requires small { All (λ (row : TableRow). row.games ≤ 4294967294) (table_rows_of scores.old.entries) }
+    requires small { All (λ (row : TableRow). row.games ≤ 4294967294)
+        (table_rows_of scores.old.entries) }
     ensures counted { IsCountedAt scores.old.entries row won lost scores.new.entries }
     ensures spare { spare scores.old ≤ spare scores.new + 1 }
 {
@@ -71,7 +79,8 @@ fn add_to_row(scores: &mut IndexMap<Vec<u8>, Score>, row: usize, won: bool, lost
 // Counts a side for a name that may have a row.
 fn add_name(scores: &mut IndexMap<Vec<u8>, Score>, name: Vec<u8>, won: bool, lost: bool)
     requires room { 1 ≤ spare scores.old }
-    requires small { All (λ (row : TableRow). row.games ≤ 4294967294) (table_rows_of scores.old.entries) }
+    requires small { All (λ (row : TableRow). row.games ≤ 4294967294)
+        (table_rows_of scores.old.entries) }
     ensures counted { IsCountedFor scores.old.entries name won lost scores.new.entries }
     ensures spare { spare scores.old ≤ spare scores.new + 1 }
 {

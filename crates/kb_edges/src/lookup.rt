@@ -34,7 +34,8 @@ pub fn has_path(files: &[FileEntry], path: &str) -> bool
 /// The first file with this path and this name.
 pub fn first_file<'a>(files: &'a [FileEntry], path: &str, name: &str) -> Option<&'a FileEntry>
     ensures { option_copied result ≡ find (λ entry.
-        bytes_eq (string_bytes entry.path) path.now && bytes_eq (string_bytes entry.name) name.now) files.now }
+        bytes_eq (string_bytes entry.path) path.now
+        && bytes_eq (string_bytes entry.name) name.now) files.now }
 {
     files.iter().find(|file| file.path.as_str() == path && file.name.as_str() == name)
 }

@@ -206,7 +206,8 @@ fn at_of(words: &[Word]) -> Option<(Option<Rect>, &[Word])>
     ensures parted { IfSome result (λ r. AreParted IsAt words.now r.0 r.1.now) }
     ensures only { IfSome result (λ r. (at : Option Rect) (rest : List Word) →
         AreParted IsAt words.now at rest →
-        BeginsOtherwise (codes "at") rest → BeginsOtherwise (codes "to") rest → (at ≡ r.0) × (rest ≡ r.1.now)) }
+        BeginsOtherwise (codes "at") rest → BeginsOtherwise (codes "to") rest →
+        (at ≡ r.0) × (rest ≡ r.1.now)) }
     ensures none { result ≡ None → (at : Option Rect) (rest : List Word) →
         AreParted IsAt words.now at rest →
         BeginsOtherwise (codes "at") rest → ¬ BeginsOtherwise (codes "to") rest }

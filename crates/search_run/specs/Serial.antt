@@ -35,7 +35,7 @@ pub record PrintsPrefix (script : List ℕ) (files : List File) (before : List �
     (written : Option (List ℕ)) (faults_before faults_now : ℕ) : Type 0 where
   pub placed : List Placed
   pub spelled : IsScript script placed
-  pub begun : WritesPrefix files placed before written faults_before faults_now
+  pub prefix : WritesPrefix files placed before written faults_before faults_now
 
 -- the run ended before the first statement
 abbrev pub IsEarly : Status → Type 0

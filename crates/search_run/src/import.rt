@@ -276,7 +276,8 @@ fn read_next<F: Folder>(
 ) -> Result<(), NoMemory>
     ensures found { IfTold (F.files folder.old) (λ all. HasFile all path.now name.now → OnOk result
         (IsOneMoreRead all path.now name.now (F.faults folder.old) (F.faults folder.new) counts.old
-        (file_reports files.old.items) (games_of games.old.items) (file_reports files.new.items) (games_of games.new.items))) }
+        (file_reports files.old.items) (games_of games.old.items)
+        (file_reports files.new.items) (games_of games.new.items))) }
     ensures added { OnOk result (AddsGames counts.old counts.new (games_of games.old.items)
         (games_of games.new.items)) }
     ensures room { HasFewGames counts.old → OnOk result (HasFewGames counts.new) }
@@ -309,7 +310,8 @@ fn read_files<F: Folder>(
     ensures found { IfTold (F.files folder.old)
         (λ all. All (HasFile all path.now) (map string_bytes names.now) →
         IfOk result (λ read. HasReadAll all path.now before (map string_bytes names.now)
-        (F.faults folder.old) (F.faults folder.new) (file_reports read.0.items) (games_of read.1.items))) }
+        (F.faults folder.old) (F.faults folder.new)
+        (file_reports read.0.items) (games_of read.1.items))) }
     ensures added { IfOk result
         (λ read. AreAdded before read.2 (trees_in (games_of read.1.items))) }
     ensures room { HasFewGames before → IfOk result (λ read. HasFewGames read.2) }

@@ -16,9 +16,9 @@ use std::alloc::Global;
 // Why a run stopped.
 #[derive(Clone, Copy, Debug, PartialEq, Eq)]
 pub(crate) enum Stopped {
-    /// A write failed.
+    // A write failed.
     SinkFault,
-    /// Want of memory.
+    // Want of memory.
     NoMemory,
 }
 
@@ -55,10 +55,12 @@ pub(crate) fn run_statements<F: Folder, K: Sink>(
     requires { length placed.now ≤ 1048576 }
     ensures lawful { IfTold (F.files folder.old)
         (λ files. IfTold (K.written out.old) (λ before. OnOk result
-        (WritesLawful files placed.now before (K.written out.new) (F.faults folder.old) (F.faults folder.new)))) }
-    ensures begun { IfTold (F.files folder.old)
+        (WritesLawful files placed.now before (K.written out.new)
+        (F.faults folder.old) (F.faults folder.new)))) }
+    ensures prefix { IfTold (F.files folder.old)
         (λ files. IfTold (K.written out.old) (λ before. OnErr result
-        (WritesPrefix files placed.now before (K.written out.new) (F.faults folder.old) (F.faults folder.new)))) }
+        (WritesPrefix files placed.now before (K.written out.new)
+        (F.faults folder.old) (F.faults folder.new)))) }
     ensures sink_fault { IsErrOf result Stopped.SinkFault →
         Rose (K.faults out.old) (K.faults out.new) }
     ensures same { F.files folder.new ≡ F.files folder.old }
@@ -86,7 +88,8 @@ fn run_statement<F: Folder, K: Sink>(
     requires { standing.old.version + 1563 < 2 ^ 64 }
     ensures passed { IfTold (F.files folder.old)
         (λ files. IfTold (K.written out.old) (λ before. OnOk result
-        (PassesStatement files serial_rules standing.old placed.now standing.new before (K.written out.new) (F.faults folder.old) (F.faults folder.new)))) }
+        (PassesStatement files serial_rules standing.old placed.now standing.new before
+        (K.written out.new) (F.faults folder.old) (F.faults folder.new)))) }
     ensures stopped { IfTold (K.written out.old)
         (λ before. OnErr result (StopsInStatement serial_rules standing.old placed.now before
         (K.written out.new))) }

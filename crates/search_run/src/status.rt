@@ -15,9 +15,8 @@ pub enum Status {
     BadWords,
     /// The script could not be read. Nothing was imported or written.
     ScriptUnread,
-    /// The output could not be written. What was written is begun: the whole texts of the first
-    /// statements, and a beginning of what is printed next.
+    /// The output could not be written. What was written is a prefix of a lawful output.
     SinkFault,
-    /// Want of memory. What was written is begun, as for [`Status::SinkFault`], or nothing was.
+    /// Want of memory. What was written is a prefix of a lawful output, or nothing was written.
     NoMemory,
 }

@@ -154,7 +154,8 @@ fn add_hits(
     requires occurrences { occurrences.now
         ≡ occurrences_in game.now.deltas images.now.placements }
     ensures { OnOk result (AreHitsAdded
-        (AreHitsOf query.now number game.now.tree game.now.deltas images.now.placements occurrences.now)
+        (AreHitsOf query.now number game.now.tree game.now.deltas images.now.placements
+        occurrences.now)
         hits.old.items hits.new.items) }
 {
     for occurrence in occurrences {

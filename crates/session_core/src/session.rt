@@ -69,7 +69,8 @@ impl Session {
             Statement::Import { .. }
             | Statement::Wait
             | Statement::Until { .. }
-            | Statement::Together { .. } => unreachable!(), // The condition `answered` excludes these.
+            // The condition `answered` excludes these.
+            | Statement::Together { .. } => unreachable!(),
         }
     }
 

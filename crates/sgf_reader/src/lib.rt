@@ -1,9 +1,9 @@
 //! SGF collections: from the bytes of a file to raw game trees, nodes with the values of their
 //! properties.
 //!
-//! Stands on kb_geometry, for its lists. In `specs/` is the grammar of SGF FF[4] as a relation on
-//! whole texts, and what the first fault of a text is. The layer above uses that [`read`] gives the
-//! collection that a text spells, or the text's first fault.
+//! Stands on std alone. In `specs/` is the grammar of SGF FF[4] as a relation on whole texts, and
+//! what the first fault of a text is. The layer above uses that [`read`] gives the collection that
+//! a text spells, or the text's first fault.
 #![tactic(auto)]
 
 mod collection;
@@ -18,7 +18,7 @@ mod step;
 mod turn;
 
 pub use collection::{
-    Collection, Pair, PairList, RawGame, RawGameList, RawNode, RawNodeList, Span,
+    Collection, Pair, PairList, RawGame, RawGameList, RawItems, RawNode, RawNodeList, Span,
 };
 pub use fault::{FaultKind, ReadError, SgfFault};
 pub use laws::{

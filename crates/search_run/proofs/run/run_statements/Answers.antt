@@ -4,8 +4,8 @@ use Rattle.search_run.proofs.RunLemmas.{HasRun-more, HasRun-start, WritesPrefix-
 use Rattle.search_run.proofs.StatementLemmas.{waiting_is}
 use Rattle.search_run.proofs.run.run_statements.Goals as goal
 
-pub returns-in_err-run_statement-clause-begun : goal.returns-in_err-run_statement-clause-begun
-returns-in_err-run_statement-clause-begun g c = λ files told before written.
+pub returns-in_err-run_statement-clause-prefix : goal.returns-in_err-run_statement-clause-prefix
+returns-in_err-run_statement-clause-prefix g c = λ files told before written.
     let i = c.loop-statement.statement-index in
     let placed = c.args.placed.now in
     let p = c.statement-item.result in
@@ -37,8 +37,8 @@ loop-statement-preserved g c = record {
       (HasRun-more files (take i placed) p c.loop-statement.standing c.run_statement.new.standing before _ _ _ _ _ h (c.in_ok-run_statement.ensures.passed files (c.loop-statement.invariant.same ∙ told) (before ++ h.text) h.written_is));
 }
 
-pub returns-in_err-write_all-clause-begun : goal.returns-in_err-write_all-clause-begun
-returns-in_err-write_all-clause-begun g c = λ files told before written.
+pub returns-in_err-write_all-clause-prefix : goal.returns-in_err-write_all-clause-prefix
+returns-in_err-write_all-clause-prefix g c = λ files told before written.
     let i = c.loop-statement.statement-index in
     let placed = c.args.placed.now in
     let h = c.loop-statement.invariant.run files told before written in

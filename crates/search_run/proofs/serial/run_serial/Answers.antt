@@ -49,12 +49,12 @@ pub returns-in-Err-SinkFault-clause-stopped : goal.returns-in-Err-SinkFault-clau
 returns-in-Err-SinkFault-clause-stopped g c = λ bytes files before told files_told written is. record {
   placed = c.in-Ok-read_whole.placed.items;
   spelled = IsScript-read bytes c.deref.result.now c.in-Ok-read_whole.placed.items (c.deref.ensures.value ∙ c.in-Ok.ensures.text bytes told) c.in-Ok-read_whole.ensures.script;
-  begun = rw c.deref-2.ensures.value at (c.in-Err-SinkFault.ensures.begun files files_told before written);
+  prefix = rw c.deref-2.ensures.value at (c.in-Err-SinkFault.ensures.prefix files files_told before written);
 }
 
 pub returns-clause-no_memory : goal.returns-clause-no_memory
 returns-clause-no_memory g c = λ bytes files before told files_told written is. inr (record {
   placed = c.in-Ok-read_whole.placed.items;
   spelled = IsScript-read bytes c.deref.result.now c.in-Ok-read_whole.placed.items (c.deref.ensures.value ∙ c.in-Ok.ensures.text bytes told) c.in-Ok-read_whole.ensures.script;
-  begun = rw c.deref-2.ensures.value at (c.in-Err-NoMemory-run_statements.ensures.begun files files_told before written);
+  prefix = rw c.deref-2.ensures.value at (c.in-Err-NoMemory-run_statements.ensures.prefix files files_told before written);
 })
