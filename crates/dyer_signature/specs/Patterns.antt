@@ -1,5 +1,5 @@
 -- Signature patterns, and the signatures that they match.
-use Rattle.std.specs.Prelude.{◌≡◌, ◌≢◌, ◌⊎◌, ℕ, ◌<◌, ◌≤◌, List, slice_index}
+use Rattle.std.specs.Prelude.{◌≡◌, ◌≢◌, ◌⊎◌, ℕ, ◌<◌, List, slice_index}
 use Rattle.kb_geometry.specs.declared.shape.Shape.{Shape}
 use Rattle.sgf_reader.specs.Grammar.{IsLetter}
 use Rattle.dyer_signature.specs.Signatures.{question_mark}

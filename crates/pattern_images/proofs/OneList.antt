@@ -1,6 +1,6 @@
 -- A query has one list of placements on a board: its members are fixed, and so is their order.
-use Rattle.std.proofs.Common.{◌≡◌, zero, suc, ◌≤◌, ◌⊎◌, inl, inr, List, [], ◌∷◌, refl, sym, ap, ◌∙◌, subst, arith}
-use Rattle.std.specs.Prelude.{AllPairs, Contains}
+use Rattle.std.proofs.Common.{◌≡◌, ◌≤◌, inl, inr, List, sym, ◌∙◌, subst, arith}
+use Rattle.std.specs.Prelude.{Contains}
 use Rattle.std.proofs.lemmas.List.{get_or_default}
 use Rattle.kb_geometry.specs.declared.shape.Shape.{Shape}
 use Rattle.kb_geometry.proofs.Lists.{same_order}

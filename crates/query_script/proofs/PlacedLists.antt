@@ -1,11 +1,10 @@
 -- Lists of statements and of searches, in order of their lines.
 use Rattle.std.proofs.Common.{◌≡◌, inl, inr, zero, ℕ, suc, ◌<◌, ◌≤◌, List, [], ◌∷◌, ◌++◌, length, get_or, map, ap, ◌∙◌, arith}
 use Rattle.std.proofs.lemmas.Bool.{cases_order}
-use Rattle.std.proofs.lemmas.List.{get_or-map, get_or_append_left, get_or_default, length-map, length_push}
+use Rattle.std.proofs.lemmas.List.{get_or-map, get_or_default, length-map}
 use Rattle.std.proofs.lemmas.List.Elements.{All-weaker}
 use Rattle.std.proofs.lemmas.List.Quantifiers.{all_pairs_push}
 use Rattle.std.specs.List.{All, AllPairs, Any}
-use Rattle.kb_geometry.proofs.Lists.{Any-kept}
 use Rattle.query_script.specs.Progress.{IsPlacedBefore, IsSearchBefore}
 use Rattle.query_script.specs.declared.statement.Placed.{Placed}
 use Rattle.query_script.specs.declared.statement.PlacedSearch.{PlacedSearch}

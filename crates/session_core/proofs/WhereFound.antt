@@ -1,11 +1,10 @@
 -- What is known of each occurrence in a game: its node and its placement are there, and the placement holds at the node.
-use Prim.Native.Nat.{zero}
-use Rattle.std.proofs.Common.{◌≡◌, ℕ, suc, ◌+◌, ◌<◌, Bool, true, false, List, [], ◌∷◌, length, get_or, refl, arith}
+use Rattle.std.proofs.Common.{◌≡◌, ℕ, ◌<◌, Bool, true, false, List, [], ◌∷◌, length, get_or, refl, arith}
 use Rattle.std.specs.Prelude.{not, filter, All}
-use Rattle.std.specs.List.{flat_map, range_with_len}
+use Rattle.std.specs.List.{range_with_len}
 use Rattle.std.specs.Option.{option_map_or}
 use Rattle.std.proofs.lemmas.Bool.{and_parts}
-use Rattle.std.proofs.lemmas.List.Elements.{All-append, All-cons, All-filter, All-head, All-map, All-nil, All-tail, All-weaker, filter_passes}
+use Rattle.std.proofs.lemmas.List.Elements.{All-filter, All-head, All-map, filter_passes}
 use Rattle.kb_geometry.proofs.Lists.{All-flat_map, all_less}
 use Rattle.capture_board.specs.Deltas.{Deltas, node_count, parent_of}
 use Rattle.pattern_images.specs.ImageList.{placement_at}
