@@ -73,7 +73,7 @@ const KEPT: &str = "(;GM[1]FF[4]CA[UTF-8]AP[CGoban:3]ST[2]\nRU[Japanese]SZ[19]HA
     PW[Ito]PB[Sato]WR[5d]BR[3d]DT[2003-04-12]PC[The Kiseido Go Server]RE[W+Resign]AB[dp][pd]\n\
     ;W[qp]C[Hi [3d\\]: good game]\n;B[dd](;W[pq];B[po])(;W[fc];B[cf]))";
 
-fn report_printed(alloc: Global, pieces: Pieces) -> Result<Vec<u8>, Fail> {
+fn text_of_pieces(alloc: Global, pieces: Pieces) -> Result<Vec<u8>, Fail> {
     let mut text = Vec::new(alloc);
     for (piece, times) in pieces {
         for _ in 0..times {
@@ -92,7 +92,7 @@ fn outcome(alloc: Global, bytes: &[u8]) -> Result<(FileOutcome, Option<u32>), Fa
 #[test]
 fn damaged_texts(rt: HostRuntime) -> Result<(), Fail> {
     for (pieces, expected, nodes) in damaged() {
-        let bytes = report_printed(rt.alloc(), pieces)?;
+        let bytes = text_of_pieces(rt.alloc(), pieces)?;
         assert_eq!(rt;
             outcome(rt.alloc(), &bytes)?,
             (expected, nodes),

@@ -168,9 +168,9 @@ fn files_that_fill_the_base(rt: HostRuntime) -> Result<(), Fail> {
             nodes: 5_000_020
         }
     );
-    let mut report = String::new(alloc);
+    let mut report = Vec::new(alloc);
     print_report(&mut report, 7, &imported, 9)?;
-    assert_eq!(rt; report.as_str(), written);
+    assert_eq!(rt; report.as_slice(), written.as_bytes());
     Ok(())
 }
 
