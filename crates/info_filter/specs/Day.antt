@@ -58,3 +58,13 @@ pub record HasDay (text : List ℕ) (number : ℤ) : Type 0 where
 abbrev pub IsDayOf : List ℕ → Option ℤ → Type 0
 IsDayOf text (Some number) = HasDay text number
 IsDayOf text None = (number : ℤ) → ¬ HasDay text number
+
+-- The text is the day with this number, written YYYY-MM-DD: a date of ten bytes has all three parts.
+pub record IsWrittenDay (text : List ℕ) (number : ℤ) : Type 0 where
+  pub year : ℕ
+  pub month : ℕ
+  pub day : ℕ
+  pub ten_bytes : length text ≡ 10
+  pub written : IsDateText text year month day
+  pub in_calendar : IsCivilDate (pos year) month day
+  pub number_is : number ≡ days_from_civil (pos year) month day

@@ -14,6 +14,7 @@ ghost use Rattle.std.specs.Prelude.{
   take,
   slice_index,
   pos,
+  ℤ,
   IfSome,
   IsNone,
   IsTrue,
@@ -28,9 +29,13 @@ ghost use Rattle.info_filter.specs.Day.{
   IsDayOf,
   IsFirstDate,
   IsNumberOfDigits,
+  IsWrittenDay,
 };
 
 use jiff::civil::Date;
+
+// How many bytes YYYY-MM-DD has.
+const WRITTEN_DAY: usize = 10;
 
 /// The day that the text of a game's date (property DT) names first, as the number of days since
 /// 1970-01-01. None exactly where the text names no day.
@@ -43,6 +48,19 @@ pub fn day_of(date: &[u8]) -> Option<i32>
     ensures { IsDayOf date.now result }
 {
     let (year, month, day) = date_parts(first_date(date))?;
+    day_number(year, month, day)
+}
+
+/// The day that a text writes as YYYY-MM-DD, as the number of days since 1970-01-01; it is a day of
+/// the calendar of [`day_of`]. None exactly where the text is no such day. Nothing is allocated.
+pub fn written_day(text: &[u8]) -> Option<i32>
+    ensures some { IfSome result (λ number. IsWrittenDay text.now number) }
+    ensures none { IsNone result → (number : ℤ) → ¬ IsWrittenDay text.now number }
+{
+    if text.len() != WRITTEN_DAY {
+        return None;
+    }
+    let (year, month, day) = date_parts(text)?;
     day_number(year, month, day)
 }
 

@@ -15,7 +15,7 @@ mod score;
 mod seat;
 
 pub use condition::{Condition, ConditionList};
-pub use day::day_of;
+pub use day::{day_of, written_day};
 pub use filter::{Filter, accepts, accepts_known};
 pub use laws::{
     a_list_of_games_has_one_table, a_row_counts_at_most_two_sides_of_a_game,

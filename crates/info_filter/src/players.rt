@@ -1,5 +1,5 @@
 // The table of players. indexmap keeps the names in the order of first sight.
-ghost use Rattle.std.specs.Prelude.{◌≡◌, ◌++◌, ◌≤◌, List, [], ◌∷◌, All, OnErr, OnOk};
+ghost use Rattle.std.specs.Prelude.{◌≡◌, ◌++◌, ◌≤◌, List, [], ◌∷◌, All, OnErr, OnOk, length};
 ghost use Rattle.game_tree.specs.Information.{Information};
 ghost use Rattle.std.specs.Iterator.{YieldsFirstBy, item_count};
 ghost use Rattle.info_filter.specs.Players.{IsPlayersTable, TableRow, is_black_win, is_white_win};
@@ -57,6 +57,13 @@ impl Players {
         add_side(&mut self.scores, black, black_wins, white_wins);
         add_side(&mut self.scores, white, white_wins, black_wins);
         Ok(())
+    }
+
+    /// How many rows there are.
+    pub fn count(&self) -> usize
+        ensures { result ≡ length self.now }
+    {
+        self.scores.len()
     }
 
     /// The rows, in the order in which their names were seen first.

@@ -1,5 +1,6 @@
 -- Words that contracts of public functions rest on.
 pub mod Bytes
+pub mod Conditions
 pub mod Script
 pub mod Search
 pub mod Statements

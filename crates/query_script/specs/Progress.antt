@@ -52,7 +52,7 @@ pub record IsReadInside (lines : List (List ℕ)) (k : ℕ) (placed : List Place
   pub complete : (m : ℕ) →
       first < m →
       m < k →
-      ((query : _) × SpellsSearch (line_at lines m) query) →
+      ((query : _) × (filter : _) × SpellsSearch (line_at lines m) query filter) →
       Any (λ (s : PlacedSearch). s.line ≡ m) searches
 
 -- The block that line j begins goes on before line k, and one of its lines is bad: the least one

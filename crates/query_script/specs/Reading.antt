@@ -32,6 +32,10 @@ pub record AreWordsTo (line : List ℕ) (words : List Word) (rest : List ℕ) : 
 abbrev pub BeginsOtherwise : List ℕ → List Word → Type 0
 BeginsOtherwise name words = (more : List Word) → words ≢ bare name ∷ more
 
+-- the words begin with the bare word `where`
+abbrev pub BeginsWithWhere : List Word → Type 0
+BeginsWithWhere words = (rest : List Word) × (words ≡ bare (codes "where") ∷ rest)
+
 -- The words are some that say this value, and others behind them.
 pub record AreParted {A : Type 0} (Says : A → List Word → Type 0) (words : List Word) (value : A)
     (rest : List Word) : Type 0 where

@@ -3,6 +3,7 @@
 use Rattle.std.specs.Prelude.{◌≡◌, ◌==◌, ◌&&◌, ℕ, ◌-◌, ◌<◌, ◌≤◌, nat_lt, List, [], ◌∷◌, length, map, take, slice_index_or, All, AllPairs, Any, if◌then◌else◌}
 use Rattle.bstr.specs.Text.{lines_of}
 use Rattle.pattern_images.specs.declared.query.Query.{Query}
+use Rattle.info_filter.specs.declared.filter.Filter.{Filter}
 use Rattle.query_script.specs.declared.statement.Placed.{Placed}
 use Rattle.query_script.specs.declared.statement.PlacedSearch.{PlacedSearch}
 use Rattle.query_script.specs.declared.statement.Statement.{Statement}
@@ -43,7 +44,8 @@ pub record IsSearchBetween (lines : List (List ℕ)) (j k m : ℕ) : Type 0 wher
   pub behind : j < m
   pub before : m < k
   pub query : Query
-  pub spelled : SpellsSearch (line_at lines m) query
+  pub filter : Filter
+  pub spelled : SpellsSearch (line_at lines m) query filter
 
 -- so many searches, or more, stand between two lines
 pub record AreSearchesBetween (lines : List (List ℕ)) (j k count : ℕ) : Type 0 where
@@ -54,7 +56,7 @@ pub record AreSearchesBetween (lines : List (List ℕ)) (j k count : ℕ) : Type
 
 -- the statement is a search
 abbrev pub IsSearch : Statement → Type 0
-IsSearch s = (query : Query) × (s ≡ statement.Search query)
+IsSearch s = (query : Query) × (filter : Filter) × (s ≡ statement.Search query filter)
 
 -- the most searches of a block
 abbrev pub most_searches : ℕ
@@ -79,8 +81,8 @@ pub data IsFaultyLine (lines : List (List ℕ)) (k : ℕ) : Type 0 where
       IsInBlock lines j k →
       ((m : ℕ) → ¬ IsSearchBetween lines j k m) →
       IsFaultyLine lines k
-  one_search_too_many : (j : ℕ) (query : Query) →
-      SpellsSearch (line_at lines k) query →
+  one_search_too_many : (j : ℕ) (query : Query) (filter : Filter) →
+      SpellsSearch (line_at lines k) query filter →
       IsInBlock lines j k →
       AreSearchesBetween lines j k most_searches →
       IsFaultyLine lines k
@@ -117,15 +119,16 @@ AreGood lines = (k : ℕ) → ¬ IsBadLine lines k
 pub record IsSearchOf (lines : List (List ℕ)) (j : ℕ) (s : PlacedSearch) : Type 0 where
   pub there : s.line ≤ length lines
   pub within : IsInBlock lines j s.line
-  pub spelled : SpellsSearch (line_at lines s.line) s.query
+  pub spelled : SpellsSearch (line_at lines s.line) s.query s.filter
 
 -- These are the searches of the block that line j begins, in order of their lines.
 pub record AreSearchesOf (lines : List (List ℕ)) (j : ℕ)
     (searches : List PlacedSearch) : Type 0 where
   pub ordered : AllPairs (λ (a : PlacedSearch) (b : PlacedSearch). a.line < b.line) searches
   pub sound : All (IsSearchOf lines j) searches
-  pub complete : (m : ℕ) (query : Query) → m ≤ length lines → IsInBlock lines j m →
-      SpellsSearch (line_at lines m) query → Any (λ (s : PlacedSearch). s.line ≡ m) searches
+  pub complete : (m : ℕ) (query : Query) (filter : Filter) → m ≤ length lines →
+      IsInBlock lines j m → SpellsSearch (line_at lines m) query filter →
+      Any (λ (s : PlacedSearch). s.line ≡ m) searches
 
 -- the line spells the statement by itself, outside blocks
 pub record StandsAlone (lines : List (List ℕ)) (k : ℕ) (s : Statement) : Type 0 where
@@ -137,9 +140,14 @@ abbrev pub IsStatementAt : List (List ℕ) → ℕ → Statement → Type 0
 IsStatementAt lines k (statement.Import path) = StandsAlone lines k (statement.Import path)
 IsStatementAt lines k statement.Wait = StandsAlone lines k statement.Wait
 IsStatementAt lines k (statement.Until number) = StandsAlone lines k (statement.Until number)
-IsStatementAt lines k (statement.Search query) = StandsAlone lines k (statement.Search query)
+IsStatementAt lines k (statement.Search query filter) =
+    StandsAlone lines k (statement.Search query filter)
 IsStatementAt lines k (statement.Together searches) = SpellsTogether (line_at lines k)
     × AreSearchesOf lines k searches
+IsStatementAt lines k (statement.Signature pattern) =
+    StandsAlone lines k (statement.Signature pattern)
+IsStatementAt lines k statement.Players = StandsAlone lines k statement.Players
+IsStatementAt lines k statement.Doubles = StandsAlone lines k statement.Doubles
 IsStatementAt lines k (statement.Game number) = StandsAlone lines k (statement.Game number)
 
 -- a statement stands at this line

@@ -1,11 +1,13 @@
 -- What a line spells: nothing that counts, a statement, the beginning of a block, or its end.
-use Rattle.std.specs.Prelude.{◌≡◌, ◌⊎◌, ℕ, ◌≤◌, List, [], ◌∷◌, ◌++◌, length, codes, IsUtf8}
+use Rattle.std.specs.Prelude.{◌≡◌, ◌⊎◌, ℕ, ◌≤◌, List, [], ◌∷◌, ◌++◌, length, codes, All, IsUtf8}
 use Rattle.pattern_images.specs.declared.query.Query.{Query}
+use Rattle.info_filter.specs.declared.filter.Filter.{Filter}
+use Rattle.dyer_signature.specs.Patterns.{IsSignaturePatternByte}
 use Rattle.query_script.specs.declared.statement.Statement.{Statement}
 use Rattle.query_script.specs.declared.statement.Statement.TheVariants as statement
 use Rattle.query_script.specs.declared.word.Word.{Word}
 use Rattle.query_script.specs.Bytes.{number_sign}
-use Rattle.query_script.specs.Search.{IsBody}
+use Rattle.query_script.specs.Conditions.{IsFilteredBody}
 use Rattle.query_script.specs.Words.{AreBlanks, AreWords, IsNumber, bare, bytes_of}
 
 -- the greatest number of a version that a statement may wait for, and of a game
@@ -18,6 +20,11 @@ pub record IsPath (w : Word) (path : List ℕ) : Type 0 where
   pub some : 1 ≤ length path
   pub utf8 : IsUtf8 path
 
+-- a signature pattern: 12 bytes, each a letter, `?` or `*`
+pub record IsSignaturePattern (bytes : List ℕ) : Type 0 where
+  pub twelve : length bytes ≡ 12
+  pub kinds : All IsSignaturePatternByte bytes
+
 -- the words spell the statement, which takes one line
 abbrev pub IsStatement : List Word → Statement → Type 0
 IsStatement words (statement.Import path) = (w : Word) × (words ≡ bare (codes "import") ∷ w ∷ [])
@@ -25,9 +32,13 @@ IsStatement words (statement.Import path) = (w : Word) × (words ≡ bare (codes
 IsStatement words statement.Wait = words ≡ bare (codes "wait") ∷ []
 IsStatement words (statement.Until number) = (w : Word) × (words ≡ bare (codes "until") ∷ w ∷ [])
     × IsNumber w number × (number ≤ most_number)
-IsStatement words (statement.Search query) = (body : List Word)
-    × (words ≡ bare (codes "search") ∷ body) × IsBody body query
+IsStatement words (statement.Search query filter) = (body : List Word)
+    × (words ≡ bare (codes "search") ∷ body) × IsFilteredBody body query filter
 IsStatement words (statement.Together searches) = ⊥
+IsStatement words (statement.Signature pattern) =
+    (words ≡ bare (codes "signature") ∷ bare pattern.bytes ∷ []) × IsSignaturePattern pattern.bytes
+IsStatement words statement.Players = words ≡ bare (codes "players") ∷ []
+IsStatement words statement.Doubles = words ≡ bare (codes "doubles") ∷ []
 IsStatement words (statement.Game number) = (w : Word) × (words ≡ bare (codes "game") ∷ w ∷ [])
     × IsNumber w number × (number ≤ most_number)
 
@@ -36,8 +47,8 @@ abbrev pub SpellsStatement : List ℕ → Statement → Type 0
 SpellsStatement line s = (words : List Word) × AreWords line words × IsStatement words s
 
 -- the line spells a search
-abbrev pub SpellsSearch : List ℕ → Query → Type 0
-SpellsSearch line query = SpellsStatement line (statement.Search query)
+abbrev pub SpellsSearch : List ℕ → Query → Filter → Type 0
+SpellsSearch line query filter = SpellsStatement line (statement.Search query filter)
 
 -- the line begins a block
 abbrev pub SpellsTogether : List ℕ → Type 0

@@ -8,6 +8,7 @@ use Rattle.kb_geometry.specs.Symmetry.{number_of_label}
 use Rattle.pattern_images.specs.declared.hit.Hit.{Hit}
 use Rattle.pattern_images.specs.declared.hit.Next.{Next}
 use Rattle.continuation_table.specs.declared.table.Row.{Row}
+use Rattle.info_filter.specs.Players.{TableRow}
 use Rattle.continuation_table.specs.declared.tally.Tally.{Tally}
 use Rattle.continuation_table.specs.Table.{TableView}
 use Rattle.query_script.specs.Bytes.{line_feed}
@@ -79,10 +80,17 @@ row_text row = row_head row ++ tally_text row.tally
 abbrev pub total_text : Tally → List ℕ
 total_text tally = codes "total " ++ tally_text tally
 
+-- `LINE ASKED version V games G COUNTED N`: the first line of a text that is answered from the
+-- games of a version
+abbrev pub head_text : ℕ → List ℕ → ℕ → ℕ → List ℕ → ℕ → List ℕ
+head_text line asked version games counted count = line_text (decimal line ∷ codes " " ∷ asked
+    ∷ codes " version " ∷ decimal version ∷ codes " games " ∷ decimal games ∷ codes " " ∷ counted
+    ∷ codes " " ∷ decimal count ∷ [])
+
 -- `LINE search version V games G hits H`
 abbrev pub search_head : ℕ → ℕ → ℕ → ℕ → List ℕ
-search_head line version games hits = line_text (decimal line ∷ codes " search version "
-    ∷ decimal version ∷ codes " games " ∷ decimal games ∷ codes " hits " ∷ decimal hits ∷ [])
+search_head line version games hits =
+    head_text line (codes "search") version games (codes "hits") hits
 
 -- the head of a search, its hits, the rows and the totals of their table
 abbrev pub search_text : ℕ → ℕ → ℕ → List Hit → TableView → List ℕ
@@ -100,3 +108,41 @@ game_head line game version place file = line_text (decimal line ∷ codes " gam
 abbrev pub no_game_text : ℕ → ℕ → ℕ → List ℕ
 no_game_text line game version = line_text (decimal line ∷ codes " game " ∷ decimal game
     ∷ codes " version " ∷ decimal version ∷ codes " none" ∷ [])
+
+-- `LINE signature version V games G found F`
+abbrev pub signature_head : ℕ → ℕ → ℕ → ℕ → List ℕ
+signature_head line version games found =
+    head_text line (codes "signature") version games (codes "found") found
+
+-- `game GAME SIGNATURE`
+abbrev pub signed_game_text : ℕ → List ℕ → List ℕ
+signed_game_text game signature = line_text (codes "game " ∷ decimal game ∷ codes " " ∷ signature
+    ∷ [])
+
+-- `LINE players version V games G names N`
+abbrev pub players_head : ℕ → ℕ → ℕ → ℕ → List ℕ
+players_head line version games names =
+    head_text line (codes "players") version games (codes "names") names
+
+-- `player GAMES WINS LOSSES NAME`
+abbrev pub player_text : TableRow → List ℕ
+player_text row = line_text (codes "player " ∷ decimal row.games ∷ codes " " ∷ decimal row.wins
+    ∷ codes " " ∷ decimal row.losses ∷ codes " " ∷ row.name ∷ [])
+
+-- the head of the players, and a line for each row of their table
+abbrev pub players_text : ℕ → ℕ → ℕ → List TableRow → List ℕ
+players_text line version games rows =
+    players_head line version games (length rows) ++ flat_map player_text rows
+
+-- `LINE doubles version V games G groups N`
+abbrev pub doubles_head : ℕ → ℕ → ℕ → ℕ → List ℕ
+doubles_head line version games groups =
+    head_text line (codes "doubles") version games (codes "groups") groups
+
+-- a number behind a space
+abbrev pub spaced : ℕ → List ℕ
+spaced number = codes " " ++ decimal number
+
+-- `double SIGNATURE` and the games, each behind a space
+abbrev pub double_text : List ℕ → List ℕ → List ℕ
+double_text signature games = line_text (codes "double " ∷ signature ∷ flat_map spaced games ∷ [])

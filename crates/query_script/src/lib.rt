@@ -1,13 +1,16 @@
 //! The script: its grammar, and the printed texts of its statements.
 //!
-//! Stands on kb_geometry, game_tree, pattern_images, pattern_syntax, continuation_table and the
-//! library bstr, which splits the lines. The layer above uses that `read_script` gives the
+//! Stands on kb_geometry, game_tree, pattern_images, pattern_syntax, continuation_table,
+//! info_filter, dyer_signature and the library bstr, which splits the lines. The layer above uses that `read_script` gives the
 //! statements of a script in the grammar, or else its least bad line, and that `print_hits` and the
 //! other printers append the texts.
 #![tactic(auto)]
 
+mod conditions;
+mod head;
 mod laws;
 mod line;
+mod list_text;
 mod number;
 mod print;
 mod progress;
@@ -20,6 +23,9 @@ mod word;
 mod words;
 
 pub use laws::{a_script_has_its_statements_or_a_bad_line, the_longest_script_has_1048576_bytes};
+pub use list_text::{
+    print_double, print_doubles_head, print_players, print_signature_head, print_signed_game,
+};
 pub use print::{print_game, print_import, print_no_game, print_until, print_wait};
 pub use script::read_script;
 pub use search_text::print_hits;

@@ -8,6 +8,7 @@ ghost use Rattle.query_script.specs.declared.statement.Statement.TheVariants as 
 
 use crate::line::Line;
 use crate::statement::{Placed, PlacedSearch, ScriptError, SearchList, Statement};
+use info_filter::Filter;
 use pattern_images::Query;
 use std::alloc::Global;
 
@@ -138,7 +139,7 @@ fn read_statement(block: Block, number: u32, statement: Statement) -> Result<Pro
     ensures bad_line { (k : ℕ) → ¬ IsErrOf result (ScriptError.BadLine k) }
 {
     match statement {
-        Statement::Search { query } => add_search(block, number, query),
+        Statement::Search { query, filter } => add_search(block, number, query, filter),
         _ => Ok(block.broken(number)),
     }
 }
@@ -165,10 +166,15 @@ fn end_block(block: Block, number: u32, placed: &mut Vec<Placed>) -> Result<Prog
 }
 
 // What a search inside a block does.
-fn add_search(mut block: Block, number: u32, query: Query) -> Result<Progress, ScriptError>
+fn add_search(
+    mut block: Block,
+    number: u32,
+    query: Query,
+    filter: Filter,
+) -> Result<Progress, ScriptError>
     ensures read { IfOk result (λ next. (lines : List (List ℕ)) (placed : List Placed) →
         IsReadBefore lines number placed (progress.Inside block)
-        → IsLineAt lines number (line.Statement (statement.Search query)) →
+        → IsLineAt lines number (line.Statement (statement.Search query filter)) →
         IsReadBefore lines (number + 1) placed next) }
     ensures bad_line { (k : ℕ) → ¬ IsErrOf result (ScriptError.BadLine k) }
 {
@@ -178,6 +184,7 @@ fn add_search(mut block: Block, number: u32, query: Query) -> Result<Progress, S
     block.searches.push(PlacedSearch {
         line: number,
         query,
+        filter,
     })?;
     Ok(Progress::Inside(block))
 }

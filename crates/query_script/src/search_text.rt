@@ -18,9 +18,15 @@ ghost use Rattle.query_script.specs.Texts.{
   when_word,
 };
 
+use crate::head::{Names, append_head};
 use continuation_table::{Row, Table, Tally};
 use kb_geometry::{Colour, NoMemory, append, append_decimal, append_decimal_and, cut_back};
 use pattern_images::{Hit, Next};
+
+const SEARCH: Names = Names {
+    asked: b"search",
+    counted: b"hits",
+};
 
 // The letter of a colour.
 fn colour_letter(colour: Colour) -> &'static str
@@ -166,48 +172,6 @@ fn append_totals(out: &mut Vec<u8>, totals: Tally) -> Result<(), NoMemory>
     Ok(())
 }
 
-// Appends the first line.
-fn append_head(
-    out: &mut Vec<u8>,
-    line: u32,
-    version: u64,
-    games: u32,
-    hits: usize,
-) -> Result<(), NoMemory>
-    ensures ok { OnOk result (out.new.items
-        ≡ out.old.items ++ search_head line version games hits) }
-    ensures refused { OnErr result (IsPrefix out.old.items out.new.items) }
-{
-    append_version(out, line, version)?;
-    append_counts(out, games, hits)?;
-    Ok(())
-}
-
-// Appends the version that is searched.
-fn append_version(out: &mut Vec<u8>, line: u32, version: u64) -> Result<(), NoMemory>
-    ensures ok { OnOk result (out.new.items ≡ out.old.items
-        ++ (decimal line ++ (codes " search version " ++ decimal version))) }
-    ensures refused { OnErr result (IsPrefix out.old.items out.new.items) }
-{
-    append_decimal(out, u64::from(line))?;
-    append(out, b" search version ")?;
-    append_decimal(out, version)?;
-    Ok(())
-}
-
-// Appends how many games and hits there are.
-fn append_counts(out: &mut Vec<u8>, games: u32, hits: usize) -> Result<(), NoMemory>
-    ensures ok { OnOk result (out.new.items ≡ out.old.items
-        ++ line_text (codes " games " ∷ decimal games ∷ codes " hits " ∷ decimal hits ∷ [])) }
-    ensures refused { OnErr result (IsPrefix out.old.items out.new.items) }
-{
-    append(out, b" games ")?;
-    append_decimal(out, u64::from(games))?;
-    append(out, b" hits ")?;
-    append_decimal_and(out, hits as u64, b'\n')?;
-    Ok(())
-}
-
 // Appends the text of a search.
 fn append_search(
     out: &mut Vec<u8>,
@@ -221,7 +185,7 @@ fn append_search(
         ≡ out.old.items ++ search_text line number games hits.now table.now) }
     ensures refused { OnErr result (IsPrefix out.old.items out.new.items) }
 {
-    append_head(out, line, number, games, hits.len())?;
+    append_head(out, line, SEARCH, number, games, hits.len())?;
     append_hits(out, hits)?;
     append_rows(out, table.rows())?;
     append_totals(out, table.totals())?;

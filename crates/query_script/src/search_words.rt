@@ -113,7 +113,7 @@ pub(crate) fn behind_name<'a>(words: &'a [Word], name: &[u8]) -> Option<&'a [Wor
 }
 
 // The first two words, and the words behind them.
-fn two_words(words: &[Word]) -> Option<(&Word, &Word, &[Word])>
+pub(crate) fn two_words(words: &[Word]) -> Option<(&Word, &Word, &[Word])>
     ensures some { IfSome result (λ r. words.now ≡ r.0.now ∷ r.1.now ∷ r.2.now) }
     ensures none { result ≡ None → (a b : Word) (rest : List Word) → words.now ≢ a ∷ b ∷ rest }
 {
@@ -279,7 +279,7 @@ fn pattern_of(alloc: Global, words: &[Word]) -> Result<Option<Pattern>, NoMemory
 }
 
 // The bytes of the only word, if there is one and it is bare.
-fn only_bare(words: &[Word]) -> Option<&[u8]>
+pub(crate) fn only_bare(words: &[Word]) -> Option<&[u8]>
     ensures some { IfSome result (λ bytes. words.now ≡ bare bytes.now ∷ []) }
     ensures none { result ≡ None → (bytes : List ℕ) → words.now ≢ bare bytes ∷ [] }
 {

@@ -2,6 +2,8 @@
 ghost use Rattle.std.specs.Prelude.{◌≡◌};
 ghost use Rattle.query_script.specs.declared.statement.ScriptError.TheVariants.{NoMemory};
 
+use dyer_signature::SigPattern;
+use info_filter::Filter;
 use kb_geometry::{Items, NoMemory, Text};
 use pattern_images::Query;
 use std::alloc::{AllocError, AllocFailed};
@@ -20,10 +22,17 @@ pub enum Statement {
     Wait,
     /// `until K`: waits for the version with this number.
     Until { number: u64 },
-    /// `search ..`: where a pattern occurs.
-    Search { query: Query },
+    /// `search ..`: where a pattern occurs in the games that a filter accepts. Without `where` the
+    /// filter has no condition.
+    Search { query: Query, filter: Filter },
     /// `together`, one to eight lines of searches, `end`: searches that are asked together.
     Together { searches: SearchList },
+    /// `signature PATTERN`: the games whose signature matches a pattern.
+    Signature { pattern: SigPattern },
+    /// `players`: the players of the games.
+    Players,
+    /// `doubles`: the games that stand there twice or more, however they are turned.
+    Doubles,
     /// `game N`: a game as SGF text.
     Game { number: u32 },
 }
@@ -40,6 +49,7 @@ pub struct Placed {
 pub struct PlacedSearch {
     pub line: u32,
     pub query: Query,
+    pub filter: Filter,
 }
 
 /// Searches of a block. Contracts see them as a list.

@@ -17,16 +17,28 @@ ghost use Rattle.std.specs.Prelude.{
   IsTrue,
 };
 ghost use Rattle.pattern_images.specs.declared.query.Query.{Query};
+ghost use Rattle.dyer_signature.specs.declared.bytes.SigPattern.{SigPattern};
+ghost use Rattle.dyer_signature.specs.Patterns.{IsSignaturePatternByte};
+ghost use Rattle.info_filter.specs.declared.filter.Filter.{Filter};
 ghost use Rattle.query_script.specs.declared.statement.Statement.{Statement};
 ghost use Rattle.query_script.specs.declared.statement.Statement.TheVariants as statement;
 ghost use Rattle.query_script.specs.declared.word.Word.{Word};
-ghost use Rattle.query_script.specs.Statements.{IsPath, IsStatement, most_number};
+ghost use Rattle.query_script.specs.Conditions.{IsFilteredBody};
+ghost use Rattle.query_script.specs.Statements.{
+  IsPath,
+  IsSignaturePattern,
+  IsStatement,
+  most_number,
+};
 ghost use Rattle.query_script.specs.Words.{IsNumber, bare};
 
+use crate::conditions::{filter_of, parted_at_where};
 use crate::number::number_up_to;
-use crate::search_words::{behind_name, query_of};
+use crate::search_words::{behind_name, only_bare, query_of};
 use crate::statement::Statement;
 use crate::word::Word;
+use dyer_signature::SigPattern;
+use info_filter::Filter;
 use kb_geometry::{NoMemory, Text};
 use pattern_images::Query;
 use std::alloc::Global;
@@ -47,8 +59,17 @@ pub(crate) fn statement_of(alloc: Global, words: &[Word]) -> Result<Option<State
     if let Some(number) = until_of(words) {
         return Ok(Some(Statement::Until { number }));
     }
-    if let Some(query) = search_of(alloc, words)? {
-        return Ok(Some(Statement::Search { query }));
+    if let Some((query, filter)) = search_of(alloc, words)? {
+        return Ok(Some(Statement::Search { query, filter }));
+    }
+    if let Some(pattern) = signature_of(words) {
+        return Ok(Some(Statement::Signature { pattern }));
+    }
+    if is_name(words, b"players") {
+        return Ok(Some(Statement::Players));
+    }
+    if is_name(words, b"doubles") {
+        return Ok(Some(Statement::Doubles));
     }
     if let Some(number) = game_of(words) {
         return Ok(Some(Statement::Game { number }));
@@ -93,17 +114,68 @@ fn until_of(words: &[Word]) -> Option<u64>
     number_up_to(word, u64::from(u32::MAX))
 }
 
-// The query of `search ..`. The only error is `NoMemory`.
-fn search_of(alloc: Global, words: &[Word]) -> Result<Option<Query>, NoMemory>
+// The query and the filter of `search ..`. The only error is `NoMemory`.
+fn search_of(alloc: Global, words: &[Word]) -> Result<Option<(Query, Filter)>, NoMemory>
     ensures some { IfOk result
-        (λ found. IfSome found (λ query. IsStatement words.now (statement.Search query))) }
-    ensures none { IfOk result (λ found. IfNone found ((query : Query) →
-        ¬ IsStatement words.now (statement.Search query))) }
+        (λ found. IfSome found (λ r. IsStatement words.now (statement.Search r.0 r.1))) }
+    ensures none { IfOk result (λ found. IfNone found ((query : Query) (filter : Filter) →
+        ¬ IsStatement words.now (statement.Search query filter))) }
 {
     let Some(rest) = behind_name(words, b"search") else {
         return Ok(None);
     };
-    query_of(alloc, rest)
+    filtered_query(alloc, rest)
+}
+
+// The query and the filter that the words behind `search` spell, if they spell these. The only
+// error is `NoMemory`.
+fn filtered_query(alloc: Global, words: &[Word]) -> Result<Option<(Query, Filter)>, NoMemory>
+    ensures some { IfOk result
+        (λ found. IfSome found (λ r. IsFilteredBody words.now r.0 r.1)) }
+    ensures none { IfOk result (λ found. IfNone found ((query : Query) (filter : Filter) →
+        ¬ IsFilteredBody words.now query filter)) }
+{
+    let (body, asked) = parted_at_where(words);
+    let Some(query) = query_of(alloc, body)? else {
+        return Ok(None);
+    };
+    let Some(filter) = filter_of(alloc, asked)? else {
+        return Ok(None);
+    };
+    Ok(Some((query, filter)))
+}
+
+// The pattern of `signature PATTERN`.
+fn signature_of(words: &[Word]) -> Option<SigPattern>
+    ensures some { IfSome result (λ pattern. IsStatement words.now (statement.Signature pattern)) }
+    ensures none { IfNone result ((pattern : SigPattern) →
+        ¬ IsStatement words.now (statement.Signature pattern)) }
+{
+    let rest = behind_name(words, b"signature")?;
+    pattern_of(only_bare(rest)?)
+}
+
+// The signature pattern of these bytes, if they are one.
+fn pattern_of(bytes: &[u8]) -> Option<SigPattern>
+    ensures some { IfSome result (λ pattern. (bytes.now ≡ pattern.bytes)
+        × IsSignaturePattern pattern.bytes) }
+    ensures none { IfNone result (¬ IsSignaturePattern bytes.now) }
+{
+    let Ok(bytes) = <[u8; 12]>::try_from(bytes) else {
+        return None;
+    };
+    if bytes.iter().all(|byte| is_pattern_byte(*byte)) {
+        Some(SigPattern { bytes })
+    } else {
+        None
+    }
+}
+
+// Whether the byte may stand in a signature pattern: a letter, `?` or `*`.
+fn is_pattern_byte(byte: u8) -> bool
+    ensures { IsTrue result ↔ IsSignaturePatternByte byte }
+{
+    byte.is_ascii_alphabetic() || byte == b'?' || byte == b'*'
 }
 
 // The number of `game N`.

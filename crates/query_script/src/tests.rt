@@ -2,6 +2,8 @@
 mod printed;
 
 use crate::{MAX_SCRIPT, Placed, PlacedSearch, ScriptError, Statement, read_script};
+use game_tree::Bytes;
+use info_filter::{Condition, Filter};
 use pattern_images::Query;
 use pattern_syntax::print_pattern;
 use std::alloc::Global;
@@ -39,12 +41,37 @@ fn show_query(alloc: Global, query: &Query, shown: &mut String) -> Result<(), Fa
     Ok(())
 }
 
+// Appends a condition that asks for a text.
+fn show_text(kind: &str, text: &Bytes, shown: &mut String) -> Result<(), Fail> {
+    let text = std::str::from_utf8(text.as_slice())?;
+    write!(shown, " {kind} <{text}>")?;
+    Ok(())
+}
+
+// Appends the conditions of a filter.
+fn show_filter(filter: &Filter, shown: &mut String) -> Result<(), Fail> {
+    for condition in filter.conditions.as_slice() {
+        match condition {
+            Condition::Player(text) => show_text("player", text, shown)?,
+            Condition::Black(text) => show_text("black", text, shown)?,
+            Condition::White(text) => show_text("white", text, shown)?,
+            Condition::Event(text) => show_text("event", text, shown)?,
+            Condition::Place(text) => show_text("place", text, shown)?,
+            Condition::Result(outcome) => write!(shown, " result {outcome:?}")?,
+            Condition::From(day) => write!(shown, " from {day}")?,
+            Condition::To(day) => write!(shown, " to {day}")?,
+        }
+    }
+    Ok(())
+}
+
 // Appends the searches of a block.
 fn show_searches(alloc: Global, searches: &[PlacedSearch], shown: &mut String) -> Result<(), Fail> {
     for search in searches {
         let line = search.line;
         write!(shown, " ({line} ")?;
         show_query(alloc, &search.query, shown)?;
+        show_filter(&search.filter, shown)?;
         write!(shown, ")")?;
     }
     Ok(())
@@ -59,11 +86,20 @@ fn show_statement(alloc: Global, statement: &Statement, shown: &mut String) -> R
         }
         Statement::Wait => write!(shown, "wait")?,
         Statement::Until { number } => write!(shown, "until {number}")?,
-        Statement::Search { query } => show_query(alloc, query, shown)?,
+        Statement::Search { query, filter } => {
+            show_query(alloc, query, shown)?;
+            show_filter(filter, shown)?;
+        }
         Statement::Together { searches } => {
             write!(shown, "together")?;
             show_searches(alloc, searches.as_slice(), shown)?;
         }
+        Statement::Signature { pattern } => {
+            let pattern = std::str::from_utf8(&pattern.bytes)?;
+            write!(shown, "signature {pattern}")?;
+        }
+        Statement::Players => write!(shown, "players")?,
+        Statement::Doubles => write!(shown, "doubles")?,
         Statement::Game { number } => write!(shown, "game {number}")?,
     }
     Ok(())
