@@ -20,7 +20,7 @@ use Rattle.kb_edges.specs.Told.{IfTold}
 use Rattle.kb_edges.specs.Faults.{Rose, RoseBy}
 use Rattle.game_tree.specs.Tree.{Tree}
 use Rattle.node_position.specs.Games.{Game}
-use Rattle.session_core.specs.Games.{HasItsChanges, game_of, games_of}
+use Rattle.session_core.specs.Games.{IsOfItsTree, game_of, games_of}
 use Rattle.session_core.specs.declared.stored.Stored.{Stored}
 use Rattle.search_run.specs.Course.{AreNames, AreRead, FileReport, Files, Finding, ImportCourse, ImportFile, IsContent, IsImported, Unlisted, games_from, games_of_files, import_file, losses_of, nothing_lost, trees_in}
 use Rattle.search_run.specs.Imported.{AreKeptFiles, Tells, file_reports}
@@ -147,8 +147,8 @@ stored_more name trees before stored more s so_far pushed named placed =
     ∙ ap (λ gs. games_of before ++ gs) (sym pieces)
 
 -- one game more is stored with its changes
-pub changes_more : (stored more : List Stored) (s : Stored) → All HasItsChanges stored → HasItsChanges s → more ≡ stored ++ s ∷ [] → All HasItsChanges more
-changes_more stored more s each last pushed = rw pushed (All-append HasItsChanges stored (s ∷ []) each (All-cons HasItsChanges s [] last (λ k d below. absurd (omega arith))))
+pub changes_more : (stored more : List Stored) (s : Stored) → All IsOfItsTree stored → IsOfItsTree s → more ≡ stored ++ s ∷ [] → All IsOfItsTree more
+changes_more stored more s each last pushed = rw pushed (All-append IsOfItsTree stored (s ∷ []) each (All-cons IsOfItsTree s [] last (λ k d below. absurd (omega arith))))
 
 -- the name of each place is a file's
 pub name_there : (files : List File) (path : List ℕ) (names : List (String Global)) (i : ℕ) (name : String Global) → All (HasFile files path) (map string_bytes names) → i < length names → name ≡ get_or names i name → HasFile files path (string_bytes name)

@@ -83,7 +83,8 @@ abbrev pub AreSearchTexts : Rules → State → List PlacedSearch → ℕ → Li
 AreSearchTexts rules s [] greatest text = (greatest ≡ 0) × (text ≡ [])
 AreSearchTexts rules s (p ∷ ps) greatest text =
     (n : ℕ) × (first : List ℕ) × (others : ℕ) × (rest : List ℕ) × IsNamed rules s n
-    × IsSearchText p.line (view_at s n) p.query first × AreSearchTexts rules s ps others rest
+    × IsSearchText p.line (view_at s n) p.query p.filter first
+    × AreSearchTexts rules s ps others rest
     × (greatest ≡ max n others) × (text ≡ first ++ rest)
 
 -- A statement at a line prints this text and leads to the next state, by these entries of the

@@ -1,15 +1,15 @@
 -- The games of an import as they are stored, for the import's private functions.
 use Rattle.std.specs.Prelude.{◌≤◌, All, length}
-use Rattle.session_core.specs.Games.{HasItsChanges}
+use Rattle.session_core.specs.Games.{IsOfItsTree}
 use Rattle.search_run.specs.declared.import.Imported.{Imported}
 use Rattle.search_run.specs.declared.import.Imported.TheVariants as imported
 use Rattle.search_run.specs.declared.outcome.Counts.{Counts}
 
 -- each game that was found is stored with the changes of its tree
-abbrev pub HaveTheirChanges : Imported → Type 0
-HaveTheirChanges imported.Unlisted = Unit {0}
-HaveTheirChanges (imported.TooMany listed) = Unit {0}
-HaveTheirChanges (imported.Files files games) = All HasItsChanges games.items
+abbrev pub AreOfTheirTrees : Imported → Type 0
+AreOfTheirTrees imported.Unlisted = Unit {0}
+AreOfTheirTrees (imported.TooMany listed) = Unit {0}
+AreOfTheirTrees (imported.Files files games) = All IsOfItsTree games.items
 
 -- an import has no more files than it may have
 abbrev pub HasFewFiles : Imported → Type 0

@@ -41,8 +41,8 @@ ghost use Rattle.search_run.specs.Log.{segments_of};
 ghost use Rattle.search_run.specs.Outcome.{IsOutcome};
 ghost use Rattle.search_run.specs.Reads.{HasReadAll, IsOneMoreRead};
 ghost use Rattle.search_run.specs.Rooms.{AddsGames, AreAdded, IsAdded};
-ghost use Rattle.search_run.specs.Stores.{HaveTheirChanges, HasFewFiles, HasFewGames};
-ghost use Rattle.session_core.specs.Games.{HasItsChanges, games_of};
+ghost use Rattle.search_run.specs.Stores.{AreOfTheirTrees, HasFewFiles, HasFewGames};
+ghost use Rattle.session_core.specs.Games.{IsOfItsTree, games_of};
 
 use crate::outcome::{Counts, FileOutcome, outcome_of, with_added};
 use capture_board::{Board, ChangeList, NodeDeltas};
@@ -159,7 +159,7 @@ pub(crate) fn import<F: Folder>(
         × RoseBy (losses_of (entry ∷ [])) (F.faults folder.old) (F.faults folder.new))) }
     ensures added { IfOk result (λ r. AreAdded before r.1 (trees_in (games_kept r.0))) }
     ensures room { HasFewGames before → IfOk result (λ r. HasFewGames r.1) }
-    ensures changes { IfOk result (λ r. HaveTheirChanges r.0) }
+    ensures changes { IfOk result (λ r. AreOfTheirTrees r.0) }
     ensures few { IfOk result (λ r. HasFewFiles r.0) }
     ensures same { F.files folder.new ≡ F.files folder.old }
     ensures later { F.faults folder.old ≤ F.faults folder.new }
@@ -245,19 +245,14 @@ fn store(
     requires { length trees.items ≤ 400000 }
     ensures added { OnOk result (games_of games.new.items
         ≡ games_of games.old.items ++ games_from name.now 0 trees.items) }
-    ensures changes { All HasItsChanges games.old.items →
-        OnOk result (All HasItsChanges games.new.items) }
+    ensures changes { All IsOfItsTree games.old.items →
+        OnOk result (All IsOfItsTree games.new.items) }
 {
     let mut place = 0;
     for tree in trees {
         let deltas = follower.deltas(alloc, &tree)?;
         let file = String::from_str(alloc, name)?;
-        games.push(Stored {
-            file,
-            place,
-            tree,
-            deltas,
-        })?;
+        games.push(Stored::new(file, place, tree, deltas))?;
         place += 1;
     }
     Ok(())
@@ -281,8 +276,8 @@ fn read_next<F: Folder>(
     ensures added { OnOk result (AddsGames counts.old counts.new (games_of games.old.items)
         (games_of games.new.items)) }
     ensures room { HasFewGames counts.old → OnOk result (HasFewGames counts.new) }
-    ensures changes { All HasItsChanges games.old.items →
-        OnOk result (All HasItsChanges games.new.items) }
+    ensures changes { All IsOfItsTree games.old.items →
+        OnOk result (All IsOfItsTree games.new.items) }
     ensures count { OnOk result (vec_len files.new ≡ vec_len files.old + 1) }
     ensures same { F.files folder.new ≡ F.files folder.old }
     ensures later { F.faults folder.old ≤ F.faults folder.new }
@@ -315,7 +310,7 @@ fn read_files<F: Folder>(
     ensures added { IfOk result
         (λ read. AreAdded before read.2 (trees_in (games_of read.1.items))) }
     ensures room { HasFewGames before → IfOk result (λ read. HasFewGames read.2) }
-    ensures changes { IfOk result (λ read. All HasItsChanges read.1.items) }
+    ensures changes { IfOk result (λ read. All IsOfItsTree read.1.items) }
     ensures count { IfOk result (λ read. vec_len read.0 ≡ length names.now) }
     ensures same { F.files folder.new ≡ F.files folder.old }
     ensures later { F.faults folder.old ≤ F.faults folder.new }

@@ -18,8 +18,8 @@ ghost use Rattle.std.specs.Prelude.{
   length,
 };
 ghost use Rattle.search_run.specs.Imported.{games_kept};
-ghost use Rattle.search_run.specs.Stores.{HaveTheirChanges, HasFewFiles};
-ghost use Rattle.session_core.specs.Games.{HasItsChanges, games_of};
+ghost use Rattle.search_run.specs.Stores.{AreOfTheirTrees, HasFewFiles};
+ghost use Rattle.session_core.specs.Games.{IsOfItsTree, games_of};
 
 use crate::import::{Imported, import};
 use crate::outcome::Counts;
@@ -48,7 +48,7 @@ impl Model for Standing {
     ghost use Rattle.search_run.specs.Outcome.{counts_of};
     ghost use Rattle.search_run.specs.Steps.{Kept};
     ghost use Rattle.search_run.specs.Stores.{HasFewGames};
-    ghost use Rattle.session_core.specs.Games.{HasItsChanges, games_of};
+    ghost use Rattle.session_core.specs.Games.{IsOfItsTree, games_of};
 
     ghost Value = { Kept };
 
@@ -59,7 +59,7 @@ impl Model for Standing {
     } };
 
     ghost invariant = { λ s. (s.counts ≡ counts_of (trees_in (games_of s.games.items)))
-        × HasFewGames s.counts × All HasItsChanges s.games.items };
+        × HasFewGames s.counts × All IsOfItsTree s.games.items };
 }
 
 impl Standing {
@@ -174,8 +174,21 @@ impl Standing {
         ensures { IfOk result (λ text. BlockTexts self.now searches.now text.items) }
     {
         let mut text = Vec::new(alloc);
-        for PlacedSearch { line, query } in searches {
-            session.answer_search(alloc, *line, query, self.version, &self.games, &mut text)?;
+        for PlacedSearch {
+            line,
+            query,
+            filter,
+        } in searches
+        {
+            session.answer_search(
+                alloc,
+                *line,
+                query,
+                filter,
+                self.version,
+                &self.games,
+                &mut text,
+            )?;
         }
         Ok(text)
     }
@@ -206,6 +219,9 @@ impl Standing {
             }
             Statement::Until { .. } => Ok(()),
             Statement::Search { .. } => Ok(()),
+            Statement::Signature { .. } => Ok(()),
+            Statement::Players => Ok(()),
+            Statement::Doubles => Ok(()),
             Statement::Together { .. } => Ok(()),
             Statement::Game { .. } => Ok(()),
         }
@@ -241,11 +257,11 @@ impl Standing {
 
 // Adds the games that an import found.
 fn add_games(games: &mut Vec<Stored>, imported: Imported) -> Result<(), NoMemory>
-    requires { HaveTheirChanges imported }
+    requires { AreOfTheirTrees imported }
     ensures added { OnOk result (games_of games.new.items
         ≡ games_of games.old.items ++ games_kept imported) }
-    ensures changes { All HasItsChanges games.old.items →
-        OnOk result (All HasItsChanges games.new.items) }
+    ensures changes { All IsOfItsTree games.old.items →
+        OnOk result (All IsOfItsTree games.new.items) }
     ensures kept { OnErr result (games.new.items ≡ games.old.items) }
 {
     match imported {

@@ -10,7 +10,7 @@ use Rattle.pattern_images.specs.declared.hit.Hit.{Hit}
 use Rattle.pattern_images.specs.declared.query.Query.{Query}
 use Rattle.session_core.specs.declared.stored.Stored.{Stored}
 use Rattle.pattern_images.specs.Placements.{ArePlacements, Placement}
-use Rattle.session_core.specs.Games.{HasItsChanges, game_of, games_of}
+use Rattle.session_core.specs.Games.{IsOfItsTree, game_of, games_of}
 use Rattle.session_core.specs.Hits.{AreGameHits, AreHits, AreHitsFrom, AreHitsIn}
 use Rattle.session_core.specs.Searching.{AreHitsAdded, IsRun}
 
@@ -51,11 +51,11 @@ same_shape a b = (
 
 module _ (games : List Stored) (k : ℕ) (stored : Stored) (lt : k < length games) (is : stored ≡ get_or games k stored) where
   -- the changes of one of the games are its tree's
-  pub has_its_changes : All HasItsChanges games → HasItsChanges stored
-  has_its_changes all = subst HasItsChanges (sym is) (all k stored lt)
+  pub has_its_changes : All IsOfItsTree games → IsOfItsTree stored
+  has_its_changes all = subst IsOfItsTree (sym is) (all k stored lt)
 
   -- the placements on the board of a run are those on the board of each of its games
-  pub placements_on_run : (query : Query) (placements : List Placement) (shape : Shape) (from to : ℕ) (first : Stored) → All HasItsChanges games → from ≤ k → k < to → IsRun games from to → first ≡ get_or games from first
+  pub placements_on_run : (query : Query) (placements : List Placement) (shape : Shape) (from to : ℕ) (first : Stored) → All IsOfItsTree games → from ≤ k → k < to → IsRun games from to → first ≡ get_or games from first
       → shape ≡ first.deltas.shape → ArePlacements query shape placements → ArePlacements query stored.tree.shape placements
   placements_on_run query placements shape from to first all low high run at same are =
       let one : stored.deltas.shape ≡ (get_or games k first).deltas.shape = ap (λ (s : Stored). s.deltas.shape) (is ∙ get_or_default games k stored first lt) in

@@ -1,7 +1,11 @@
 -- The games that a session is handed.
-use Rattle.std.specs.Prelude.{List, map, string_bytes}
+use Rattle.std.specs.Prelude.{◌≡◌, ℕ, List, map, string_bytes}
+use Rattle.game_tree.specs.Result.{outcome_of}
+use Rattle.info_filter.specs.Day.{IsDayOf}
+use Rattle.dyer_signature.specs.Signatures.{IsSignatureOn}
 use Rattle.node_position.specs.Games.{AreNodeChanges, Game}
 use Rattle.session_core.specs.declared.stored.Stored.{Stored}
+use Rattle.session_core.specs.Signed.{IsSigned}
 
 -- the game that is stored
 abbrev pub game_of : Stored → Game
@@ -15,6 +19,12 @@ game_of stored = record {
 abbrev pub games_of : List Stored → List Game
 games_of stored = map game_of stored
 
--- the changes that are stored beside the tree are the tree's
-abbrev pub HasItsChanges : Stored → Type 0
-HasItsChanges stored = AreNodeChanges stored.tree stored.deltas
+-- What is stored beside the tree is the tree's: its changes, its day, the class of its result, and
+-- the canonical form of its signature.
+pub record IsOfItsTree (stored : Stored) : Type 0 where
+  pub changes : AreNodeChanges stored.tree stored.deltas
+  pub day : IsDayOf stored.tree.info.date stored.day
+  pub outcome : stored.outcome ≡ outcome_of stored.tree.info.outcome_text
+  pub signature : List ℕ
+  pub signed : IsSigned stored.tree signature stored.canonical.bytes
+  pub on_board : IsSignatureOn stored.tree.shape stored.canonical.bytes

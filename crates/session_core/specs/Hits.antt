@@ -1,7 +1,6 @@
--- The hits of a query in games: each game, node and placement where the placement holds and did not
--- hold at the node's parent, if the query looks at the node.
+-- The hits of a query in the games that a filter accepts: each game, node and placement where the
+-- placement holds and did not hold at the node's parent, if the query looks at the node.
 use Rattle.std.specs.Prelude.{◌≡◌, ℕ, ◌+◌, ◌≤◌, IsTrue, List, [], ◌∷◌, ◌++◌, length, Option, Some, None}
-use Rattle.game_tree.specs.Information.{Information}
 use Rattle.game_tree.specs.MainLine.{IsOnMainLine}
 use Rattle.game_tree.specs.Result.{outcome_of}
 use Rattle.game_tree.specs.Tree.{Tree, move_number_of}
@@ -11,6 +10,9 @@ use Rattle.pattern_images.specs.declared.hit.Next.{Next}
 use Rattle.pattern_images.specs.declared.query.Query.{Query}
 use Rattle.pattern_images.specs.ImageList.{IsPlaceOf, placement_at}
 use Rattle.pattern_images.specs.Placements.{ArePlacements, Placement}
+use Rattle.pattern_images.specs.Query.{IsForBoard}
+use Rattle.info_filter.specs.declared.filter.Filter.{Filter}
+use Rattle.info_filter.specs.Filter.{Accepts}
 use Rattle.line_matcher.specs.declared.occurrence.Occurrence.{Occurrence}
 use Rattle.line_matcher.specs.Occurrences.{occurrences_in}
 use Rattle.continuation_table.specs.Continuation.{IsContinuation}
@@ -63,24 +65,27 @@ pub record AreHitsIn (query : Query) (number : ℕ) (tree : Tree) (hits : List H
   pub are_hits : AreHitsOf query number tree changes placements (occurrences_in changes placements)
       hits
 
--- a search asks for games with this information: so far for all
-abbrev pub AsksFor : Query → Information → Type 0
-AsksFor query info = Unit {0}
+-- a search asks for the game of this tree: its board is the query's, where the query names one, and
+-- the filter accepts it
+abbrev pub AsksFor : Query → Filter → Tree → Type 0
+AsksFor query filter tree = IsForBoard query tree.shape × Accepts filter tree.info
 
 -- the hits in the game with this number: none, if it isn't asked for
-pub data AreGameHits (query : Query) (number : ℕ) (tree : Tree) : List Hit → Type 0 where
-  asked : {hits : List Hit} → AsksFor query tree.info → AreHitsIn query number tree hits →
-      AreGameHits query number tree hits
-  not_asked : ¬ AsksFor query tree.info → AreGameHits query number tree []
+pub data AreGameHits (query : Query) (filter : Filter) (number : ℕ)
+    (tree : Tree) : List Hit → Type 0 where
+  asked : {hits : List Hit} → AsksFor query filter tree → AreHitsIn query number tree hits →
+      AreGameHits query filter number tree hits
+  not_asked : ¬ AsksFor query filter tree → AreGameHits query filter number tree []
 
 -- the hits in games, which are numbered from a first number on, in order of the games
-pub data AreHitsFrom (first : ℕ) (query : Query) : List Game → List Hit → Type 0 where
-  nothing : AreHitsFrom first query [] []
+pub data AreHitsFrom (first : ℕ) (query : Query)
+    (filter : Filter) : List Game → List Hit → Type 0 where
+  nothing : AreHitsFrom first query filter [] []
   one_more : {games : List Game} {hits : List Hit} (game : Game) (more : List Hit) →
-      AreHitsFrom first query games hits →
-      AreGameHits query (first + length games) game.tree more →
-      AreHitsFrom first query (games ++ game ∷ []) (hits ++ more)
+      AreHitsFrom first query filter games hits →
+      AreGameHits query filter (first + length games) game.tree more →
+      AreHitsFrom first query filter (games ++ game ∷ []) (hits ++ more)
 
 -- the hits in the games of a version, which are numbered from 0
-abbrev pub AreHits : Query → List Game → List Hit → Type 0
-AreHits query games hits = AreHitsFrom 0 query games hits
+abbrev pub AreHits : Query → Filter → List Game → List Hit → Type 0
+AreHits query filter games hits = AreHitsFrom 0 query filter games hits

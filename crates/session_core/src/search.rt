@@ -5,33 +5,48 @@ ghost use Rattle.pattern_images.specs.Placements.{ArePlacements};
 ghost use Rattle.pattern_images.specs.ImageList.{placement_at};
 ghost use Rattle.continuation_table.specs.Continuation.{HoldsAt};
 ghost use Rattle.line_matcher.specs.Occurrences.{occurrences_in};
-ghost use Rattle.session_core.specs.Games.{HasItsChanges, games_of};
-ghost use Rattle.session_core.specs.Hits.{AreHits, AreHitsIn, AreHitsOf, IsHit, LooksAt};
+ghost use Rattle.session_core.specs.Games.{IsOfItsTree, games_of};
+ghost use Rattle.pattern_images.specs.Query.{IsForBoard};
+ghost use Rattle.info_filter.specs.Filter.{Accepts};
+ghost use Rattle.session_core.specs.Hits.{
+  AreGameHits,
+  AreHits,
+  AreHitsIn,
+  AreHitsOf,
+  IsHit,
+  LooksAt,
+};
 ghost use Rattle.session_core.specs.Searching.{AreHitsAdded, IsRun};
 
 use crate::stored::{MAX_BASE_GAMES, Stored};
 use capture_board::{NodeDeltas, Steps, Walker};
 use continuation_table::next_below;
 use game_tree::GameTree;
-use kb_geometry::NoMemory;
+use info_filter::{Filter, accepts_known};
+use kb_geometry::{NoMemory, Shape};
 use line_matcher::{Matcher, Occurrence, match_along};
 use pattern_images::{Hit, Images, Query, images};
 use std::alloc::Global;
 use std::marker::Brand;
 use std::sync::ledger::{Blank, Ledger};
 
-// The hits of a query in games, which are numbered from 0. They stand by game, then by node, then
+// The hits of a query in the games that a filter accepts. Games are numbered from 0. Hits stand by game, then by node, then
 // in the order of the placements. The only error is `NoMemory`.
-pub(crate) fn hits_of(alloc: Global, query: &Query, games: &[Stored]) -> Result<Vec<Hit>, NoMemory>
+pub(crate) fn hits_of(
+    alloc: Global,
+    query: &Query,
+    filter: &Filter,
+    games: &[Stored],
+) -> Result<Vec<Hit>, NoMemory>
     requires most { length games.now ≤ 400000 }
-    requires changes { All HasItsChanges games.now }
-    ensures { IfOk result (λ hits. AreHits query.now (games_of games.now) hits.items) }
+    requires stored { All IsOfItsTree games.now }
+    ensures { IfOk result (λ hits. AreHits query.now filter.now (games_of games.now) hits.items) }
 {
     let mut hits = Vec::new(alloc);
     let mut from = 0;
     while from < games.len() {
         let to = run_end(games, from);
-        add_run(alloc, query, games, from, to, &mut hits)?;
+        add_run(alloc, query, filter, games, from, to, &mut hits)?;
         from = to;
     }
     Ok(hits)
@@ -60,25 +75,33 @@ fn have_one_shape(a: &Stored, b: &Stored) -> bool
     a.deltas.shape() == b.deltas.shape()
 }
 
-// Adds the hits of the games of a run. The images are made once, for they are the same on all its
+// Adds the hits of the games of a run. No game is asked where the query names another board. The
+// images are made once, for they are the same on all its
 // boards, and so is the walker, which has room for the greatest board.
 fn add_run(
     alloc: Global,
     query: &Query,
+    filter: &Filter,
     games: &[Stored],
     from: usize,
     to: usize,
     hits: &mut Vec<Hit>,
 ) -> Result<(), NoMemory>
     requires most { length games.now ≤ 400000 }
-    requires changes { All HasItsChanges games.now }
+    requires stored { All IsOfItsTree games.now }
     requires some { from < to }
     requires in_range { to ≤ length games.now }
     requires run { IsRun games.now from to }
-    requires before { AreHits query.now (games_of (take from games.now)) hits.old.items }
-    ensures { OnOk result (AreHits query.now (games_of (take to games.now)) hits.new.items) }
+    requires before { AreHits query.now filter.now (games_of (take from games.now))
+        hits.old.items }
+    ensures { OnOk result (AreHits query.now filter.now (games_of (take to games.now))
+        hits.new.items) }
 {
-    let images = images(alloc, query, games[from].deltas.shape())?;
+    let shape = games[from].deltas.shape();
+    if !is_for_board(query, shape) {
+        return Ok(());
+    }
+    let images = images(alloc, query, shape)?;
     let matcher = Matcher::new(alloc, &images)?;
     let mut walker = Walker::new(&games[from].deltas);
     for number in from..to {
@@ -86,6 +109,7 @@ fn add_run(
         add_game(
             alloc,
             query,
+            filter,
             number as u32,
             game,
             &matcher,
@@ -96,9 +120,52 @@ fn add_run(
     Ok(())
 }
 
-// Adds the hits of the game with this number. The matcher is that of the query's images on the
-// game's board.
+// Whether a query looks on boards of this shape.
+fn is_for_board(query: &Query, shape: Shape) -> bool
+    ensures { IsTrue result ↔ IsForBoard query.now shape }
+{
+    match query.board {
+        Some(board) => board == shape,
+        None => true,
+    }
+}
+
+// Adds the hits of the game with this number, if the filter accepts it. The matcher is that of the
+// query's images on the game's board, on which the query looks.
 fn add_game(
+    alloc: Global,
+    query: &Query,
+    filter: &Filter,
+    number: u32,
+    game: &Stored,
+    matcher: &Matcher,
+    walker: &mut Walker,
+    hits: &mut Vec<Hit>,
+) -> Result<(), NoMemory>
+    requires stored { IsOfItsTree game.now }
+    requires board { IsForBoard query.now game.now.tree.shape }
+    requires shape { matcher.now.images.now.shape ≡ game.now.deltas.shape }
+    requires placements { ArePlacements query.now game.now.tree.shape
+        matcher.now.images.now.placements }
+    ensures { OnOk result (AreHitsAdded (AreGameHits query.now filter.now number game.now.tree)
+        hits.old.items hits.new.items) }
+{
+    if !is_accepted(filter, game) {
+        return Ok(());
+    }
+    add_hits_in(alloc, query, number, game, matcher, walker, hits)
+}
+
+// Whether a filter accepts a game, by what is kept beside its tree.
+fn is_accepted(filter: &Filter, game: &Stored) -> bool
+    requires { IsOfItsTree game.now }
+    ensures { IsTrue result ↔ Accepts filter.now game.now.tree.info }
+{
+    accepts_known(filter, game.tree.info(), game.day, game.outcome)
+}
+
+// Adds the hits in the game with this number, which is asked for.
+fn add_hits_in(
     alloc: Global,
     query: &Query,
     number: u32,
@@ -107,7 +174,7 @@ fn add_game(
     walker: &mut Walker,
     hits: &mut Vec<Hit>,
 ) -> Result<(), NoMemory>
-    requires changes { HasItsChanges game.now }
+    requires stored { IsOfItsTree game.now }
     requires shape { matcher.now.images.now.shape ≡ game.now.deltas.shape }
     requires placements { ArePlacements query.now game.now.tree.shape
         matcher.now.images.now.placements }
@@ -149,7 +216,7 @@ fn add_hits(
     occurrences: &[Occurrence],
     hits: &mut Vec<Hit>,
 ) -> Result<(), NoMemory>
-    requires changes { HasItsChanges game.now }
+    requires stored { IsOfItsTree game.now }
     requires shape { images.now.shape ≡ game.now.deltas.shape }
     requires occurrences { occurrences.now
         ≡ occurrences_in game.now.deltas images.now.placements }
@@ -180,7 +247,7 @@ fn looks_at(query: &Query, tree: &GameTree, node: u32) -> bool
 
 // The hit of an occurrence in the game with this number.
 fn hit_of(number: u32, game: &Stored, images: &Images, occurrence: Occurrence) -> Hit
-    requires changes { HasItsChanges game.now }
+    requires stored { IsOfItsTree game.now }
     requires shape { images.now.shape ≡ game.now.deltas.shape }
     requires node { occurrence.node < node_count game.now.tree }
     requires placement { occurrence.placement < length images.now.placements }
@@ -195,7 +262,7 @@ fn hit_of(number: u32, game: &Stored, images: &Images, occurrence: Occurrence) -
         node,
         place: images.place(placement),
         moves: game.tree.move_number(node),
-        outcome: game.tree.info().outcome(),
+        outcome: game.outcome,
         next: next_below(&game.tree, &game.deltas, images, placement, node),
     }
 }

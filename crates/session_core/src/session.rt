@@ -18,12 +18,14 @@ ghost use Rattle.sgf_writer.specs.Written.{IsWritten};
 ghost use Rattle.query_script.specs.Bytes.{line_feed};
 ghost use Rattle.query_script.specs.Texts.{game_head};
 ghost use Rattle.session_core.specs.Answers.{IsAnswer, IsAnswered, IsGameText, IsSearchText};
-ghost use Rattle.session_core.specs.Games.{HasItsChanges};
+ghost use Rattle.session_core.specs.Games.{IsOfItsTree};
 ghost use Rattle.session_core.specs.Stores.{view_of};
 
+use crate::lists::{append_doubles, append_players, append_signature};
 use crate::search::hits_of;
 use crate::stored::{MAX_BASE_GAMES, Stored};
 use continuation_table::Table;
+use info_filter::Filter;
 use kb_geometry::NoMemory;
 use pattern_images::Query;
 use query_script::{Statement, print_game, print_hits, print_no_game};
@@ -41,11 +43,11 @@ impl Session {
         Session {}
     }
 
-    /// Appends the text of a search or of a game, whose line is this one, over the games of the
-    /// version with this number.
+    /// Appends the text of a search, of a signature, of the players, of the double games or of a
+    /// game, whose line is this one, over the games of the version with this number.
     ///
-    /// There are at most [`MAX_BASE_GAMES`] games, each with the changes of its tree. The only
-    /// error is `NoMemory`; then `out` begins with what it held.
+    /// There are at most [`MAX_BASE_GAMES`] games, as [`Stored::new`] makes them. The only error is
+    /// `NoMemory`; then `out` begins with what it held.
     pub fn answer(
         &mut self,
         alloc: Global,
@@ -56,7 +58,7 @@ impl Session {
         out: &mut Vec<u8>,
     ) -> Result<(), NoMemory>
         requires most { length games.now ≤ 400000 }
-        requires changes { All HasItsChanges games.now }
+        requires stored { All IsOfItsTree games.now }
         requires answered { IsAnswered statement.now }
         ensures ok { OnOk result ((text : List ℕ)
             × IsAnswer line (view_of number games.now) statement.now text
@@ -64,7 +66,14 @@ impl Session {
         ensures refused { OnErr result (IsPrefix out.old.items out.new.items) }
     {
         match statement {
-            Statement::Search { query } => append_search(alloc, line, query, number, games, out),
+            Statement::Search { query, filter } => {
+                append_search(alloc, line, query, filter, number, games, out)
+            }
+            Statement::Signature { pattern } => {
+                append_signature(alloc, line, pattern, number, games, out)
+            }
+            Statement::Players => append_players(alloc, line, number, games, out),
+            Statement::Doubles => append_doubles(alloc, line, number, games, out),
             Statement::Game { number: game } => append_game(line, *game, number, games, out),
             Statement::Import { .. }
             | Statement::Wait
@@ -81,18 +90,19 @@ impl Session {
         alloc: Global,
         line: u32,
         query: &Query,
+        filter: &Filter,
         number: u64,
         games: &[Stored],
         out: &mut Vec<u8>,
     ) -> Result<(), NoMemory>
         requires most { length games.now ≤ 400000 }
-        requires changes { All HasItsChanges games.now }
+        requires stored { All IsOfItsTree games.now }
         ensures ok { OnOk result ((text : List ℕ)
-            × IsSearchText line (view_of number games.now) query.now text
+            × IsSearchText line (view_of number games.now) query.now filter.now text
             × (out.new.items ≡ out.old.items ++ text)) }
         ensures refused { OnErr result (IsPrefix out.old.items out.new.items) }
     {
-        append_search(alloc, line, query, number, games, out)
+        append_search(alloc, line, query, filter, number, games, out)
     }
 }
 
@@ -101,18 +111,19 @@ fn append_search(
     alloc: Global,
     line: u32,
     query: &Query,
+    filter: &Filter,
     number: u64,
     games: &[Stored],
     out: &mut Vec<u8>,
 ) -> Result<(), NoMemory>
     requires most { length games.now ≤ 400000 }
-    requires changes { All HasItsChanges games.now }
+    requires stored { All IsOfItsTree games.now }
     ensures ok { OnOk result ((text : List ℕ)
-        × IsSearchText line (view_of number games.now) query.now text
+        × IsSearchText line (view_of number games.now) query.now filter.now text
         × (out.new.items ≡ out.old.items ++ text)) }
     ensures refused { OnErr result (out.new.items ≡ out.old.items) }
 {
-    let hits = hits_of(alloc, query, games)?;
+    let hits = hits_of(alloc, query, filter, games)?;
     let table = Table::of(alloc, &hits)?;
     print_hits(line, number, games.len() as u32, &hits, &table, out)
 }

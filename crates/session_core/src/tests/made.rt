@@ -1,9 +1,10 @@
 // Games, queries and answers for the tests, from texts.
 ghost use Rattle.std.specs.Prelude.{All, IfOk, OnOk};
-ghost use Rattle.session_core.specs.Games.{HasItsChanges};
+ghost use Rattle.session_core.specs.Games.{IsOfItsTree};
 
 use crate::{MAX_BASE_GAMES, Session, Stored};
 use game_tree::{GameTree, build};
+use info_filter::{ConditionList, Filter};
 use kb_geometry::{Point, Rect, Shape};
 use node_position::deltas;
 use pattern_images::Query;
@@ -48,23 +49,26 @@ fn query_of(alloc: Global, asked: Asked) -> Result<Query, Fail> {
     Ok(query)
 }
 
-// The game with its changes.
+// The filter that accepts every game.
+fn all(alloc: Global) -> Filter {
+    Filter {
+        conditions: ConditionList::new(Vec::new(alloc)),
+    }
+}
+
+// The game with what is kept beside its tree.
 fn stored(alloc: Global, file: &str, place: u32, tree: GameTree) -> Result<Stored, Fail>
-    ensures { IfOk result (λ stored. HasItsChanges stored) }
+    ensures { IfOk result (λ stored. IsOfItsTree stored) }
 {
     let deltas = deltas(alloc, &tree)?;
-    Ok(Stored {
-        file: String::from_str(alloc, file)?,
-        place,
-        tree,
-        deltas,
-    })
+    let file = String::from_str(alloc, file)?;
+    Ok(Stored::new(file, place, tree, deltas))
 }
 
 // Adds the games of a file.
 fn add_file(alloc: Global, file: &str, text: &[u8], games: &mut Vec<Stored>) -> Result<(), Fail>
-    requires { All HasItsChanges games.old.items }
-    ensures { OnOk result (All HasItsChanges games.new.items) }
+    requires { All IsOfItsTree games.old.items }
+    ensures { OnOk result (All IsOfItsTree games.new.items) }
 {
     let collection = read(alloc, text)?;
     let mut place = 0;
@@ -77,7 +81,7 @@ fn add_file(alloc: Global, file: &str, text: &[u8], games: &mut Vec<Stored>) -> 
 
 // The games of files.
 fn games_of(alloc: Global, files: Files) -> Result<Vec<Stored>, Fail>
-    ensures { IfOk result (λ games. All HasItsChanges games.items) }
+    ensures { IfOk result (λ games. All IsOfItsTree games.items) }
 {
     let mut games = Vec::new(alloc);
     for (file, text) in files {
@@ -97,7 +101,7 @@ pub(crate) fn search_text(
     let games = games_of(alloc, files)?;
     assert!(rt; games.len() <= MAX_BASE_GAMES as usize);
     let mut out = Vec::new(alloc);
-    let statement = Statement::Search { query };
+    let statement = Statement::Search { query, filter: all(alloc) };
     Session::new().answer(alloc, LINE, &statement, VERSION, &games, &mut out)?;
     Ok(String::from_utf8(out)?)
 }
@@ -133,6 +137,6 @@ pub(crate) fn two_texts(
     let mut session = Session::new();
     let statement = Statement::Game { number };
     session.answer(alloc, LINE, &statement, VERSION, &games, &mut out)?;
-    session.answer_search(alloc, LINE, &query, VERSION, &games, &mut out)?;
+    session.answer_search(alloc, LINE, &query, &all(alloc), VERSION, &games, &mut out)?;
     Ok(String::from_utf8(out)?)
 }

@@ -1,7 +1,7 @@
 use Rattle.std.proofs.lemmas.List.Elements.{All-append}
-use Rattle.session_core.specs.Games.{HasItsChanges}
+use Rattle.session_core.specs.Games.{IsOfItsTree}
 use Rattle.search_run.proofs.standing.add_games.Goals as goal
 
 pub returns-in_ok-append-in-Files-clause-changes : goal.returns-in_ok-append-in-Files-clause-changes
 returns-in_ok-append-in-Files-clause-changes c = λ each.
-    rw c.in_ok-append-in-Files.ensures.items (All-append HasItsChanges c.args.games.now.items c.in-Files.found.items each (rw c.in-Files.is at c.requires))
+    rw c.in_ok-append-in-Files.ensures.items (All-append IsOfItsTree c.args.games.now.items c.in-Files.found.items each (rw c.in-Files.is at c.requires))

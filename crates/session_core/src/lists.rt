@@ -1,0 +1,131 @@
+// The texts of the statements that list games and players.
+ghost use Rattle.std.specs.Prelude.{
+  ◌≡◌,
+  ◌≤◌,
+  ◌++◌,
+  ℕ,
+  All,
+  List,
+  OnErr,
+  OnOk,
+  length,
+};
+ghost use mathlib.Core.List.{IsPrefix};
+ghost use Rattle.session_core.specs.Answers.{IsDoublesText, IsPlayersText, IsSignatureText};
+ghost use Rattle.session_core.specs.Games.{IsOfItsTree};
+ghost use Rattle.session_core.specs.Stores.{view_of};
+
+use crate::doubles::{Kinds, are_group, kinds_of};
+use crate::stored::Stored;
+use dyer_signature::{SigPattern, matches};
+use info_filter::Players;
+use kb_geometry::NoMemory;
+use query_script::{
+    print_double, print_doubles_head, print_players, print_signature_head, print_signed_game,
+};
+use std::alloc::Global;
+
+// Appends the text of the games whose signature matches a pattern.
+pub(crate) fn append_signature(
+    alloc: Global,
+    line: u32,
+    pattern: &SigPattern,
+    number: u64,
+    games: &[Stored],
+    out: &mut Vec<u8>,
+) -> Result<(), NoMemory>
+    requires most { length games.now ≤ 400000 }
+    requires stored { All IsOfItsTree games.now }
+    ensures ok { OnOk result ((text : List ℕ)
+        × IsSignatureText line (view_of number games.now) pattern.now.bytes text
+        × (out.new.items ≡ out.old.items ++ text)) }
+    ensures refused { OnErr result (IsPrefix out.old.items out.new.items) }
+{
+    let found = found_by(alloc, pattern, games)?;
+    print_signature_head(line, number, games.len() as u32, found.len(), out)?;
+    for game in &found {
+        print_signed_game(*game, &games[*game as usize].canonical, out)?;
+    }
+    Ok(())
+}
+
+// The numbers of the games whose signature matches a pattern, ascending. The only error is
+// `NoMemory`.
+fn found_by(alloc: Global, pattern: &SigPattern, games: &[Stored]) -> Result<Vec<u32>, NoMemory>
+{
+    let mut found = Vec::new(alloc);
+    for number in 0..games.len() {
+        let game = &games[number];
+        if matches(&game.canonical, game.tree.shape(), pattern) {
+            found.push(number as u32)?;
+        }
+    }
+    Ok(found)
+}
+
+// Appends the text of the players.
+pub(crate) fn append_players(
+    alloc: Global,
+    line: u32,
+    number: u64,
+    games: &[Stored],
+    out: &mut Vec<u8>,
+) -> Result<(), NoMemory>
+    requires most { length games.now ≤ 400000 }
+    ensures ok { OnOk result ((text : List ℕ)
+        × IsPlayersText line (view_of number games.now) text
+        × (out.new.items ≡ out.old.items ++ text)) }
+    ensures refused { OnErr result (IsPrefix out.old.items out.new.items) }
+{
+    let players = players_of(alloc, games)?;
+    print_players(line, number, games.len() as u32, &players, out)
+}
+
+// The table of the players. The only error is `NoMemory`.
+fn players_of(alloc: Global, games: &[Stored]) -> Result<Players, NoMemory>
+    requires { length games.now ≤ 400000 }
+{
+    let mut players = Players::new(alloc);
+    for game in games {
+        players.add(alloc, game.tree.info())?;
+    }
+    Ok(players)
+}
+
+// Appends the text of the groups of double games.
+pub(crate) fn append_doubles(
+    alloc: Global,
+    line: u32,
+    number: u64,
+    games: &[Stored],
+    out: &mut Vec<u8>,
+) -> Result<(), NoMemory>
+    requires most { length games.now ≤ 400000 }
+    requires stored { All IsOfItsTree games.now }
+    ensures ok { OnOk result ((text : List ℕ)
+        × IsDoublesText line (view_of number games.now) text
+        × (out.new.items ≡ out.old.items ++ text)) }
+    ensures refused { OnErr result (IsPrefix out.old.items out.new.items) }
+{
+    let kinds = kinds_of(alloc, games)?;
+    let groups = count_groups(&kinds);
+    print_doubles_head(line, number, games.len() as u32, groups, out)?;
+    for (kind, numbers) in &kinds {
+        if are_group(kind, numbers) {
+            print_double(&kind.canonical, numbers.first, numbers.others.as_slice(), out)?;
+        }
+    }
+    Ok(())
+}
+
+// How many groups of double games there are.
+fn count_groups(kinds: &Kinds) -> usize
+{
+    let mut groups = 0;
+    for (kind, numbers) in kinds {
+        if are_group(kind, numbers) {
+            groups += 1;
+        }
+    }
+    groups
+}
