@@ -7,3 +7,4 @@ pub mod TableRows
 pub mod Tables
 pub mod OneTable
 pub mod SomeDay
+pub mod WrittenDays

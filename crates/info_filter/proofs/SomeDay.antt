@@ -117,7 +117,7 @@ by_end date y m d rest more [] year month day = inl (y, m, d, made date y m d re
 by_end date y m d rest more (b ∷ end) year month day = inr (no_end date y m d rest more (b ∷ end) year month day (omega arith))
 
 -- a date is of one form, or of none
-tells_date : (date : List ℕ) → ((y : ℕ) × (m : ℕ) × (d : ℕ) × IsDateText date y m d) ⊎ ((y m d : ℕ) → ¬ IsDateText date y m d)
+pub tells_date : (date : List ℕ) → ((y : ℕ) × (m : ℕ) × (d : ℕ) × IsDateText date y m d) ⊎ ((y m d : ℕ) → ¬ IsDateText date y m d)
 tells_date date = elim (tells_year date) [
   | inr never ↦ inr (no_year date (λ n rest year. never (n, rest, year)))
   | inl (y, rest, year) ↦ elim (tells_part rest) [
@@ -137,7 +137,7 @@ tells_year_number y = elim (tells_le y 9999) [
   | inr never ↦ inr (λ within. let high = within.1 in never (omega (arith, signed_arith, high)))
 ]
 
-tells_civil : (y m d : ℕ) → Tells (IsCivilDate (pos y) m d)
+pub tells_civil : (y m d : ℕ) → Tells (IsCivilDate (pos y) m d)
 tells_civil y m d = tells_three (tells_year_number y) (tells_both (tells_le 1 m) (tells_le m 12)) (tells_both (tells_le 1 d) (tells_le d (days_in_month (pos y) m)))
   where
     tells_three : {A B C : Type 0} → Tells A → Tells B → Tells C → Tells (A × B × C)
