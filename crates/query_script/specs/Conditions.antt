@@ -45,9 +45,9 @@ IsCondition (condition.To d) kind value = IsDayAsked (codes "to") d kind value
 
 -- The words spell these conditions, in order: this joining word stands before the first one, and
 -- `and` before each other.
-pub data AreJoined (joining : List ℕ) : List Condition → List Word → Type 0 where
-  nothing : AreJoined joining [] []
-  one_more : {conditions : List Condition} {words : List Word} (c : Condition)
+pub data AreJoined : List ℕ → List Condition → List Word → Type 0 where
+  nothing : {joining : List ℕ} → AreJoined joining [] []
+  one_more : {joining : List ℕ} {conditions : List Condition} {words : List Word} (c : Condition)
       (kind value : Word) →
       IsCondition c kind value →
       AreJoined (codes "and") conditions words →

@@ -6,39 +6,28 @@ ghost use Rattle.query_script.specs.Texts.{head_text, line_text};
 
 use kb_geometry::{NoMemory, append, append_decimal, append_decimal_and};
 
-// The names of a first line: what is asked of a version, and what is counted there.
-#[derive(Clone, Copy)]
-pub(crate) struct Names<'a> {
-    pub(crate) asked: &'a [u8],
-    pub(crate) counted: &'a [u8],
-}
-
 // Appends the first line: the number of the line, what is asked of which version, how many games it
 // has, and how many of what is counted there.
 pub(crate) fn append_head(
     out: &mut Vec<u8>,
     line: u32,
-    names: Names,
+    asked: &[u8],
     version: u64,
     games: u32,
+    counted: &[u8],
     count: usize,
 ) -> Result<(), NoMemory>
     ensures ok { OnOk result (out.new.items ≡ out.old.items
-        ++ head_text line names.asked.now version games names.counted.now count) }
+        ++ head_text line asked.now version games counted.now count) }
     ensures refused { OnErr result (IsPrefix out.old.items out.new.items) }
 {
-    append_version(out, line, names.asked, version)?;
-    append_counts(out, games, names.counted, count)?;
+    append_version(out, line, asked, version)?;
+    append_counts(out, games, counted, count)?;
     Ok(())
 }
 
 // Appends what is asked of which version.
-fn append_version(
-    out: &mut Vec<u8>,
-    line: u32,
-    asked: &[u8],
-    version: u64,
-) -> Result<(), NoMemory>
+fn append_version(out: &mut Vec<u8>, line: u32, asked: &[u8], version: u64) -> Result<(), NoMemory>
     ensures ok { OnOk result (out.new.items ≡ out.old.items
         ++ (decimal line ++ (codes " " ++ (asked.now ++ (codes " version " ++ decimal version))))) }
     ensures refused { OnErr result (IsPrefix out.old.items out.new.items) }

@@ -15,25 +15,10 @@ ghost use Rattle.query_script.specs.Texts.{
   spaced,
 };
 
-use crate::head::{Names, append_head};
+use crate::head::append_head;
 use dyer_signature::Signature;
 use info_filter::{PlayerRow, Players};
 use kb_geometry::{NoMemory, append, append_decimal, append_decimal_and, cut_back};
-
-const SIGNATURE: Names = Names {
-    asked: b"signature",
-    counted: b"found",
-};
-
-const PLAYERS: Names = Names {
-    asked: b"players",
-    counted: b"names",
-};
-
-const DOUBLES: Names = Names {
-    asked: b"doubles",
-    counted: b"groups",
-};
 
 /// Appends the first line of the games whose signature matches a pattern:
 /// `LINE signature version V games G found F`. The only error is `NoMemory`, and then `out` is as
@@ -50,7 +35,7 @@ pub fn print_signature_head(
     ensures refused { OnErr result (out.new.items ≡ out.old.items) }
 {
     let len = out.len();
-    let done = append_head(out, line, SIGNATURE, version, games, found);
+    let done = append_head(out, line, b"signature", version, games, b"found", found);
     cut_back(out, len, done)
 }
 
@@ -70,11 +55,7 @@ pub fn print_signed_game(
     cut_back(out, len, done)
 }
 
-fn append_signed_game(
-    out: &mut Vec<u8>,
-    game: u32,
-    signature: &Signature,
-) -> Result<(), NoMemory>
+fn append_signed_game(out: &mut Vec<u8>, game: u32, signature: &Signature) -> Result<(), NoMemory>
     ensures ok { OnOk result (out.new.items
         ≡ out.old.items ++ signed_game_text game signature.now.bytes) }
     ensures refused { OnErr result (IsPrefix out.old.items out.new.items) }
@@ -116,16 +97,24 @@ fn append_players(
         ≡ out.old.items ++ players_text line version games players.now) }
     ensures refused { OnErr result (IsPrefix out.old.items out.new.items) }
 {
-    append_head(out, line, PLAYERS, version, games, players.count())?;
+    append_head(
+        out,
+        line,
+        b"players",
+        version,
+        games,
+        b"names",
+        players.count(),
+    )?;
     for row in players.rows() {
-        append_player(out, row)?;
+        append_player(out, &row)?;
     }
     Ok(())
 }
 
 // Appends a row of the players' table.
-fn append_player(out: &mut Vec<u8>, row: PlayerRow) -> Result<(), NoMemory>
-    ensures ok { OnOk result (out.new.items ≡ out.old.items ++ player_text (shown_row row)) }
+fn append_player(out: &mut Vec<u8>, row: &PlayerRow) -> Result<(), NoMemory>
+    ensures ok { OnOk result (out.new.items ≡ out.old.items ++ player_text (shown_row row.now)) }
     ensures refused { OnErr result (IsPrefix out.old.items out.new.items) }
 {
     append(out, b"player ")?;
@@ -151,7 +140,7 @@ pub fn print_doubles_head(
     ensures refused { OnErr result (out.new.items ≡ out.old.items) }
 {
     let len = out.len();
-    let done = append_head(out, line, DOUBLES, version, games, groups);
+    let done = append_head(out, line, b"doubles", version, games, b"groups", groups);
     cut_back(out, len, done)
 }
 

@@ -18,15 +18,10 @@ ghost use Rattle.query_script.specs.Texts.{
   when_word,
 };
 
-use crate::head::{Names, append_head};
+use crate::head::append_head;
 use continuation_table::{Row, Table, Tally};
 use kb_geometry::{Colour, NoMemory, append, append_decimal, append_decimal_and, cut_back};
 use pattern_images::{Hit, Next};
-
-const SEARCH: Names = Names {
-    asked: b"search",
-    counted: b"hits",
-};
 
 // The letter of a colour.
 fn colour_letter(colour: Colour) -> &'static str
@@ -185,7 +180,7 @@ fn append_search(
         ≡ out.old.items ++ search_text line number games hits.now table.now) }
     ensures refused { OnErr result (IsPrefix out.old.items out.new.items) }
 {
-    append_head(out, line, SEARCH, number, games, hits.len())?;
+    append_head(out, line, b"search", number, games, b"hits", hits.len())?;
     append_hits(out, hits)?;
     append_rows(out, table.rows())?;
     append_totals(out, table.totals())?;
