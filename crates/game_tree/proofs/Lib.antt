@@ -27,6 +27,7 @@ pub mod SecondMoves
 pub mod SimpleTexts
 pub mod Splits
 pub mod Subtrees
+pub mod TextBlocks
 mod TextChoices
 pub mod Trees
 pub mod TreesOrFault

@@ -1,5 +1,5 @@
 -- What the root of a game says.
-use Rattle.std.proofs.Common.{◌≡◌, ◌∙◌, ℕ, Option, List, [], refl, sym, subst, codes, Some, None, false, IsTrue, Ok, Err, IfOk}
+use Rattle.std.proofs.Common.{◌≡◌, ◌∙◌, ℕ, Option, List, [], refl, sym, subst, codes, Some, None, false, IsTrue}
 use Rattle.sgf_reader.specs.declared.fault.FaultKind.TheVariants as kind
 use Rattle.sgf_reader.specs.declared.fault.SgfFault.{SgfFault}
 use Rattle.sgf_reader.specs.declared.collection.Pair.{Pair}
@@ -9,9 +9,6 @@ use Rattle.kb_geometry.specs.declared.shape.Shape.{Shape}
 use Rattle.kb_geometry.specs.Board.{cols_of, rows_of}
 use Rattle.game_tree.specs.Value.{IsSize}
 use Rattle.game_tree.specs.ValueFaults.{IsBoardOf, empty, no_value, size}
-use Rattle.game_tree.specs.Trees.{IsTextOf}
-use Rattle.game_tree.specs.SimpleText.{IsSimpleText}
-use Rattle.std.specs.Prelude.{Result}
 use Rattle.game_tree.proofs.Trimming.{IsTrimmed-only}
 
 pub go_if_empty : (text : List ℕ) (pair : Pair) (value : List ℕ) → IsTrimmed (bytes_of text pair.value) value → value ≡ [] → ¬ IsOtherGame text pair
@@ -61,12 +58,3 @@ bad_size text pair value fault trimmed some none is = (pair, refl, is, λ shape 
 -- the board where there is no size
 pub board_without : (text : List ℕ) (found : Option Pair) (shape : Shape) → found ≡ None → cols_of shape ≡ 19 → rows_of shape ≡ 19 → IsBoardOf text found shape
 board_without text found shape is cols rows = subst (λ f. IsBoardOf text f shape) (sym is) (no_value cols rows)
-
--- ---- the information
-
-pub no_text : (text : List ℕ) (found : Option Pair) (simple : List ℕ) → found ≡ None → simple ≡ [] → IsTextOf text found simple
-no_text text found simple none is = subst (IsTextOf text found) (sym is) (subst (λ f. IsTextOf text f []) (sym none) IsTextOf.no_value)
-
-pub text_there : {E : Type 0} (text : List ℕ) (found : Option Pair) (pair : Pair) (answer : Result (List ℕ) E) → found ≡ Some pair → IfOk answer (λ simple. IsSimpleText (bytes_of text pair.value) simple) → IfOk answer (IsTextOf text found)
-text_there text found pair (Ok simple) is read = subst (λ f. IsTextOf text f simple) (sym is) (IsTextOf.value read)
-text_there text found pair (Err e) is read = tt

@@ -1,8 +1,9 @@
 -- How the first bytes of a value are read as SimpleText.
-use Rattle.std.proofs.Common.{◌≡◌, ◌≢◌, ◌≤◌, ◌⊎◌, ◌++◌, ◌∙◌, ◌-◌, ℕ, List, [], ◌∷◌, length, take, drop, get_or, refl, sym, ap, subst, inl, inr, arith}
+use Rattle.std.proofs.Common.{◌≡◌, ◌≢◌, ◌≤◌, ◌<◌, ◌⊎◌, ◌++◌, ◌∙◌, ◌-◌, ℕ, List, [], ◌∷◌, length, take, drop, get_or, refl, sym, ap, subst, inl, inr, arith}
 use Rattle.std.proofs.lemmas.List.{append-nil, take_all}
 use Rattle.std.proofs.lemmas.List.Elements.{All-cons, All-nil}
 use Rattle.game_tree.specs.Information.{HasNoControls}
+use Rattle.game_tree.specs.StoredInfo.{HasGrownBy}
 use Rattle.game_tree.specs.SimpleText.{BreaksLine, IsReadAs, IsSimpleText, byte, carriage_return, carriage_return_line_feed, hidden_break, hidden_byte, itself, last_backslash, line_break, line_feed, line_feed_carriage_return, nothing, white}
 
 -- a text is its first byte and what stands behind it
@@ -48,10 +49,29 @@ pub first_shown : (text : List ℕ) → 1 ≤ length text → ((rest : List ℕ)
 first_shown text some shown is = shown _ (begins_with text 92 some is)
 
 -- a value of which nothing is left
-pub all_read : (value rest items read : List ℕ) → ((more : List ℕ) → IsSimpleText rest more → IsSimpleText value (items ++ more)) → rest ≡ [] → read ≡ items → IsSimpleText value read
-all_read value rest items read so_far is same =
+pub all_read : (value rest before now : List ℕ) → ((more : List ℕ) → IsSimpleText rest more → HasGrownBy (IsSimpleText value) before (now ++ more)) → rest ≡ [] → HasGrownBy (IsSimpleText value) before now
+all_read value rest before now so_far is =
     let whole = so_far [] (subst (λ r. IsSimpleText r []) (sym is) nothing) in
-    subst (IsSimpleText value) (append-nil items ∙ sym same) whole
+    subst (HasGrownBy (IsSimpleText value) before) (append-nil now) whole
+
+-- ---- the length
+
+behind_break-shorter : (value rest : List ℕ) → BreaksLine value rest → length rest < length value
+behind_break-shorter _ rest carriage_return_line_feed = omega arith
+behind_break-shorter _ rest line_feed_carriage_return = omega arith
+behind_break-shorter _ rest (line_feed alone) = omega arith
+behind_break-shorter _ rest (carriage_return alone) = omega arith
+
+-- a value is read as a text that is no longer
+pub simple_text-no_longer : (value text : List ℕ) → IsSimpleText value text → length text ≤ length value
+simple_text-no_longer _ _ nothing = omega arith
+simple_text-no_longer _ text (hidden_break {value = value} {rest = rest} breaks more) =
+    omega (arith, behind_break-shorter value rest breaks, simple_text-no_longer rest text more)
+simple_text-no_longer _ _ (hidden_byte {rest = rest} {text = text} read more) = omega (arith, simple_text-no_longer rest text more)
+simple_text-no_longer value _ (line_break {rest = rest} {text = text} breaks more) =
+    omega (arith, behind_break-shorter value rest breaks, simple_text-no_longer rest text more)
+simple_text-no_longer _ _ (byte {rest = rest} {text = text} shown read more) = omega (arith, simple_text-no_longer rest text more)
+simple_text-no_longer _ _ last_backslash = omega arith
 
 -- ---- no control characters
 

@@ -16,3 +16,4 @@ pub mod NodeValues
 pub mod RawGames
 pub mod Roots
 pub mod Stored
+pub mod StoredInfo

@@ -1,121 +1,111 @@
 // The information of a game: names, event, place, date and result.
-ghost use Rattle.std.specs.Prelude.{◌≡◌, ℕ, List, IfOk};
-ghost use Rattle.game_tree.specs.Information.{Information, no_information};
+ghost use Rattle.std.specs.Prelude.{◌≡◌, length, IfOk};
 ghost use Rattle.game_tree.specs.Result.{outcome_of};
 
-use crate::Bytes;
 use kb_geometry::{NoMemory, Outcome};
 use std::alloc::Global;
 use std::marker::Model;
+use std::mem::size_of;
 
 /// The names of the players, and the event, place, date and result of a game, as bytes.
 #[derive(Debug, Drop)]
 pub struct Info {
-    black: Bytes,
-    white: Bytes,
-    event: Bytes,
-    place: Bytes,
-    date: Bytes,
-    result: Bytes,
+    // The texts one behind the other, in one block: black, white, event, place, date, result.
+    texts: Vec<u8>,
+    ends: TextEnds,
+}
+
+const _: () = prove!(size_of::<Info>() == 48);
+
+// Where each text ends in the block, but for the result, which ends with it.
+#[derive(Clone, Copy, Debug)]
+pub(crate) struct TextEnds {
+    pub(crate) black: u32,
+    pub(crate) white: u32,
+    pub(crate) event: u32,
+    pub(crate) place: u32,
+    pub(crate) date: u32,
 }
 
 impl Model for Info {
+    ghost use Rattle.std.specs.Prelude.{length};
+    ghost use Rattle.game_tree.specs.Information.{Information};
+    ghost use Rattle.game_tree.specs.StoredInfo.{shown_info, AreTextEnds};
+
     ghost Value = { Information };
 
-    ghost view = { λ i. record {
-      black = i.black;
-      white = i.white;
-      event = i.event;
-      place = i.place;
-      date = i.date;
-      outcome_text = i.result;
-    } };
+    ghost view = { λ i. shown_info i.texts.items i.ends };
+
+    ghost invariant = { λ i. AreTextEnds i.ends (length i.texts.items) };
 }
 
 impl Info {
+    ghost use Rattle.game_tree.specs.Information.{no_information};
+    ghost use Rattle.game_tree.specs.StoredInfo.{shown_info, AreTextEnds};
+
     // The information of a game of which nothing is told.
     #[cfg(test)]
     pub(crate) fn empty(alloc: Global) -> Self
         ensures { result ≡ no_information }
     {
-        Info {
-            black: Bytes::new(Vec::new(alloc)),
-            white: Bytes::new(Vec::new(alloc)),
-            event: Bytes::new(Vec::new(alloc)),
-            place: Bytes::new(Vec::new(alloc)),
-            date: Bytes::new(Vec::new(alloc)),
-            result: Bytes::new(Vec::new(alloc)),
-        }
+        let ends = TextEnds {
+            black: 0,
+            white: 0,
+            event: 0,
+            place: 0,
+            date: 0,
+        };
+        Info::new(Vec::new(alloc), ends)
     }
 
-    // The information with these texts.
-    pub(crate) fn new(
-        black: Bytes,
-        white: Bytes,
-        event: Bytes,
-        place: Bytes,
-        date: Bytes,
-        outcome_text: Bytes,
-    ) -> Self
-        ensures { result ≡ record {
-          black = black;
-          white = white;
-          event = event;
-          place = place;
-          date = date;
-          outcome_text = outcome_text;
-        } }
+    // The information whose texts stand in this block and end there.
+    pub(crate) fn new(texts: Vec<u8>, ends: TextEnds) -> Self
+        requires { AreTextEnds ends (length texts.items) }
+        ensures { result ≡ shown_info texts.items ends }
     {
-        Info {
-            black,
-            white,
-            event,
-            place,
-            date,
-            result: outcome_text,
-        }
+        Info { texts, ends }
     }
 
     /// The name of the player of the black stones (property PB).
     pub fn black(&self) -> &[u8]
         ensures { result.now ≡ self.now.black }
     {
-        self.black.as_slice()
+        &self.texts[..self.ends.black as usize]
     }
 
     /// The name of the player of the white stones (property PW).
     pub fn white(&self) -> &[u8]
         ensures { result.now ≡ self.now.white }
     {
-        self.white.as_slice()
+        &self.texts[self.ends.black as usize..self.ends.white as usize]
     }
 
     /// The event at which the game was played (property EV).
     pub fn event(&self) -> &[u8]
         ensures { result.now ≡ self.now.event }
     {
-        self.event.as_slice()
+        &self.texts[self.ends.white as usize..self.ends.event as usize]
     }
 
     /// The place where the game was played (property PC).
     pub fn place(&self) -> &[u8]
         ensures { result.now ≡ self.now.place }
     {
-        self.place.as_slice()
+        &self.texts[self.ends.event as usize..self.ends.place as usize]
     }
 
     /// The date on which the game was played (property DT).
     pub fn date(&self) -> &[u8]
         ensures { result.now ≡ self.now.date }
     {
-        self.date.as_slice()
+        &self.texts[self.ends.place as usize..self.ends.date as usize]
     }
 
     /// The text of the game's result (property RE).
     pub fn result(&self) -> &[u8]
         ensures { result.now ≡ self.now.outcome_text }
     {
-        self.result.as_slice()
+        &self.texts[self.ends.date as usize..]
     }
 
     /// Who won, by the text of the game's result.
@@ -130,19 +120,10 @@ impl Info {
     pub fn copy(&self, alloc: Global) -> Result<Info, NoMemory>
         ensures { IfOk result (λ copied. copied ≡ self.now) }
     {
-        let black = self.black.copy(alloc)?;
-        let white = self.white.copy(alloc)?;
-        let event = self.event.copy(alloc)?;
-        let place = self.place.copy(alloc)?;
-        let date = self.date.copy(alloc)?;
-        let result = self.result.copy(alloc)?;
+        let texts = Vec::from_slice(alloc, self.texts.as_slice())?;
         Ok(Info {
-            black,
-            white,
-            event,
-            place,
-            date,
-            result,
+            texts,
+            ends: self.ends,
         })
     }
 }
@@ -195,19 +176,16 @@ mod tests {
         }
     }
 
-    fn text(alloc: Global, text: &str) -> Result<Bytes, NoMemory> {
-        Ok(Bytes::new(text.as_bytes().to_vec(alloc)?))
-    }
-
     fn ten_game_match(alloc: Global) -> Result<Info, NoMemory> {
-        Ok(Info {
-            black: text(alloc, "Go Seigen")?,
-            white: text(alloc, "Kitani")?,
-            event: text(alloc, "Jubango")?,
-            place: text(alloc, "Kamakura")?,
-            date: text(alloc, "1939-09-28")?,
-            result: text(alloc, "B+2")?,
-        })
+        let texts = b"Go SeigenKitaniJubangoKamakura1939-09-28B+2".as_slice();
+        let ends = TextEnds {
+            black: 9,
+            white: 15,
+            event: 22,
+            place: 30,
+            date: 40,
+        };
+        Ok(Info::new(texts.to_vec(alloc)?, ends))
     }
 
     #[test]

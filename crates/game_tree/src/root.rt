@@ -3,6 +3,8 @@ ghost use Rattle.std.specs.Prelude.{
   ◌≡◌,
   ◌≢◌,
   ◌≤◌,
+  ◌<◌,
+  ◌+◌,
   ℕ,
   List,
   [],
@@ -24,6 +26,7 @@ ghost use Rattle.std.specs.Prelude.{
 };
 ghost use Rattle.sgf_reader.specs.declared.fault.SgfFault.{SgfFault};
 ghost use Rattle.sgf_reader.specs.declared.fault.FaultKind.TheVariants as kind;
+ghost use Rattle.sgf_reader.specs.Limits.{most_bytes};
 ghost use Rattle.kb_geometry.specs.declared.shape.Shape.{Shape};
 ghost use Rattle.game_tree.specs.NodeValues.{LiesIn};
 ghost use Rattle.game_tree.specs.Property.{bytes_of, mover_of, offset_of};
@@ -36,14 +39,16 @@ ghost use Rattle.game_tree.specs.Roots.{
   IsSecondMove,
   IsSizeFault,
 };
+ghost use Rattle.game_tree.specs.StoredInfo.{HasGrownBy};
 ghost use Rattle.game_tree.specs.Trees.{IsTextOf};
 ghost use Rattle.game_tree.specs.ValueFaults.{IsBoardOf};
 
+use crate::Info;
+use crate::info::TextEnds;
 use crate::node_values::{bytes_of, fault_at};
 use crate::property::{Identifier, Property};
-use crate::simple_text::simple_text;
+use crate::simple_text::append_simple_text;
 use crate::value::{size_of, trimmed};
-use crate::{Bytes, Info};
 use kb_geometry::{NoMemory, Shape};
 use sgf_reader::{FaultKind, Pair, SgfFault};
 use std::alloc::Global;
@@ -208,29 +213,40 @@ pub(crate) fn first_fault(fault: SgfFault, other: Option<SgfFault>) -> SgfFault
 // The information of a game, by the first values of its root.
 pub(crate) fn information(alloc: Global, text: &[u8], pairs: &[Pair]) -> Result<Info, NoMemory>
     requires inside { All (LiesIn (length text.now)) pairs.now }
+    requires short { length text.now ≤ most_bytes }
     ensures { IfOk result (IsInformationIn text.now pairs.now) }
 {
-    let black = text_of(alloc, text, pairs, BLACK_NAME)?;
-    let white = text_of(alloc, text, pairs, WHITE_NAME)?;
-    let event = text_of(alloc, text, pairs, EVENT)?;
-    let place = text_of(alloc, text, pairs, PLACE)?;
-    let date = text_of(alloc, text, pairs, DATE)?;
-    let result = text_of(alloc, text, pairs, RESULT)?;
-    Ok(Info::new(black, white, event, place, date, result))
+    let mut texts = Vec::new(alloc);
+    let ends = TextEnds {
+        black: append_text(&mut texts, text, pairs, BLACK_NAME)?,
+        white: append_text(&mut texts, text, pairs, WHITE_NAME)?,
+        event: append_text(&mut texts, text, pairs, EVENT)?,
+        place: append_text(&mut texts, text, pairs, PLACE)?,
+        date: append_text(&mut texts, text, pairs, DATE)?,
+    };
+    append_text(&mut texts, text, pairs, RESULT)?;
+    texts.shrink_to_fit();
+    Ok(Info::new(texts, ends))
 }
 
-// The first value of a property as SimpleText; the empty text where there is none.
-fn text_of(
-    alloc: Global,
+// Appends the first value of a property as SimpleText, where there is one, and answers where it
+// ends.
+fn append_text(
+    texts: &mut Vec<u8>,
     text: &[u8],
     pairs: &[Pair],
     identifier: Identifier,
-) -> Result<Bytes, NoMemory>
+) -> Result<u32, NoMemory>
     requires inside { All (LiesIn (length text.now)) pairs.now }
-    ensures { IfOk result (IsTextOf text.now (first_in text.now pairs.now (letters identifier))) }
+    requires room { length texts.old.items + length text.now < 4294967296 }
+    ensures grown { IfOk result (λ _. HasGrownBy
+        (IsTextOf text.now (first_in text.now pairs.now (letters identifier)))
+        texts.old.items texts.new.items) }
+    ensures end { IfOk result (λ end. end ≡ length texts.new.items) }
+    ensures most { IfOk result (λ end. end ≤ length texts.old.items + length text.now) }
 {
-    match first_value(text, pairs, identifier) {
-        None => Ok(Bytes::new(Vec::new(alloc))),
-        Some(pair) => simple_text(alloc, bytes_of(text, pair.value)),
+    if let Some(pair) = first_value(text, pairs, identifier) {
+        append_simple_text(texts, bytes_of(text, pair.value))?;
     }
+    Ok(texts.len() as u32)
 }

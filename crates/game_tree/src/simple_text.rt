@@ -19,25 +19,24 @@ ghost use Rattle.std.specs.Prelude.{
 ghost use Rattle.std.specs.Option.{option_to_list};
 ghost use Rattle.sgf_reader.specs.Bytes.{CR, LF, backslash};
 ghost use Rattle.game_tree.specs.SimpleText.{BreaksLine, IsReadAs, IsSimpleText};
+ghost use Rattle.game_tree.specs.StoredInfo.{HasGrownBy};
 
-use crate::Bytes;
 use kb_geometry::NoMemory;
-use std::alloc::Global;
 
-// A value, read as SimpleText. The only error is `NoMemory`.
-pub(crate) fn simple_text(alloc: Global, value: &[u8]) -> Result<Bytes, NoMemory>
-    ensures { IfOk result (λ text. IsSimpleText value.now text) }
+// Appends a value, read as SimpleText. The only error is `NoMemory`.
+pub(crate) fn append_simple_text(out: &mut Vec<u8>, value: &[u8]) -> Result<(), NoMemory>
+    ensures { IfOk result
+        (λ _. HasGrownBy (IsSimpleText value.now) out.old.items out.new.items) }
 {
-    let mut text = Vec::new(alloc);
     let mut rest = value;
     while !rest.is_empty() {
         let (read, others) = next_byte(rest);
         if let Some(b) = read {
-            text.push(b)?;
+            out.push(b)?;
         }
         rest = others;
     }
-    Ok(Bytes::new(text))
+    Ok(())
 }
 
 // What the first bytes of a text are read as, if they are read as anything, and what stands behind

@@ -1,4 +1,4 @@
-use super::simple_text;
+use super::append_simple_text;
 use std::test::Fail;
 
 // Each with what it is read as.
@@ -35,7 +35,8 @@ const TEXTS: [(&str, &str); 27] = [
 #[test]
 fn simple_texts(rt: HostRuntime) -> Result<(), Fail> {
     for (value, text) in TEXTS {
-        let read = simple_text(rt.alloc(), value.as_bytes())?;
+        let mut read = Vec::new(rt.alloc());
+        append_simple_text(&mut read, value.as_bytes())?;
         assert_eq!(rt; read.as_slice(), text.as_bytes(), "{value}");
     }
     Ok(())

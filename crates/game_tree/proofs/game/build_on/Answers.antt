@@ -1,4 +1,5 @@
 use Rattle.std.proofs.Common.{ap, Err, sym, ◌∙◌, arith}
+use Rattle.game_tree.proofs.BuiltGames.{of_text}
 use Rattle.game_tree.proofs.NodeValues.{same_error}
 use Rattle.game_tree.proofs.WholeGames.{all-clean, others-bad, root-bad, root-built, root-next, root-parent, root-there, shallow, simple-texts}
 use Rattle.game_tree.proofs.game.build_on.Goals as goal
@@ -33,7 +34,10 @@ returns-in-Err-read_others-clause-fault c = λ f e.
     others-bad c.args.text.now c.args.raw.now c.requires.read _ _ (sym c.as_slice.ensures ∙ c.root_and_others.ensures) c.args.shape c.requires.board c.args.game f c.requires.game c.in_default.ensures.ok.0 (c.in-Err-read_others.ensures.fault f (ap Err (same_error _ _ e)))
 
 pub information-requires : goal.information-requires
-information-requires c = record { inside = rw c.as_slice-2.ensures (root-next c.args.text.now c.args.raw.now c.requires.read _ _ (sym c.as_slice.ensures ∙ c.root_and_others.ensures) c.args.shape).inside }
+information-requires c = record {
+  inside = rw c.as_slice-2.ensures (root-next c.args.text.now c.args.raw.now c.requires.read _ _ (sym c.as_slice.ensures ∙ c.root_and_others.ensures) c.args.shape).inside;
+  short = (of_text c.args.text.now c.args.raw.now c.requires.read).2;
+}
 
 pub finish-requires-clause-depth : goal.finish-requires-clause-depth
 finish-requires-clause-depth c =
