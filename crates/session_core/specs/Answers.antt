@@ -12,9 +12,9 @@ use Rattle.query_script.specs.Texts.{double_text, doubles_head, game_head, no_ga
 use Rattle.info_filter.specs.declared.filter.Filter.{Filter}
 use Rattle.info_filter.specs.Players.{IsPlayersTable, TableRow}
 use Rattle.node_position.specs.Games.{Game}
-use Rattle.session_core.specs.Doubles.{AreKindsOf, Group, Kind, groups_of}
+use Rattle.session_core.specs.Doubles.{AreKeysOf, DoubleKey, Group, groups_of}
 use Rattle.session_core.specs.Hits.{AreHits}
-use Rattle.session_core.specs.Signed.{AreFound, SignedGame}
+use Rattle.session_core.specs.Signed.{AreGamesFound, FoundGame}
 
 -- What a statement is answered from: the number of a version, and its games.
 pub record View : Type 0 where
@@ -49,11 +49,11 @@ pub data IsGameText (line : ℕ) (view : View) (number : ℕ) : List ℕ → Typ
 -- the text of the games whose signature matches a pattern
 pub record IsSignatureText (line : ℕ) (view : View) (pattern : List ℕ)
     (text : List ℕ) : Type 0 where
-  pub found : List SignedGame
-  pub are_found : AreFound pattern view.games found
+  pub found : List FoundGame
+  pub are_found : AreGamesFound pattern view.games found
   pub text_is : text
       ≡ signature_head line view.version (length view.games) (length found)
-      ++ flat_map (λ (s : SignedGame). signed_game_text s.game s.form) found
+      ++ flat_map (λ (s : FoundGame). signed_game_text s.game s.form) found
 
 -- the text of the players: their table
 pub record IsPlayersText (line : ℕ) (view : View) (text : List ℕ) : Type 0 where
@@ -63,11 +63,11 @@ pub record IsPlayersText (line : ℕ) (view : View) (text : List ℕ) : Type 0 w
 
 -- the text of the groups of double games
 pub record IsDoublesText (line : ℕ) (view : View) (text : List ℕ) : Type 0 where
-  pub kinds : List Kind
-  pub are_kinds : AreKindsOf view.games kinds
+  pub keys : List DoubleKey
+  pub are_keys : AreKeysOf view.games keys
   pub text_is : text
-      ≡ doubles_head line view.version (length view.games) (length (groups_of kinds))
-      ++ flat_map (λ (g : Group). double_text g.form g.games) (groups_of kinds)
+      ≡ doubles_head line view.version (length view.games) (length (groups_of keys))
+      ++ flat_map (λ (g : Group). double_text g.form g.games) (groups_of keys)
 
 -- The text of a statement over what is seen of the base. Other statements have none.
 abbrev pub IsAnswer : ℕ → View → Statement → List ℕ → Type 0

@@ -5,7 +5,7 @@ use Rattle.info_filter.specs.Day.{IsDayOf}
 use Rattle.dyer_signature.specs.Signatures.{IsSignatureOn}
 use Rattle.node_position.specs.Games.{AreNodeChanges, Game}
 use Rattle.session_core.specs.declared.stored.Stored.{Stored}
-use Rattle.session_core.specs.Signed.{IsSigned}
+use Rattle.session_core.specs.Signed.{HasSignature}
 
 -- the game that is stored
 abbrev pub game_of : Stored → Game
@@ -26,5 +26,5 @@ pub record IsOfItsTree (stored : Stored) : Type 0 where
   pub day : IsDayOf stored.tree.info.date stored.day
   pub outcome : stored.outcome ≡ outcome_of stored.tree.info.outcome_text
   pub signature : List ℕ
-  pub signed : IsSigned stored.tree signature stored.canonical.bytes
+  pub signed : HasSignature stored.tree signature stored.canonical.bytes
   pub on_board : IsSignatureOn stored.tree.shape stored.canonical.bytes

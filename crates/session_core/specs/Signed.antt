@@ -7,28 +7,28 @@ use Rattle.dyer_signature.specs.Signatures.{IsSignatureOf}
 use Rattle.node_position.specs.Games.{Game}
 
 -- the signature of a game, and its canonical form
-pub record IsSigned (tree : Tree) (signature form : List ℕ) : Type 0 where
+pub record HasSignature (tree : Tree) (signature form : List ℕ) : Type 0 where
   pub of_tree : IsSignatureOf tree signature
   pub canonical : IsCanonicalForm tree.shape signature form
 
 -- a game that was found by its signature: its number, and the canonical form
-pub record SignedGame : Type 0 where
+pub record FoundGame : Type 0 where
   pub game : ℕ
   pub form : List ℕ
 
 -- The games whose signature matches a pattern, in order. They are numbered from 0.
-pub data AreFound (pattern : List ℕ) : List Game → List SignedGame → Type 0 where
-  nothing : AreFound pattern [] []
-  found : {games : List Game} {found : List SignedGame} (game : Game)
+pub data AreGamesFound (pattern : List ℕ) : List Game → List FoundGame → Type 0 where
+  nothing : AreGamesFound pattern [] []
+  found : {games : List Game} {found : List FoundGame} (game : Game)
       (signature form : List ℕ) →
-      AreFound pattern games found →
-      IsSigned game.tree signature form →
+      AreGamesFound pattern games found →
+      HasSignature game.tree signature form →
       Matches game.tree.shape signature pattern →
-      AreFound pattern (games ++ game ∷ [])
+      AreGamesFound pattern (games ++ game ∷ [])
       (found ++ record { game = length games; form = form } ∷ [])
-  left_out : {games : List Game} {found : List SignedGame} (game : Game)
+  left_out : {games : List Game} {found : List FoundGame} (game : Game)
       (signature form : List ℕ) →
-      AreFound pattern games found →
-      IsSigned game.tree signature form →
+      AreGamesFound pattern games found →
+      HasSignature game.tree signature form →
       ¬ Matches game.tree.shape signature pattern →
-      AreFound pattern (games ++ game ∷ []) found
+      AreGamesFound pattern (games ++ game ∷ []) found

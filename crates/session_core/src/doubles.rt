@@ -1,6 +1,6 @@
-// The groups of double games. indexmap keeps the kinds of games in the order of first sight.
+// The groups of double games. indexmap keeps their keys in the order of first sight.
 ghost use Rattle.std.specs.Prelude.{◌≡◌, ◌++◌, ◌∷◌, ◌<◌, [], List, IfOk, OnOk, length, map};
-ghost use Rattle.session_core.specs.Doubles.{AreKindsOf, groups_of};
+ghost use Rattle.session_core.specs.Doubles.{AreKeysOf, groups_of};
 ghost use Rattle.session_core.specs.Games.{IsOfItsTree, games_of};
 
 use crate::stored::Stored;
@@ -11,66 +11,72 @@ use std::alloc::Global;
 
 // What double games have in common: the board, and the canonical form of the signature.
 #[derive(Clone, Copy, Debug, PartialEq, Eq, Hash)]
-pub(crate) struct Kind {
+pub(crate) struct DoubleKey {
     pub(crate) shape: Shape,
-    pub(crate) canonical: Signature,
+    pub(crate) form: Signature,
 }
 
-impl Kind {
-    // The kind of a game.
-    fn of(game: &Stored) -> Kind {
-        Kind {
+impl DoubleKey {
+    // The key of a game.
+    fn of(game: &Stored) -> DoubleKey {
+        DoubleKey {
             shape: game.tree.shape(),
-            canonical: game.canonical,
+            form: game.canonical,
         }
     }
 
     // Whether a byte of the signature isn't `?`.
     fn tells_a_point(&self) -> bool {
-        self.canonical.bytes != [b'?'; 12]
+        self.form.bytes != [b'?'; 12]
     }
 }
 
-// The numbers of the games of one kind, ascending. A game that is the only one of its kind takes no
-// list.
+// The numbers of the games with one key, ascending. A game that is the only one takes no list.
 #[derive(Debug, Drop)]
 pub(crate) struct Numbers {
     pub(crate) first: u32,
     pub(crate) others: Vec<u32>,
 }
 
-// The games of each kind, in the order in which the kinds are seen first.
-pub(crate) type Kinds = IndexMap<Kind, Numbers>;
+// The games with each key, in the order in which the keys are seen first.
+pub(crate) type GamesByKey = IndexMap<DoubleKey, Numbers>;
 
-// The games of each kind. The only error is `NoMemory`.
-pub(crate) fn kinds_of(alloc: Global, games: &[Stored]) -> Result<Kinds, NoMemory>
-{
-    let mut kinds = IndexMap::new(alloc);
+// The games with each key. The only error is `NoMemory`.
+pub(crate) fn games_by_key(alloc: Global, games: &[Stored]) -> Result<GamesByKey, NoMemory> {
+    let mut by_key = IndexMap::new(alloc);
     for number in 0..games.len() {
-        add_game(alloc, &mut kinds, Kind::of(&games[number]), number as u32)?;
+        add_game(
+            alloc,
+            &mut by_key,
+            DoubleKey::of(&games[number]),
+            number as u32,
+        )?;
     }
-    Ok(kinds)
+    Ok(by_key)
 }
 
-// Adds the number of a game of this kind.
-fn add_game(alloc: Global, kinds: &mut Kinds, kind: Kind, number: u32) -> Result<(), NoMemory>
-{
-    match kinds.get_mut(&kind) {
+// Adds the number of a game with this key.
+fn add_game(
+    alloc: Global,
+    by_key: &mut GamesByKey,
+    key: DoubleKey,
+    number: u32,
+) -> Result<(), NoMemory> {
+    match by_key.get_mut(&key) {
         Some(numbers) => numbers.others.push(number)?,
         None => {
             let numbers = Numbers {
                 first: number,
                 others: Vec::new(alloc),
             };
-            kinds.insert(kind, numbers)?;
+            by_key.insert(key, numbers)?;
         }
     }
     Ok(())
 }
 
-// Whether the games of a kind are a group of double games: there are two or more, and the
+// Whether the games with a key are a group of double games: there are two or more, and the
 // signature tells a point.
-pub(crate) fn are_group(kind: &Kind, numbers: &Numbers) -> bool
-{
-    !numbers.others.is_empty() && kind.tells_a_point()
+pub(crate) fn are_group(key: &DoubleKey, numbers: &Numbers) -> bool {
+    !numbers.others.is_empty() && key.tells_a_point()
 }

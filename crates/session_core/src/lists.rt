@@ -15,7 +15,7 @@ ghost use Rattle.session_core.specs.Answers.{IsDoublesText, IsPlayersText, IsSig
 ghost use Rattle.session_core.specs.Games.{IsOfItsTree};
 ghost use Rattle.session_core.specs.Stores.{view_of};
 
-use crate::doubles::{Kinds, are_group, kinds_of};
+use crate::doubles::{GamesByKey, are_group, games_by_key};
 use crate::stored::Stored;
 use dyer_signature::{SigPattern, matches};
 use info_filter::Players;
@@ -51,8 +51,7 @@ pub(crate) fn append_signature(
 
 // The numbers of the games whose signature matches a pattern, ascending. The only error is
 // `NoMemory`.
-fn found_by(alloc: Global, pattern: &SigPattern, games: &[Stored]) -> Result<Vec<u32>, NoMemory>
-{
+fn found_by(alloc: Global, pattern: &SigPattern, games: &[Stored]) -> Result<Vec<u32>, NoMemory> {
     let mut found = Vec::new(alloc);
     for number in 0..games.len() {
         let game = &games[number];
@@ -107,23 +106,22 @@ pub(crate) fn append_doubles(
         × (out.new.items ≡ out.old.items ++ text)) }
     ensures refused { OnErr result (IsPrefix out.old.items out.new.items) }
 {
-    let kinds = kinds_of(alloc, games)?;
-    let groups = count_groups(&kinds);
+    let by_key = games_by_key(alloc, games)?;
+    let groups = count_groups(&by_key);
     print_doubles_head(line, number, games.len() as u32, groups, out)?;
-    for (kind, numbers) in &kinds {
-        if are_group(kind, numbers) {
-            print_double(&kind.canonical, numbers.first, numbers.others.as_slice(), out)?;
+    for (key, numbers) in &by_key {
+        if are_group(key, numbers) {
+            print_double(&key.form, numbers.first, numbers.others.as_slice(), out)?;
         }
     }
     Ok(())
 }
 
 // How many groups of double games there are.
-fn count_groups(kinds: &Kinds) -> usize
-{
+fn count_groups(by_key: &GamesByKey) -> usize {
     let mut groups = 0;
-    for (kind, numbers) in kinds {
-        if are_group(kind, numbers) {
+    for (key, numbers) in by_key {
+        if are_group(key, numbers) {
             groups += 1;
         }
     }

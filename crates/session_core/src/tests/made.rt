@@ -101,7 +101,10 @@ pub(crate) fn search_text(
     let games = games_of(alloc, files)?;
     assert!(rt; games.len() <= MAX_BASE_GAMES as usize);
     let mut out = Vec::new(alloc);
-    let statement = Statement::Search { query, filter: all(alloc) };
+    let statement = Statement::Search {
+        query,
+        filter: all(alloc),
+    };
     Session::new().answer(alloc, LINE, &statement, VERSION, &games, &mut out)?;
     Ok(String::from_utf8(out)?)
 }
