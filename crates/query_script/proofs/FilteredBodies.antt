@@ -108,7 +108,7 @@ pub filtered_parts : (words body asked : List Word) (query : Query) (filter : Fi
     IsFilteredBody words query filter → IsBody body query × AreJoined (codes "where") filter.conditions asked
 filtered_parts words body asked query filter split before from is =
     let (bodies, askeds) = split_once IsOther is.body body is.asked asked (body-no_where is.body query is.body_is) before
-        (asked_first is.asked (joined-asked filter.conditions is.asked is.asked_is)) (asked_first asked from) (sym is.split ∙ split) in
+    (asked_first is.asked (joined-asked filter.conditions is.asked is.asked_is)) (asked_first asked from) (sym is.split ∙ split) in
     (subst (λ l. IsBody l query) bodies is.body_is, subst (AreJoined (codes "where") filter.conditions) askeds is.asked_is)
 
 -- words that are parted before the first `where`

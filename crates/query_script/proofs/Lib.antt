@@ -20,3 +20,4 @@ pub mod ToldStatements
 pub mod SomeStatements
 pub mod OneList
 mod PlayerRows
+mod JoinedConditions

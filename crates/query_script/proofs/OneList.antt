@@ -70,7 +70,7 @@ module _ (lines : List (List ℕ)) (first : ℕ) where
   search_same : (s t : PlacedSearch) → IsSearchOf lines first s → IsSearchOf lines first t → t.line ≡ s.line → t ≡ s
   search_same s t one other same =
       let both = search_once (line_at lines s.line) t.query s.query t.filter s.filter
-          (subst (λ n. SpellsSearch (line_at lines n) t.query t.filter) same other.spelled) one.spelled in
+      (subst (λ n. SpellsSearch (line_at lines n) t.query t.filter) same other.spelled) one.spelled in
       same_placed_search t s same both.0 both.1
 
   searches_there : (a b : List PlacedSearch) → AreSearchesOf lines first a → AreSearchesOf lines first b →

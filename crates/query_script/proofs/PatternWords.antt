@@ -125,6 +125,6 @@ pub pattern-no_where : (pattern : Pattern) (words : List Word) → IsPattern pat
 pattern-no_where pattern words (text, only, spells) =
     subst (All (λ (w : Word). w ≢ bare (codes "where"))) (sym only)
     (All-cons (λ (w : Word). w ≢ bare (codes "where")) (bare text) [] (λ is.
-        let same : text ≡ codes "where" = cc in
-        (spelled-plain text (grid_of pattern) spells 0).no_where (ap (λ t. get_or t 0 0) same))
+    let same : text ≡ codes "where" = cc in
+    (spelled-plain text (grid_of pattern) spells 0).no_where (ap (λ t. get_or t 0 0) same))
     (All-nil (λ (w : Word). w ≢ bare (codes "where"))))

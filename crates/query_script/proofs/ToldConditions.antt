@@ -156,25 +156,45 @@ told_kind name (word.Bare bytes) = elim (told_text bytes name) [
 
 told_quoted : (kind : Word) (text : List ℕ) → ToldCondition kind (word.Quoted text)
 told_quoted kind text = elim (told_kind (codes "player") kind) [
-  | inl is ↦ inl (condition.Player text, (is, refl), λ other spelled.
-    let (t, same, made) = player_alone other kind (word.Quoted text) is spelled in
-    made ∙ ap (λ b. condition.Player b) (sym (same_quoted text t same)))
+  | inl is ↦ inl (
+    condition.Player text,
+    (is, refl),
+    λ other spelled.
+        let (t, same, made) = player_alone other kind (word.Quoted text) is spelled in
+        made ∙ ap (λ b. condition.Player b) (sym (same_quoted text t same)),
+  )
   | inr player ↦ elim (told_kind (codes "black") kind) [
-    | inl is ↦ inl (condition.Black text, (is, refl), λ other spelled.
-      let (t, same, made) = black_alone other kind (word.Quoted text) is spelled in
-      made ∙ ap (λ b. condition.Black b) (sym (same_quoted text t same)))
+    | inl is ↦ inl (
+      condition.Black text,
+      (is, refl),
+      λ other spelled.
+          let (t, same, made) = black_alone other kind (word.Quoted text) is spelled in
+          made ∙ ap (λ b. condition.Black b) (sym (same_quoted text t same)),
+    )
     | inr black ↦ elim (told_kind (codes "white") kind) [
-      | inl is ↦ inl (condition.White text, (is, refl), λ other spelled.
-        let (t, same, made) = white_alone other kind (word.Quoted text) is spelled in
-        made ∙ ap (λ b. condition.White b) (sym (same_quoted text t same)))
+      | inl is ↦ inl (
+        condition.White text,
+        (is, refl),
+        λ other spelled.
+            let (t, same, made) = white_alone other kind (word.Quoted text) is spelled in
+            made ∙ ap (λ b. condition.White b) (sym (same_quoted text t same)),
+      )
       | inr white ↦ elim (told_kind (codes "event") kind) [
-        | inl is ↦ inl (condition.Event text, (is, refl), λ other spelled.
-          let (t, same, made) = event_alone other kind (word.Quoted text) is spelled in
-          made ∙ ap (λ b. condition.Event b) (sym (same_quoted text t same)))
+        | inl is ↦ inl (
+          condition.Event text,
+          (is, refl),
+          λ other spelled.
+              let (t, same, made) = event_alone other kind (word.Quoted text) is spelled in
+              made ∙ ap (λ b. condition.Event b) (sym (same_quoted text t same)),
+        )
         | inr event ↦ elim (told_kind (codes "place") kind) [
-          | inl is ↦ inl (condition.Place text, (is, refl), λ other spelled.
-            let (t, same, made) = place_alone other kind (word.Quoted text) is spelled in
-            made ∙ ap (λ b. condition.Place b) (sym (same_quoted text t same)))
+          | inl is ↦ inl (
+            condition.Place text,
+            (is, refl),
+            λ other spelled.
+                let (t, same, made) = place_alone other kind (word.Quoted text) is spelled in
+                made ∙ ap (λ b. condition.Place b) (sym (same_quoted text t same)),
+          )
           | inr place ↦ inr (no_text_condition kind text player black white event place)
         ]
       ]
@@ -246,25 +266,37 @@ told_result kind bytes name = elim (told_outcome bytes) [
   | inr never ↦ inr (λ c spelled.
       let (o, same, made) = result_alone c kind (bare bytes) name spelled in
       never o (same_bare bytes (outcome_word o) same))
-  | inl (o, is) ↦ inl (condition.Result o, (name, ap (λ b. bare b) is), λ other spelled.
-      let (p, same, made) = result_alone other kind (bare bytes) name spelled in
-      made ∙ ap (λ b. condition.Result b) (same_outcome p o (sym (same_bare bytes (outcome_word p) same) ∙ is)))
+  | inl (o, is) ↦ inl (
+    condition.Result o,
+    (name, ap (λ b. bare b) is),
+    λ other spelled.
+        let (p, same, made) = result_alone other kind (bare bytes) name spelled in
+        made ∙ ap (λ b. condition.Result b) (same_outcome p o (sym (same_bare bytes (outcome_word p) same) ∙ is)),
+  )
 ]
 
 told_from : (kind : Word) (bytes : List ℕ) → kind ≡ bare (codes "from") → ToldCondition kind (bare bytes)
 told_from kind bytes name = elim (told_written_day bytes) [
   | inr never ↦ inr (no_from_day kind bytes name never)
-  | inl (d, written) ↦ inl (condition.From d, (bytes, name, refl, written), λ other spelled.
-      let (k, text, same, written_too, made) = from_alone other kind (bare bytes) name spelled in
-      made ∙ ap (λ b. condition.From b) (written_once bytes k d (subst (λ b. IsWrittenDay b k) (sym (same_bare bytes text same)) written_too) written))
+  | inl (d, written) ↦ inl (
+    condition.From d,
+    (bytes, name, refl, written),
+    λ other spelled.
+        let (k, text, same, written_too, made) = from_alone other kind (bare bytes) name spelled in
+        made ∙ ap (λ b. condition.From b) (written_once bytes k d (subst (λ b. IsWrittenDay b k) (sym (same_bare bytes text same)) written_too) written),
+  )
 ]
 
 told_to : (kind : Word) (bytes : List ℕ) → kind ≡ bare (codes "to") → ToldCondition kind (bare bytes)
 told_to kind bytes name = elim (told_written_day bytes) [
   | inr never ↦ inr (no_to_day kind bytes name never)
-  | inl (d, written) ↦ inl (condition.To d, (bytes, name, refl, written), λ other spelled.
-      let (k, text, same, written_too, made) = to_alone other kind (bare bytes) name spelled in
-      made ∙ ap (λ b. condition.To b) (written_once bytes k d (subst (λ b. IsWrittenDay b k) (sym (same_bare bytes text same)) written_too) written))
+  | inl (d, written) ↦ inl (
+    condition.To d,
+    (bytes, name, refl, written),
+    λ other spelled.
+        let (k, text, same, written_too, made) = to_alone other kind (bare bytes) name spelled in
+        made ∙ ap (λ b. condition.To b) (written_once bytes k d (subst (λ b. IsWrittenDay b k) (sym (same_bare bytes text same)) written_too) written),
+  )
 ]
 
 told_condition : (kind value : Word) → ToldCondition kind value
@@ -278,6 +310,13 @@ told_condition kind (word.Bare bytes) = elim (told_kind (codes "result") kind) [
       | inr to_ ↦ inr (no_bare_condition kind bytes result from to_)
     ]
   ]
+]
+
+-- two words spell one condition at most
+pub condition_once : (kind value : Word) (c d : Condition) → IsCondition c kind value → IsCondition d kind value → c ≡ d
+condition_once kind value c d one other = elim (told_condition kind value) [
+  | inl (e, is, only) ↦ only c one ∙ sym (only d other)
+  | inr never ↦ absurd (never c one)
 ]
 
 -- ---- conditions that are joined

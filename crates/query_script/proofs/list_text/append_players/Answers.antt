@@ -1,4 +1,4 @@
-use Rattle.std.proofs.Common.{◌≡◌, ◌∙◌, ◌++◌, List, ap, append_assoc, length, refl, sym}
+use Rattle.std.proofs.Common.{◌∙◌, ◌++◌, List, ap, append_assoc, length}
 use Rattle.std.proofs.lemmas.Iterator.Consumers.{YieldsList-end, YieldsList-from_first}
 use Rattle.std.specs.List.{flat_map}
 use Rattle.info_filter.specs.Players.{TableRow}
