@@ -28,8 +28,8 @@ first_there text shown end (white, is, skipped) first made longest = record {
 }
 
 -- a list is parted in one way only where the first element without a property stands
-split_once : (P : ℕ → Type 0) (xs ys rest more : List ℕ) → All P xs → All P ys →
-    ((b : ℕ) (r : List ℕ) → rest ≡ b ∷ r → ¬ P b) → ((b : ℕ) (r : List ℕ) → more ≡ b ∷ r → ¬ P b) →
+pub split_once : {X : Type 0} (P : X → Type 0) (xs ys rest more : List X) → All P xs → All P ys →
+    ((b : X) (r : List X) → rest ≡ b ∷ r → ¬ P b) → ((b : X) (r : List X) → more ≡ b ∷ r → ¬ P b) →
     xs ++ rest ≡ ys ++ more → (xs ≡ ys) × (rest ≡ more)
 split_once P [] [] rest more all all' none none' e = (refl, e)
 split_once P [] (y ∷ ys) rest more all all' none none' e = absurd (none y (ys ++ more) e (All-head P y ys all'))

@@ -62,7 +62,7 @@ module _ (lines : List (List ℕ)) where
   skipped_fine k is (spells_nothing some _ _ _) = some is.0
   skipped_fine k is (ends_no_block ends _) = is.2 ends
   skipped_fine k is (ends_empty_block j ends _ _) = is.2 ends
-  skipped_fine k is (one_search_too_many j query spelled _ _) = is.3 (statement.Search query) spelled
+  skipped_fine k is (one_search_too_many j query filter spelled _ _) = is.3 (statement.Search query filter) spelled
   skipped_fine k is (block_inside_block j begins _) = is.1 begins
   skipped_fine k is (statement_inside_block j s spelled _ _) = is.3 s spelled
   skipped_fine k is (never_ended begins _) = is.1 begins
@@ -72,7 +72,7 @@ module _ (lines : List (List ℕ)) where
   alone_fine k s outside is (spells_nothing _ _ _ nothing) = nothing s is.0
   alone_fine k s outside is (ends_no_block ends _) = is.3 ends
   alone_fine k s outside is (ends_empty_block j ends _ _) = is.3 ends
-  alone_fine k s outside is (one_search_too_many j query _ within _) = outside j within
+  alone_fine k s outside is (one_search_too_many j query filter _ within _) = outside j within
   alone_fine k s outside is (block_inside_block j begins _) = is.2 begins
   alone_fine k s outside is (statement_inside_block j other _ _ within) = outside j within
   alone_fine k s outside is (never_ended begins _) = is.2 begins
@@ -82,7 +82,7 @@ module _ (lines : List (List ℕ)) where
   ended_fine j e outside is behind end (spells_nothing _ other _ _) = other is.0
   ended_fine j e outside is behind end (ends_no_block ends _) = is.2 ends
   ended_fine j e outside is behind end (ends_empty_block i ends _ _) = is.2 ends
-  ended_fine j e outside is behind end (one_search_too_many i query spelled _ _) = is.3 (statement.Search query) spelled
+  ended_fine j e outside is behind end (one_search_too_many i query filter spelled _ _) = is.3 (statement.Search query filter) spelled
   ended_fine j e outside is behind end (block_inside_block i _ within) = outside i within
   ended_fine j e outside is behind end (statement_inside_block i s spelled _ _) = is.3 s spelled
   ended_fine j e outside is behind end (never_ended _ none) = none e behind end

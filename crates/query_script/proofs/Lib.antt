@@ -14,6 +14,10 @@ pub mod LineStatements
 pub mod ToldWords
 pub mod OnePattern
 pub mod ToldSearches
+pub mod ToldConditions
+pub mod FilteredBodies
 pub mod ToldStatements
 pub mod SomeStatements
 pub mod OneList
+mod PlayerRows
+mod JoinedConditions

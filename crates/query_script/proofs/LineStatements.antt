@@ -1,14 +1,16 @@
 -- What the words of a line spell, and what a line is.
 use Rattle.std.proofs.Common.{◌≡◌, ◌≢◌, ◌∙◌, ℕ, List, [], ◌∷◌, Option, Some, None, Result, Ok, Err, IfOk, IfNone, codes, refl, sym, subst, inl, inr, arith}
 use Rattle.pattern_images.specs.declared.query.Query.{Query}
+use Rattle.dyer_signature.specs.declared.bytes.SigPattern.{SigPattern}
+use Rattle.info_filter.specs.declared.filter.Filter.{Filter}
 use Rattle.query_script.specs.declared.line.Line.TheVariants as line
 use Rattle.query_script.specs.declared.statement.Statement.{Statement}
 use Rattle.query_script.specs.declared.statement.Statement.TheVariants as statement
 use Rattle.query_script.specs.declared.word.Word.{Word}
+use Rattle.query_script.specs.Conditions.{IsFilteredBody}
 use Rattle.query_script.specs.Lines.{IsLine}
 use Rattle.query_script.specs.Reading.{BeginsWithNoBlank}
 use Rattle.query_script.specs.Script.{IsSearch}
-use Rattle.query_script.specs.Search.{IsBody}
 use Rattle.query_script.specs.Statements.{IsRemark, IsSkipped, IsStatement, SpellsStatement}
 use Rattle.query_script.specs.Words.{AreWords, bare}
 use Rattle.query_script.proofs.LineWords.{AreWords-once, IsBehindBlanks, behind_blanks-once, remark-begins, skipped_words}
@@ -16,23 +18,29 @@ use Rattle.query_script.proofs.LineWords.{AreWords-once, IsBehindBlanks, behind_
 -- ---- the statements that words spell
 
 -- no search where its body is none
-pub search-none : {E : Type 0} (result : Result (Option Query) E) (words rest : List Word) → words ≡ bare (codes "search") ∷ rest → IfOk result (λ found. IfNone found ((query : Query) → ¬ IsBody rest query)) → IfOk result (λ found. IfNone found ((query : Query) → ¬ IsStatement words (statement.Search query)))
-search-none (Ok (Some query)) words rest is none = tt
-search-none (Ok None) words rest is none = λ query (body, name, spelled).
+pub search-none : {E : Type 0} (result : Result (Option (Query × Filter)) E) (words rest : List Word) → words ≡ bare (codes "search") ∷ rest → IfOk result (λ found. IfNone found ((query : Query) (filter : Filter) → ¬ IsFilteredBody rest query filter)) → IfOk result (λ found. IfNone found ((query : Query) (filter : Filter) → ¬ IsStatement words (statement.Search query filter)))
+search-none (Ok (Some found)) words rest is none = tt
+search-none (Ok None) words rest is none = λ query filter (body, name, spelled).
     let both : bare (codes "search") ∷ rest ≡ bare (codes "search") ∷ body = sym is ∙ name in
     let same : body ≡ rest = cc in
-    none query (subst (λ l. IsBody l query) same spelled)
+    none query filter (subst (λ l. IsFilteredBody l query filter) same spelled)
 search-none (Err e) words rest is none = tt
 
 -- no statement of any kind
-pub no_statement : (words : List Word) → ((query : Query) → ¬ IsStatement words (statement.Search query)) → ((path : List ℕ) → ¬ IsStatement words (statement.Import path)) → words ≢ bare (codes "wait") ∷ [] →
-    ((number : ℕ) → ¬ IsStatement words (statement.Until number)) → ((number : ℕ) → ¬ IsStatement words (statement.Game number)) → (s : Statement) → ¬ IsStatement words s
-no_statement words search import_ wait until game (statement.Import path) is = import_ path is
-no_statement words search import_ wait until game statement.Wait is = wait is
-no_statement words search import_ wait until game (statement.Until number) is = until number is
-no_statement words search import_ wait until game (statement.Search query) is = search query is
-no_statement words search import_ wait until game (statement.Together searches) is = is
-no_statement words search import_ wait until game (statement.Game number) is = game number is
+pub no_statement : (words : List Word) →
+    ((query : Query) (filter : Filter) → ¬ IsStatement words (statement.Search query filter)) → ((path : List ℕ) → ¬ IsStatement words (statement.Import path)) → words ≢ bare (codes "wait") ∷ [] →
+    ((number : ℕ) → ¬ IsStatement words (statement.Until number)) → ((pattern : SigPattern) → ¬ IsStatement words (statement.Signature pattern)) →
+    words ≢ bare (codes "players") ∷ [] → words ≢ bare (codes "doubles") ∷ [] → ((number : ℕ) → ¬ IsStatement words (statement.Game number)) →
+    (s : Statement) → ¬ IsStatement words s
+no_statement words searched import_ wait until signature players doubles game (statement.Import path) is = import_ path is
+no_statement words searched import_ wait until signature players doubles game statement.Wait is = wait is
+no_statement words searched import_ wait until signature players doubles game (statement.Until number) is = until number is
+no_statement words searched import_ wait until signature players doubles game (statement.Search query filter) is = searched query filter is
+no_statement words searched import_ wait until signature players doubles game (statement.Together searches) is = is
+no_statement words searched import_ wait until signature players doubles game (statement.Signature pattern) is = signature pattern is
+no_statement words searched import_ wait until signature players doubles game statement.Players is = players is
+no_statement words searched import_ wait until signature players doubles game statement.Doubles is = doubles is
+no_statement words searched import_ wait until signature players doubles game (statement.Game number) is = game number is
 
 -- The bare word with which a statement begins.
 pub data IsKeyword : List ℕ → Type 0 where
@@ -40,14 +48,20 @@ pub data IsKeyword : List ℕ → Type 0 where
   wait_word : IsKeyword (codes "wait")
   until_word : IsKeyword (codes "until")
   search_word : IsKeyword (codes "search")
+  signature_word : IsKeyword (codes "signature")
+  players_word : IsKeyword (codes "players")
+  doubles_word : IsKeyword (codes "doubles")
   game_word : IsKeyword (codes "game")
 
 keyword_of : (words : List Word) (s : Statement) → IsStatement words s → (name : List ℕ) × (rest : List Word) × (words ≡ bare name ∷ rest) × IsKeyword name
 keyword_of words (statement.Import path) (w, is, path_is) = (codes "import", w ∷ [], is, import_word)
 keyword_of words statement.Wait is = (codes "wait", [], is, wait_word)
 keyword_of words (statement.Until number) (w, is, number_is, bound) = (codes "until", w ∷ [], is, until_word)
-keyword_of words (statement.Search query) (body, is, spelled) = (codes "search", body, is, search_word)
+keyword_of words (statement.Search query filter) (body, is, spelled) = (codes "search", body, is, search_word)
 keyword_of words (statement.Together searches) is = absurd is
+keyword_of words (statement.Signature pattern) (is, pattern_is) = (codes "signature", bare pattern.bytes ∷ [], is, signature_word)
+keyword_of words statement.Players is = (codes "players", [], is, players_word)
+keyword_of words statement.Doubles is = (codes "doubles", [], is, doubles_word)
 keyword_of words (statement.Game number) (w, is, number_is, bound) = (codes "game", w ∷ [], is, game_word)
 
 pub not_together : (name : List ℕ) → IsKeyword name → name ≢ codes "together"
@@ -55,6 +69,9 @@ not_together _ import_word e = cc e
 not_together _ wait_word e = cc e
 not_together _ until_word e = cc e
 not_together _ search_word e = cc e
+not_together _ signature_word e = cc e
+not_together _ players_word e = cc e
+not_together _ doubles_word e = cc e
 not_together _ game_word e = cc e
 
 not_end : (name : List ℕ) → IsKeyword name → name ≢ codes "end"
@@ -62,6 +79,9 @@ not_end _ import_word e = cc e
 not_end _ wait_word e = cc e
 not_end _ until_word e = cc e
 not_end _ search_word e = cc e
+not_end _ signature_word e = cc e
+not_end _ players_word e = cc e
+not_end _ doubles_word e = cc e
 not_end _ game_word e = cc e
 
 other_first : (a b : ℕ) (x y : List ℕ) → a ≢ b → a ∷ x ≢ b ∷ y
@@ -72,6 +92,9 @@ not_comment _ rest import_word = other_first 105 35 _ rest (λ e. omega (arith, 
 not_comment _ rest wait_word = other_first 119 35 _ rest (λ e. omega (arith, e))
 not_comment _ rest until_word = other_first 117 35 _ rest (λ e. omega (arith, e))
 not_comment _ rest search_word = other_first 115 35 _ rest (λ e. omega (arith, e))
+not_comment _ rest signature_word = other_first 115 35 _ rest (λ e. omega (arith, e))
+not_comment _ rest players_word = other_first 112 35 _ rest (λ e. omega (arith, e))
+not_comment _ rest doubles_word = other_first 100 35 _ rest (λ e. omega (arith, e))
 not_comment _ rest game_word = other_first 103 35 _ rest (λ e. omega (arith, e))
 
 -- one word is no statement but for its own name
@@ -89,18 +112,28 @@ two_names a b x y words one other is is' differ =
     let first : a ≡ b = cc in
     differ first
 
+-- the names of a search and of a question for signatures
+pub search_or_signature : (words one other : List Word) → words ≡ bare (codes "search") ∷ one → words ≡ bare (codes "signature") ∷ other → ⊥
+search_or_signature words one other is is' =
+    let both : bare (codes "search") ∷ one ≡ bare (codes "signature") ∷ other = sym is ∙ is' in
+    let second : ◌≡◌ {A = ℕ} 101 105 = cc in
+    omega (arith, second)
+
 -- words that spell a search spell no other statement
 search_alone : (words body : List Word) (s : Statement) → words ≡ bare (codes "search") ∷ body → IsStatement words s → IsSearch s
 search_alone words body (statement.Import path) name (w, is, path_is) = absurd (two_names 115 105 _ _ words body _ name is (λ e. omega (arith, e)))
 search_alone words body statement.Wait name is = absurd (two_names 115 119 _ _ words body _ name is (λ e. omega (arith, e)))
 search_alone words body (statement.Until number) name (w, is, number_is, bound) = absurd (two_names 115 117 _ _ words body _ name is (λ e. omega (arith, e)))
-search_alone words body (statement.Search query) name is = (query, refl)
+search_alone words body (statement.Search query filter) name is = (query, filter, refl)
 search_alone words body (statement.Together searches) name is = absurd is
+search_alone words body (statement.Signature pattern) name (is, pattern_is) = absurd (search_or_signature words body _ name is)
+search_alone words body statement.Players name is = absurd (two_names 115 112 _ _ words body _ name is (λ e. omega (arith, e)))
+search_alone words body statement.Doubles name is = absurd (two_names 115 100 _ _ words body _ name is (λ e. omega (arith, e)))
 search_alone words body (statement.Game number) name (w, is, number_is, bound) = absurd (two_names 115 103 _ _ words body _ name is (λ e. omega (arith, e)))
 
 -- a line that spells a search spells no other statement
 pub SpellsStatement-search : (text : List ℕ) (s other : Statement) → SpellsStatement text s → SpellsStatement text other → IsSearch other → IsSearch s
-SpellsStatement-search text s other (words, are, spelled) (others, are_others, spelled_other) (query, is) =
+SpellsStatement-search text s other (words, are, spelled) (others, are_others, spelled_other) (query, filter, is) =
     let (body, name, is_body) = subst (IsStatement others) is spelled_other in
     search_alone words body s (AreWords-once text words others are are_others ∙ name) spelled
 

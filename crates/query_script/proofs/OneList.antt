@@ -5,6 +5,7 @@ use Rattle.std.specs.Prelude.{Contains}
 use Rattle.std.proofs.lemmas.Bool.{cases_lt}
 use Rattle.std.proofs.lemmas.List.{get_or_default}
 use Rattle.pattern_images.specs.declared.query.Query.{Query}
+use Rattle.info_filter.specs.declared.filter.Filter.{Filter}
 use Rattle.kb_geometry.proofs.Lists.{same_order}
 use Rattle.query_script.specs.declared.statement.Placed.{Placed}
 use Rattle.query_script.specs.declared.statement.PlacedSearch.{PlacedSearch}
@@ -28,11 +29,11 @@ spells_once : (text : List ℕ) (s t : Statement) → SpellsStatement text s →
 spells_once text s t (words, are, is) (others, are_others, is_other) =
     statement_once words s t is (subst (λ l. IsStatement l t) (AreWords-once text others words are_others are) is_other)
 
-same_search : (p q : Query) → statement.Search p ≡ statement.Search q → p ≡ q
-same_search p q e = cc
+same_search : (p q : Query) (f g : Filter) → statement.Search p f ≡ statement.Search q g → (p ≡ q) × (f ≡ g)
+same_search p q f g e = (cc, cc)
 
-search_once : (text : List ℕ) (p q : Query) → SpellsSearch text p → SpellsSearch text q → p ≡ q
-search_once text p q one other = same_search p q (spells_once text (statement.Search p) (statement.Search q) one other)
+search_once : (text : List ℕ) (p q : Query) (f g : Filter) → SpellsSearch text p f → SpellsSearch text q g → (p ≡ q) × (f ≡ g)
+search_once text p q f g one other = same_search p q f g (spells_once text (statement.Search p f) (statement.Search q g) one other)
 
 -- a line that begins a block spells no statement
 not_both : (text : List ℕ) (s : Statement) → SpellsTogether text → SpellsStatement text s → ⊥
@@ -60,21 +61,24 @@ module _ {X : Type 0} (line_of : X → ℕ) where
 -- ---- the searches of a block
 
 module _ (lines : List (List ℕ)) (first : ℕ) where
-  same_placed_search : (s t : PlacedSearch) → s.line ≡ t.line → s.query ≡ t.query → s ≡ t
-  same_placed_search s t line query =
-      ap (λ n. record { line = n; query = s.query }) line ∙ ap (λ (q : Query). record { line = t.line; query = q }) query
+  same_placed_search : (s t : PlacedSearch) → s.line ≡ t.line → s.query ≡ t.query → s.filter ≡ t.filter → s ≡ t
+  same_placed_search s t line query filter =
+      ap (λ n. record { line = n; query = s.query; filter = s.filter }) line
+      ∙ ap (λ (q : Query). record { line = t.line; query = q; filter = s.filter }) query
+      ∙ ap (λ (f : Filter). record { line = t.line; query = t.query; filter = f }) filter
 
   search_same : (s t : PlacedSearch) → IsSearchOf lines first s → IsSearchOf lines first t → t.line ≡ s.line → t ≡ s
   search_same s t one other same =
-      same_placed_search t s same
-      (search_once (line_at lines s.line) t.query s.query (subst (λ n. SpellsSearch (line_at lines n) t.query) same other.spelled) one.spelled)
+      let both = search_once (line_at lines s.line) t.query s.query t.filter s.filter
+      (subst (λ n. SpellsSearch (line_at lines n) t.query t.filter) same other.spelled) one.spelled in
+      same_placed_search t s same both.0 both.1
 
   searches_there : (a b : List PlacedSearch) → AreSearchesOf lines first a → AreSearchesOf lines first b →
       (k : ℕ) (d : PlacedSearch) → k < length a → Any (λ (t : PlacedSearch). t ≡ get_or a k d) b
   searches_there a b are_a are_b k d below =
       let s : PlacedSearch = get_or a k d in
       let is : IsSearchOf lines first s = are_a.sound k d below in
-      let (j, t, j_in, j_is, same) = are_b.complete s.line s.query is.there is.within is.spelled in
+      let (j, t, j_in, j_is, same) = are_b.complete s.line s.query s.filter is.there is.within is.spelled in
       (j, t, j_in, j_is, search_same s t is (subst (IsSearchOf lines first) j_is (are_b.sound j t j_in)) same)
 
   one_block_list : (a b : List PlacedSearch) → AreSearchesOf lines first a → AreSearchesOf lines first b → a ≡ b
@@ -90,8 +94,11 @@ module _ (lines : List (List ℕ)) where
   alone_once k s (statement.Import path) one other = spells_once (line_at lines k) s (statement.Import path) one.spelled other.spelled
   alone_once k s statement.Wait one other = spells_once (line_at lines k) s statement.Wait one.spelled other.spelled
   alone_once k s (statement.Until number) one other = spells_once (line_at lines k) s (statement.Until number) one.spelled other.spelled
-  alone_once k s (statement.Search query) one other = spells_once (line_at lines k) s (statement.Search query) one.spelled other.spelled
+  alone_once k s (statement.Search query filter) one other = spells_once (line_at lines k) s (statement.Search query filter) one.spelled other.spelled
   alone_once k s (statement.Together searches) one other = absurd (not_both (line_at lines k) s other.0 one.spelled)
+  alone_once k s (statement.Signature pattern) one other = spells_once (line_at lines k) s (statement.Signature pattern) one.spelled other.spelled
+  alone_once k s statement.Players one other = spells_once (line_at lines k) s statement.Players one.spelled other.spelled
+  alone_once k s statement.Doubles one other = spells_once (line_at lines k) s statement.Doubles one.spelled other.spelled
   alone_once k s (statement.Game number) one other = spells_once (line_at lines k) s (statement.Game number) one.spelled other.spelled
 
   block_once : (k : ℕ) (searches : List PlacedSearch) (t : Statement) → IsStatementAt lines k (statement.Together searches) → IsStatementAt lines k t →
@@ -99,16 +106,22 @@ module _ (lines : List (List ℕ)) where
   block_once k searches (statement.Import path) one other = absurd (not_both (line_at lines k) (statement.Import path) one.0 other.spelled)
   block_once k searches statement.Wait one other = absurd (not_both (line_at lines k) statement.Wait one.0 other.spelled)
   block_once k searches (statement.Until number) one other = absurd (not_both (line_at lines k) (statement.Until number) one.0 other.spelled)
-  block_once k searches (statement.Search query) one other = absurd (not_both (line_at lines k) (statement.Search query) one.0 other.spelled)
+  block_once k searches (statement.Search query filter) one other = absurd (not_both (line_at lines k) (statement.Search query filter) one.0 other.spelled)
   block_once k searches (statement.Together others) one other = ap (λ l. statement.Together l) (one_block_list lines k searches others one.1 other.1)
+  block_once k searches (statement.Signature pattern) one other = absurd (not_both (line_at lines k) (statement.Signature pattern) one.0 other.spelled)
+  block_once k searches statement.Players one other = absurd (not_both (line_at lines k) statement.Players one.0 other.spelled)
+  block_once k searches statement.Doubles one other = absurd (not_both (line_at lines k) statement.Doubles one.0 other.spelled)
   block_once k searches (statement.Game number) one other = absurd (not_both (line_at lines k) (statement.Game number) one.0 other.spelled)
 
   stands_once : (k : ℕ) (s t : Statement) → IsStatementAt lines k s → IsStatementAt lines k t → s ≡ t
   stands_once k (statement.Import path) t one other = alone_once k (statement.Import path) t one other
   stands_once k statement.Wait t one other = alone_once k statement.Wait t one other
   stands_once k (statement.Until number) t one other = alone_once k (statement.Until number) t one other
-  stands_once k (statement.Search query) t one other = alone_once k (statement.Search query) t one other
+  stands_once k (statement.Search query filter) t one other = alone_once k (statement.Search query filter) t one other
   stands_once k (statement.Together searches) t one other = block_once k searches t one other
+  stands_once k (statement.Signature pattern) t one other = alone_once k (statement.Signature pattern) t one other
+  stands_once k statement.Players t one other = alone_once k statement.Players t one other
+  stands_once k statement.Doubles t one other = alone_once k statement.Doubles t one other
   stands_once k (statement.Game number) t one other = alone_once k (statement.Game number) t one other
 
   same_placed : (p q : Placed) → p.line ≡ q.line → p.statement ≡ q.statement → p ≡ q

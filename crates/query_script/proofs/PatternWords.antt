@@ -1,7 +1,8 @@
--- The word of a pattern: its bytes are ASCII, and none of them begins the name of an option.
-use Rattle.std.proofs.Common.{◌≡◌, ◌≢◌, ◌<◌, ◌≤◌, ◌∙◌, ℕ, List, [], ◌∷◌, get_or, length, sym, subst, inl, inr, arith}
+-- The word of a pattern: its bytes are ASCII, and none of them begins the name of an option, or `where`.
+use Rattle.std.proofs.Common.{◌≡◌, ◌≢◌, ◌<◌, ◌≤◌, ◌∙◌, ℕ, List, [], ◌∷◌, All, ap, codes, get_or, length, sym, subst, inl, inr, arith}
 use Rattle.std.proofs.lemmas.Bool.{cases_eq, cases_lt, ne_eqb}
 use Rattle.std.proofs.lemmas.List.{get_or_past}
+use Rattle.std.proofs.lemmas.List.Elements.{All-cons, All-nil}
 use Rattle.std.proofs.lemmas.Str.{IsUtf8-from_ascii}
 use Rattle.std.specs.Str.{IsUtf8}
 use Rattle.pattern_images.specs.declared.cell.PatternCell.{PatternCell}
@@ -18,7 +19,7 @@ use Rattle.query_script.specs.Reading.{BeginsFrom, place_of_option}
 use Rattle.query_script.specs.Search.{IsPattern}
 use Rattle.query_script.specs.Words.{bare}
 
--- The byte is ASCII and none with which the name of an option begins.
+-- The byte is ASCII and none with which the name of an option begins, or `where`.
 pub record IsPlain (byte : ℕ) : Type 0 where
   pub ascii : byte < 128
   pub no_same : byte ≢ 115
@@ -27,6 +28,7 @@ pub record IsPlain (byte : ℕ) : Type 0 where
   pub no_board : byte ≢ 98
   pub no_at : byte ≢ 97
   pub no_to : byte ≢ 116
+  pub no_where : byte ≢ 119
 
 -- what is below all these letters, or one of `x` and `o`
 plain-below : (byte : ℕ) → byte < 97 → IsPlain byte
@@ -38,6 +40,7 @@ plain-below byte below = record {
   no_board = λ e. omega (arith, e);
   no_at = λ e. omega (arith, e);
   no_to = λ e. omega (arith, e);
+  no_where = λ e. omega (arith, e);
 }
 
 plain-x : IsPlain small_x
@@ -49,6 +52,7 @@ plain-x = record {
   no_board = λ e. omega (arith, e);
   no_at = λ e. omega (arith, e);
   no_to = λ e. omega (arith, e);
+  no_where = λ e. omega (arith, e);
 }
 
 plain-o : IsPlain small_o
@@ -60,6 +64,7 @@ plain-o = record {
   no_board = λ e. omega (arith, e);
   no_at = λ e. omega (arith, e);
   no_to = λ e. omega (arith, e);
+  no_where = λ e. omega (arith, e);
 }
 
 cell_byte-plain : (cell : PatternCell) → IsPlain (cell_byte cell)
@@ -114,3 +119,12 @@ plain-place (a ∷ b ∷ rest) plain =
 pub pattern-begins : (pattern : Pattern) (words : List Word) → IsPattern pattern words → BeginsFrom 6 words
 pattern-begins pattern words (text, only, spells) =
     subst (BeginsFrom 6) (sym only) (plain-place text (spelled-plain text (grid_of pattern) spells))
+
+-- the words of a pattern aren't the bare word `where`
+pub pattern-no_where : (pattern : Pattern) (words : List Word) → IsPattern pattern words → All (λ (w : Word). w ≢ bare (codes "where")) words
+pattern-no_where pattern words (text, only, spells) =
+    subst (All (λ (w : Word). w ≢ bare (codes "where"))) (sym only)
+    (All-cons (λ (w : Word). w ≢ bare (codes "where")) (bare text) [] (λ is.
+    let same : text ≡ codes "where" = cc in
+    (spelled-plain text (grid_of pattern) spells 0).no_where (ap (λ t. get_or t 0 0) same))
+    (All-nil (λ (w : Word). w ≢ bare (codes "where"))))

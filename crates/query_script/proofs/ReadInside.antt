@@ -7,6 +7,7 @@ use Rattle.std.proofs.lemmas.List.Quantifiers.{Any-push}
 use Rattle.std.specs.List.{Any}
 use Rattle.kb_geometry.proofs.Lists.{Any-kept}
 use Rattle.pattern_images.specs.declared.query.Query.{Query}
+use Rattle.info_filter.specs.declared.filter.Filter.{Filter}
 use Rattle.query_script.specs.Lines.{IsLine}
 use Rattle.query_script.specs.Progress.{AreReadBefore, IsBlockBegun, IsBroken, IsReadInside, IsLineAt, IsPlacedBefore, IsSearchBefore}
 use Rattle.query_script.specs.Script.{AreSearchesBetween, AreSearchesOf, IsFaultyLine, IsLeastBadLine, IsSearch, IsSearchBetween, IsSearchOf, IsInBlock, IsStatementAt, block_inside_block, ends_empty_block, ends_no_block, line_at, most_searches, never_ended, one_search_too_many, spells_nothing, statement_inside_block}
@@ -49,7 +50,7 @@ module _ (lines : List (List ℕ)) where
 
     -- a search between the first line of the block and line k is one of those so far
     found : (m : ℕ) → IsSearchBetween lines first k m → Any (λ (s : PlacedSearch). s.line ≡ m) searches
-    found m at = h.complete m at.behind at.before (at.query, at.spelled)
+    found m at = h.complete m at.behind at.before (at.query, at.filter, at.spelled)
 
     -- one line more that is not bad, and ends no block
     good_next : ¬ IsFaultyLine lines k → (m : ℕ) → first < m → m < k + 1 → ¬ IsFaultyLine lines m
@@ -64,7 +65,7 @@ module _ (lines : List (List ℕ)) where
       ordered = h.ordered;
       sound = searches_before first k (k + 1) searches (omega arith) h.sound;
       complete = λ m after below spelled. ⊎_elim (λ before. h.complete m after before spelled)
-          (λ same. absurd (at.line.3 (statement.Search spelled.0) (rw same at spelled.1)))
+          (λ same. absurd (at.line.3 (statement.Search spelled.0 spelled.1) (rw same at spelled.2)))
           (lt_or_same m k below);
     }
 
@@ -75,27 +76,27 @@ module _ (lines : List (List ℕ)) where
         omega (arith, many.count_is)
 
     -- a search is not bad where there is room for it
-    search_fine : (query : Query) → length searches < most_searches → IsLine (line_at lines k) (line.Statement (statement.Search query)) → ¬ IsFaultyLine lines k
-    search_fine query room is (spells_nothing _ _ _ nothing) = nothing (statement.Search query) is.0
-    search_fine query room is (ends_no_block ends _) = is.3 ends
-    search_fine query room is (ends_empty_block j ends _ _) = is.3 ends
-    search_fine query room is (one_search_too_many j other spelled inside many) =
+    search_fine : (query : Query) (filter : Filter) → length searches < most_searches → IsLine (line_at lines k) (line.Statement (statement.Search query filter)) → ¬ IsFaultyLine lines k
+    search_fine query filter room is (spells_nothing _ _ _ nothing) = nothing (statement.Search query filter) is.0
+    search_fine query filter room is (ends_no_block ends _) = is.3 ends
+    search_fine query filter room is (ends_empty_block j ends _ _) = is.3 ends
+    search_fine query filter room is (one_search_too_many j other _ spelled inside many) =
         let same = one j inside in
         let most = no_more most_searches (rw same at many) in
         omega arith
-    search_fine query room is (block_inside_block j begins _) = is.2 begins
-    search_fine query room is (statement_inside_block j s spelled other _) = other (SpellsStatement-search (line_at lines k) s (statement.Search query) spelled is.0 (query, refl))
-    search_fine query room is (never_ended begins _) = is.2 begins
+    search_fine query filter room is (block_inside_block j begins _) = is.2 begins
+    search_fine query filter room is (statement_inside_block j s spelled other _) = other (SpellsStatement-search (line_at lines k) s (statement.Search query filter) spelled is.0 (query, filter, refl))
+    search_fine query filter room is (never_ended begins _) = is.2 begins
 
     -- the next line is a search
-    pub search_inside : (query : Query) → length searches < most_searches →
-        IsLineAt lines k (line.Statement (statement.Search query)) →
-        IsReadInside lines (k + 1) placed first (searches ++ record { line = k; query = query } ∷ [])
-    search_inside query room at =
-        let s : PlacedSearch = record { line = k; query = query } in
+    pub search_inside : (query : Query) (filter : Filter) → length searches < most_searches →
+        IsLineAt lines k (line.Statement (statement.Search query filter)) →
+        IsReadInside lines (k + 1) placed first (searches ++ record { line = k; query = query; filter = filter } ∷ [])
+    search_inside query filter room at =
+        let s : PlacedSearch = record { line = k; query = query; filter = filter } in
         record {
           begun = begun_after lines first k placed h.begun at.line.3;
-          good = good_next (search_fine query room at.line);
+          good = good_next (search_fine query filter room at.line);
           few = omega (arith, length_push searches s);
           ordered = searches_in_order s searches h.ordered h.sound;
           sound = All-push (IsSearchBefore lines first (k + 1)) searches s
@@ -119,9 +120,10 @@ module _ (lines : List (List ℕ)) where
           behind = rw same search.within.before;
           before = some_search.1.before;
           query = some_search.0.query;
+          filter = some_search.0.filter;
           spelled = search.spelled;
         })
-    end_fine some is (one_search_too_many j query spelled _ _) = is.3 (statement.Search query) spelled
+    end_fine some is (one_search_too_many j query filter spelled _ _) = is.3 (statement.Search query filter) spelled
     end_fine some is (block_inside_block j begins _) = is.2 begins
     end_fine some is (statement_inside_block j s spelled _ _) = is.3 s spelled
     end_fine some is (never_ended begins _) = is.2 begins
@@ -131,9 +133,9 @@ module _ (lines : List (List ℕ)) where
     all_searches is = record {
       ordered = h.ordered;
       sound = All-weaker (IsSearchBefore lines first k) (IsSearchOf lines first) (λ s at. at.search) searches h.sound;
-      complete = λ m query to inside spelled. elim (cases_order m k) [
-        | inl same ↦ absurd (is.3 (statement.Search query) (rw same at spelled))
-        | inr (inl before) ↦ h.complete m inside.before before (query, spelled)
+      complete = λ m query filter to inside spelled. elim (cases_order m k) [
+        | inl same ↦ absurd (is.3 (statement.Search query filter) (rw same at spelled))
+        | inr (inl before) ↦ h.complete m inside.before before (query, filter, spelled)
         | inr (inr after) ↦ absurd (inside.goes_on k h.begun.before after is.0)
       ];
     }
@@ -198,16 +200,16 @@ module _ (lines : List (List ℕ)) where
       ascending = lines_ascend searches h.ordered;
       searches = All-map (IsSearchBetween lines first k) (λ (s : PlacedSearch). s.line) searches
           (All-weaker (IsSearchBefore lines first k) (λ (s : PlacedSearch). IsSearchBetween lines first k s.line)
-          (λ s at. record { behind = at.search.within.before; before = at.before; query = s.query; spelled = at.search.spelled }) searches h.sound);
+          (λ s at. record { behind = at.search.within.before; before = at.before; query = s.query; filter = s.filter; spelled = at.search.spelled }) searches h.sound);
       count_is = length-map searches (λ (s : PlacedSearch). s.line);
     }
 
     -- one search more than a block may have
-    pub no_room : (query : Query) → most_searches ≤ length searches → IsLineAt lines k (line.Statement (statement.Search query)) → IsBroken lines (k + 1) placed first k
-    no_room query full at =
+    pub no_room : (query : Query) (filter : Filter) → most_searches ≤ length searches → IsLineAt lines k (line.Statement (statement.Search query filter)) → IsBroken lines (k + 1) placed first k
+    no_room query filter full at =
         let few = h.few in
         let count : length searches ≡ most_searches = omega arith in
-        breaks (one_search_too_many first query at.line.0 within (rw count at between)) at.to_last at.line.3
+        breaks (one_search_too_many first query filter at.line.0 within (rw count at between)) at.to_last at.line.3
 
   module _ (k : ℕ) (placed : List Placed) (j bad : ℕ) (h : IsBroken lines k placed j bad) where
     -- behind a bad line of the block no line counts but its end

@@ -18,8 +18,11 @@ pub stands_cases : {lines : List (List ℕ)} {k : ℕ} (s : Statement) → IsSta
 stands_cases (statement.Import path) h = inl h
 stands_cases statement.Wait h = inl h
 stands_cases (statement.Until number) h = inl h
-stands_cases (statement.Search query) h = inl h
+stands_cases (statement.Search query filter) h = inl h
 stands_cases (statement.Together searches) h = inr h.0
+stands_cases (statement.Signature pattern) h = inl h
+stands_cases statement.Players h = inl h
+stands_cases statement.Doubles h = inl h
 stands_cases (statement.Game number) h = inl h
 
 -- what a line outside blocks spells stands there alone
@@ -27,8 +30,11 @@ stands_there : {lines : List (List ℕ)} {k : ℕ} (s : Statement) → SpellsSta
 stands_there (statement.Import path) h outside = record { spelled = h; outside = outside }
 stands_there statement.Wait h outside = record { spelled = h; outside = outside }
 stands_there (statement.Until number) h outside = record { spelled = h; outside = outside }
-stands_there (statement.Search query) h outside = record { spelled = h; outside = outside }
+stands_there (statement.Search query filter) h outside = record { spelled = h; outside = outside }
 stands_there (statement.Together searches) h outside = absurd h.2
+stands_there (statement.Signature pattern) h outside = record { spelled = h; outside = outside }
+stands_there statement.Players h outside = record { spelled = h; outside = outside }
+stands_there statement.Doubles h outside = record { spelled = h; outside = outside }
 stands_there (statement.Game number) h outside = record { spelled = h; outside = outside }
 
 module _ (lines : List (List ℕ)) where

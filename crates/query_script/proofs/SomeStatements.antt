@@ -94,20 +94,26 @@ module _ (lines : List (List ℕ)) where
 
   step_statement : (k : ℕ) (placed : List Placed) (first : ℕ) (searches : List PlacedSearch) → IsReadInside lines k placed first searches →
       (s : Statement) → IsLineAt lines k (line.Statement s) → Step k
-  step_statement k placed first searches h (statement.Search query) at = elim (cases_lt (length searches) most_searches) [
-    | inl room ↦ inl (inside placed first (searches ++ record { line = k; query = query } ∷ []) (search_inside lines k placed first searches h query room at))
-    | inr full ↦ inl (broken placed first k (no_room lines k placed first searches h query full at))
+  step_statement k placed first searches h (statement.Search query filter) at = elim (cases_lt (length searches) most_searches) [
+    | inl room ↦ inl (inside placed first (searches ++ record { line = k; query = query; filter = filter } ∷ []) (search_inside lines k placed first searches h query filter room at))
+    | inr full ↦ inl (broken placed first k (no_room lines k placed first searches h query filter full at))
   ]
   step_statement k placed first searches h (statement.Import path) at =
-      inl (broken placed first k (other_statement lines k placed first searches h (statement.Import path) (λ is. absurd (cc is.1)) at))
+      inl (broken placed first k (other_statement lines k placed first searches h (statement.Import path) (λ is. absurd (cc is.2)) at))
   step_statement k placed first searches h statement.Wait at =
-      inl (broken placed first k (other_statement lines k placed first searches h statement.Wait (λ is. absurd (cc is.1)) at))
+      inl (broken placed first k (other_statement lines k placed first searches h statement.Wait (λ is. absurd (cc is.2)) at))
   step_statement k placed first searches h (statement.Until number) at =
-      inl (broken placed first k (other_statement lines k placed first searches h (statement.Until number) (λ is. absurd (cc is.1)) at))
+      inl (broken placed first k (other_statement lines k placed first searches h (statement.Until number) (λ is. absurd (cc is.2)) at))
   step_statement k placed first searches h (statement.Together block) at =
-      inl (broken placed first k (other_statement lines k placed first searches h (statement.Together block) (λ is. absurd (cc is.1)) at))
+      inl (broken placed first k (other_statement lines k placed first searches h (statement.Together block) (λ is. absurd (cc is.2)) at))
+  step_statement k placed first searches h (statement.Signature pattern) at =
+      inl (broken placed first k (other_statement lines k placed first searches h (statement.Signature pattern) (λ is. absurd (cc is.2)) at))
+  step_statement k placed first searches h statement.Players at =
+      inl (broken placed first k (other_statement lines k placed first searches h statement.Players (λ is. absurd (cc is.2)) at))
+  step_statement k placed first searches h statement.Doubles at =
+      inl (broken placed first k (other_statement lines k placed first searches h statement.Doubles (λ is. absurd (cc is.2)) at))
   step_statement k placed first searches h (statement.Game number) at =
-      inl (broken placed first k (other_statement lines k placed first searches h (statement.Game number) (λ is. absurd (cc is.1)) at))
+      inl (broken placed first k (other_statement lines k placed first searches h (statement.Game number) (λ is. absurd (cc is.2)) at))
 
   step_end : (k : ℕ) (placed : List Placed) (first : ℕ) (searches : List PlacedSearch) → IsReadInside lines k placed first searches →
       IsLineAt lines k line.End → Step k

@@ -1,7 +1,9 @@
 -- Whether words spell a search can be told, option by option, and they spell one at most.
 use Rattle.std.proofs.Common.{◌≡◌, ◌≢◌, ◌⊎◌, ◌≤◌, ◌++◌, ◌∙◌, ℕ, Bool, true, false, List, [], ◌∷◌, Option, Some, None, codes, length, refl, sym, ap, subst, inl, inr, arith}
 use Rattle.std.proofs.lemmas.Bool.{cases_eq, cases_lt}
+use Rattle.std.proofs.lemmas.Slice.Eq.{bytes_eq-Decides}
 use Rattle.std.specs.Char.{digit_value}
+use Rattle.std.specs.Str.{bytes_eq}
 use Rattle.std.specs.Str.Parse.{AllDigits, digits_value}
 use Rattle.kb_geometry.specs.declared.shape.Rect.{Rect}
 use Rattle.kb_geometry.specs.declared.shape.Shape.{Shape}
@@ -33,10 +35,10 @@ use Rattle.query_script.proofs.SearchWords.{IsPlaceThere, IsPointAt-once, at-abs
 pub same_first : {A : Type 0} (a b : A) (x y : List A) → a ∷ x ≡ b ∷ y → a ≡ b
 same_first a b x y e = cc
 
-same_rest : {A : Type 0} (a b : A) (x y : List A) → a ∷ x ≡ b ∷ y → x ≡ y
+pub same_rest : {A : Type 0} (a b : A) (x y : List A) → a ∷ x ≡ b ∷ y → x ≡ y
 same_rest a b x y e = cc
 
-told_text : (a b : List ℕ) → Told (a ≡ b)
+pub told_text : (a b : List ℕ) → Told (a ≡ b)
 told_text [] [] = inl refl
 told_text [] (y ∷ ys) = inr (λ e. absurd (cc e))
 told_text (x ∷ xs) [] = inr (λ e. absurd (cc e))
@@ -48,8 +50,12 @@ told_text (x ∷ xs) (y ∷ ys) = elim (cases_eq x y) [
   ]
 ]
 
-same_bare : (a b : List ℕ) → bare a ≡ bare b → a ≡ b
+pub same_bare : (a b : List ℕ) → bare a ≡ bare b → a ≡ b
 same_bare a b e = cc
+
+-- texts that a test tells apart
+pub apart : (a b : List ℕ) → bytes_eq a b ≡ false → a ≢ b
+apart a b test e = let both : true ≡ false = sym ((bytes_eq-Decides a b).1 e) ∙ test in absurd (cc both)
 
 -- the words begin with this bare word, or they don't
 pub told_name : (name : List ℕ) (words : List Word) → ((rest : List Word) × (words ≡ bare name ∷ rest)) ⊎ BeginsOtherwise name words

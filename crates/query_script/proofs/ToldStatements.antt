@@ -1,20 +1,29 @@
 -- Whether words spell a statement can be told, and they spell one at most.
-use Rattle.std.proofs.Common.{◌≡◌, ◌≢◌, ◌⊎◌, ◌∙◌, ℕ, Bool, true, false, List, [], ◌∷◌, codes, length, refl, sym, ap, subst, inl, inr, arith}
-use Rattle.std.proofs.lemmas.Bool.{cases_lt}
+use Rattle.std.proofs.Common.{◌≡◌, ◌≢◌, ◌⊎◌, ◌≤◌, ◌∙◌, ℕ, All, Bool, true, false, List, [], ◌∷◌, codes, length, refl, sym, ap, subst, inl, inr, arith}
+use Rattle.std.proofs.lemmas.Bool.{cases_eq, cases_lt}
+use Rattle.std.proofs.lemmas.List.Elements.{All-cons, All-head, All-nil, All-tail}
 use Rattle.std.proofs.lemmas.Str.{IsUtf8-from_is_utf8, is_utf8-from_IsUtf8}
 use Rattle.std.specs.Str.{IsUtf8, is_utf8}
 use Rattle.pattern_images.specs.declared.query.Query.{Query}
-use Rattle.pattern_images.proofs.Tellings.{Told}
+use Rattle.dyer_signature.specs.declared.bytes.SigPattern.{SigPattern}
+use Rattle.dyer_signature.specs.Patterns.{IsSignaturePatternByte, star}
+use Rattle.dyer_signature.specs.Signatures.{question_mark}
+use Rattle.sgf_reader.specs.Bytes.{capital_a, capital_z, small_a, small_z}
+use Rattle.sgf_reader.specs.Grammar.{IsLetter, IsUpper}
+use Rattle.info_filter.specs.declared.filter.Filter.{Filter}
+use Rattle.pattern_images.proofs.Tellings.{Told, told_both, told_le}
 use Rattle.query_script.specs.declared.statement.Statement.{Statement}
 use Rattle.query_script.specs.declared.statement.Statement.TheVariants as statement
 use Rattle.query_script.specs.declared.word.Word.{Word}
+use Rattle.query_script.specs.declared.word.Word.TheVariants as word
+use Rattle.query_script.specs.Conditions.{IsFilteredBody}
 use Rattle.query_script.specs.Reading.{BeginsOtherwise}
-use Rattle.query_script.specs.Search.{IsBody}
-use Rattle.query_script.specs.Statements.{IsPath, IsStatement, most_number}
+use Rattle.query_script.specs.Statements.{IsPath, IsSignaturePattern, IsStatement, most_number}
 use Rattle.query_script.specs.Words.{IsNumber, bare, bytes_of}
-use Rattle.query_script.proofs.LineStatements.{two_names}
+use Rattle.query_script.proofs.LineStatements.{search_or_signature, two_names}
 use Rattle.query_script.proofs.Numbers.{IsNumber-once}
-use Rattle.query_script.proofs.ToldSearches.{behind_name, same_first, told_body, told_name, told_up_to}
+use Rattle.query_script.proofs.FilteredBodies.{told_filtered_body}
+use Rattle.query_script.proofs.ToldSearches.{behind_name, same_bare, same_first, told_name, told_up_to}
 
 -- the statement that words spell, and no other
 abbrev pub HasStatement : List Word → Type 0
@@ -32,7 +41,10 @@ import_alone : (words rest : List Word) (s : Statement) → words ≡ bare (code
 import_alone words rest (statement.Import path) name told = (path, refl)
 import_alone words rest statement.Wait name is = absurd (two_names 105 119 _ _ words rest _ name is (λ e. omega (arith, e)))
 import_alone words rest (statement.Until number) name (w, is, number_is, bound) = absurd (two_names 105 117 _ _ words rest _ name is (λ e. omega (arith, e)))
-import_alone words rest (statement.Search query) name (body, is, spelled) = absurd (two_names 105 115 _ _ words rest _ name is (λ e. omega (arith, e)))
+import_alone words rest (statement.Search query filter) name (body, is, spelled) = absurd (two_names 105 115 _ _ words rest _ name is (λ e. omega (arith, e)))
+import_alone words rest (statement.Signature pattern) name (is, pattern_is) = absurd (two_names 105 115 _ _ words rest _ name is (λ e. omega (arith, e)))
+import_alone words rest statement.Players name is = absurd (two_names 105 112 _ _ words rest _ name is (λ e. omega (arith, e)))
+import_alone words rest statement.Doubles name is = absurd (two_names 105 100 _ _ words rest _ name is (λ e. omega (arith, e)))
 import_alone words rest (statement.Game number) name (w, is, number_is, bound) = absurd (two_names 105 103 _ _ words rest _ name is (λ e. omega (arith, e)))
 import_alone words rest (statement.Together searches) name told = absurd told
 
@@ -40,7 +52,10 @@ wait_alone : (words rest : List Word) (s : Statement) → words ≡ bare (codes 
 wait_alone words rest (statement.Import path) name (w, is, path_is) = absurd (two_names 119 105 _ _ words rest _ name is (λ e. omega (arith, e)))
 wait_alone words rest statement.Wait name told = refl
 wait_alone words rest (statement.Until number) name (w, is, number_is, bound) = absurd (two_names 119 117 _ _ words rest _ name is (λ e. omega (arith, e)))
-wait_alone words rest (statement.Search query) name (body, is, spelled) = absurd (two_names 119 115 _ _ words rest _ name is (λ e. omega (arith, e)))
+wait_alone words rest (statement.Search query filter) name (body, is, spelled) = absurd (two_names 119 115 _ _ words rest _ name is (λ e. omega (arith, e)))
+wait_alone words rest (statement.Signature pattern) name (is, pattern_is) = absurd (two_names 119 115 _ _ words rest _ name is (λ e. omega (arith, e)))
+wait_alone words rest statement.Players name is = absurd (two_names 119 112 _ _ words rest _ name is (λ e. omega (arith, e)))
+wait_alone words rest statement.Doubles name is = absurd (two_names 119 100 _ _ words rest _ name is (λ e. omega (arith, e)))
 wait_alone words rest (statement.Game number) name (w, is, number_is, bound) = absurd (two_names 119 103 _ _ words rest _ name is (λ e. omega (arith, e)))
 wait_alone words rest (statement.Together searches) name told = absurd told
 
@@ -48,23 +63,65 @@ until_alone : (words rest : List Word) (s : Statement) → words ≡ bare (codes
 until_alone words rest (statement.Import path) name (w, is, path_is) = absurd (two_names 117 105 _ _ words rest _ name is (λ e. omega (arith, e)))
 until_alone words rest statement.Wait name is = absurd (two_names 117 119 _ _ words rest _ name is (λ e. omega (arith, e)))
 until_alone words rest (statement.Until number) name told = (number, refl)
-until_alone words rest (statement.Search query) name (body, is, spelled) = absurd (two_names 117 115 _ _ words rest _ name is (λ e. omega (arith, e)))
+until_alone words rest (statement.Search query filter) name (body, is, spelled) = absurd (two_names 117 115 _ _ words rest _ name is (λ e. omega (arith, e)))
+until_alone words rest (statement.Signature pattern) name (is, pattern_is) = absurd (two_names 117 115 _ _ words rest _ name is (λ e. omega (arith, e)))
+until_alone words rest statement.Players name is = absurd (two_names 117 112 _ _ words rest _ name is (λ e. omega (arith, e)))
+until_alone words rest statement.Doubles name is = absurd (two_names 117 100 _ _ words rest _ name is (λ e. omega (arith, e)))
 until_alone words rest (statement.Game number) name (w, is, number_is, bound) = absurd (two_names 117 103 _ _ words rest _ name is (λ e. omega (arith, e)))
 until_alone words rest (statement.Together searches) name told = absurd told
 
-search_alone : (words rest : List Word) (s : Statement) → words ≡ bare (codes "search") ∷ rest → IsStatement words s → (query : Query) × (s ≡ statement.Search query)
+search_alone : (words rest : List Word) (s : Statement) → words ≡ bare (codes "search") ∷ rest → IsStatement words s → (query : Query) × (filter : Filter) × (s ≡ statement.Search query filter)
 search_alone words rest (statement.Import path) name (w, is, path_is) = absurd (two_names 115 105 _ _ words rest _ name is (λ e. omega (arith, e)))
 search_alone words rest statement.Wait name is = absurd (two_names 115 119 _ _ words rest _ name is (λ e. omega (arith, e)))
 search_alone words rest (statement.Until number) name (w, is, number_is, bound) = absurd (two_names 115 117 _ _ words rest _ name is (λ e. omega (arith, e)))
-search_alone words rest (statement.Search query) name told = (query, refl)
+search_alone words rest (statement.Search query filter) name told = (query, filter, refl)
+search_alone words rest (statement.Signature pattern) name (is, pattern_is) = absurd (search_or_signature words rest _ name is)
+search_alone words rest statement.Players name is = absurd (two_names 115 112 _ _ words rest _ name is (λ e. omega (arith, e)))
+search_alone words rest statement.Doubles name is = absurd (two_names 115 100 _ _ words rest _ name is (λ e. omega (arith, e)))
 search_alone words rest (statement.Game number) name (w, is, number_is, bound) = absurd (two_names 115 103 _ _ words rest _ name is (λ e. omega (arith, e)))
 search_alone words rest (statement.Together searches) name told = absurd told
+
+signature_alone : (words rest : List Word) (s : Statement) → words ≡ bare (codes "signature") ∷ rest → IsStatement words s → (pattern : SigPattern) × (s ≡ statement.Signature pattern)
+signature_alone words rest (statement.Import path) name (w, is, path_is) = absurd (two_names 115 105 _ _ words rest _ name is (λ e. omega (arith, e)))
+signature_alone words rest statement.Wait name is = absurd (two_names 115 119 _ _ words rest _ name is (λ e. omega (arith, e)))
+signature_alone words rest (statement.Until number) name (w, is, number_is, bound) = absurd (two_names 115 117 _ _ words rest _ name is (λ e. omega (arith, e)))
+signature_alone words rest (statement.Search query filter) name (body, is, spelled) = absurd (search_or_signature words _ rest is name)
+signature_alone words rest (statement.Signature pattern) name told = (pattern, refl)
+signature_alone words rest statement.Players name is = absurd (two_names 115 112 _ _ words rest _ name is (λ e. omega (arith, e)))
+signature_alone words rest statement.Doubles name is = absurd (two_names 115 100 _ _ words rest _ name is (λ e. omega (arith, e)))
+signature_alone words rest (statement.Game number) name (w, is, number_is, bound) = absurd (two_names 115 103 _ _ words rest _ name is (λ e. omega (arith, e)))
+signature_alone words rest (statement.Together searches) name told = absurd told
+
+players_alone : (words rest : List Word) (s : Statement) → words ≡ bare (codes "players") ∷ rest → IsStatement words s → s ≡ statement.Players
+players_alone words rest (statement.Import path) name (w, is, path_is) = absurd (two_names 112 105 _ _ words rest _ name is (λ e. omega (arith, e)))
+players_alone words rest statement.Wait name is = absurd (two_names 112 119 _ _ words rest _ name is (λ e. omega (arith, e)))
+players_alone words rest (statement.Until number) name (w, is, number_is, bound) = absurd (two_names 112 117 _ _ words rest _ name is (λ e. omega (arith, e)))
+players_alone words rest (statement.Search query filter) name (body, is, spelled) = absurd (two_names 112 115 _ _ words rest _ name is (λ e. omega (arith, e)))
+players_alone words rest (statement.Signature pattern) name (is, pattern_is) = absurd (two_names 112 115 _ _ words rest _ name is (λ e. omega (arith, e)))
+players_alone words rest statement.Players name told = refl
+players_alone words rest statement.Doubles name is = absurd (two_names 112 100 _ _ words rest _ name is (λ e. omega (arith, e)))
+players_alone words rest (statement.Game number) name (w, is, number_is, bound) = absurd (two_names 112 103 _ _ words rest _ name is (λ e. omega (arith, e)))
+players_alone words rest (statement.Together searches) name told = absurd told
+
+doubles_alone : (words rest : List Word) (s : Statement) → words ≡ bare (codes "doubles") ∷ rest → IsStatement words s → s ≡ statement.Doubles
+doubles_alone words rest (statement.Import path) name (w, is, path_is) = absurd (two_names 100 105 _ _ words rest _ name is (λ e. omega (arith, e)))
+doubles_alone words rest statement.Wait name is = absurd (two_names 100 119 _ _ words rest _ name is (λ e. omega (arith, e)))
+doubles_alone words rest (statement.Until number) name (w, is, number_is, bound) = absurd (two_names 100 117 _ _ words rest _ name is (λ e. omega (arith, e)))
+doubles_alone words rest (statement.Search query filter) name (body, is, spelled) = absurd (two_names 100 115 _ _ words rest _ name is (λ e. omega (arith, e)))
+doubles_alone words rest (statement.Signature pattern) name (is, pattern_is) = absurd (two_names 100 115 _ _ words rest _ name is (λ e. omega (arith, e)))
+doubles_alone words rest statement.Players name is = absurd (two_names 100 112 _ _ words rest _ name is (λ e. omega (arith, e)))
+doubles_alone words rest statement.Doubles name told = refl
+doubles_alone words rest (statement.Game number) name (w, is, number_is, bound) = absurd (two_names 100 103 _ _ words rest _ name is (λ e. omega (arith, e)))
+doubles_alone words rest (statement.Together searches) name told = absurd told
 
 game_alone : (words rest : List Word) (s : Statement) → words ≡ bare (codes "game") ∷ rest → IsStatement words s → (number : ℕ) × (s ≡ statement.Game number)
 game_alone words rest (statement.Import path) name (w, is, path_is) = absurd (two_names 103 105 _ _ words rest _ name is (λ e. omega (arith, e)))
 game_alone words rest statement.Wait name is = absurd (two_names 103 119 _ _ words rest _ name is (λ e. omega (arith, e)))
 game_alone words rest (statement.Until number) name (w, is, number_is, bound) = absurd (two_names 103 117 _ _ words rest _ name is (λ e. omega (arith, e)))
-game_alone words rest (statement.Search query) name (body, is, spelled) = absurd (two_names 103 115 _ _ words rest _ name is (λ e. omega (arith, e)))
+game_alone words rest (statement.Search query filter) name (body, is, spelled) = absurd (two_names 103 115 _ _ words rest _ name is (λ e. omega (arith, e)))
+game_alone words rest (statement.Signature pattern) name (is, pattern_is) = absurd (two_names 103 115 _ _ words rest _ name is (λ e. omega (arith, e)))
+game_alone words rest statement.Players name is = absurd (two_names 103 112 _ _ words rest _ name is (λ e. omega (arith, e)))
+game_alone words rest statement.Doubles name is = absurd (two_names 103 100 _ _ words rest _ name is (λ e. omega (arith, e)))
 game_alone words rest (statement.Game number) name told = (number, refl)
 game_alone words rest (statement.Together searches) name told = absurd told
 
@@ -89,6 +146,38 @@ told_path w = elim (cases_lt 0 (length (bytes_of w))) [
   | inl some ↦ elim (told_test (is_utf8 (bytes_of w)) (IsUtf8 (bytes_of w)) (IsUtf8-from_is_utf8 (bytes_of w)) (is_utf8-from_IsUtf8 (bytes_of w))) [
     | inr never ↦ inr (λ h. never h.utf8)
     | inl utf8 ↦ inl (record { bytes = refl; some = some; utf8 = utf8 })
+  ]
+]
+
+told_either : (P Q : Type 0) → Told P → Told Q → Told (P ⊎ Q)
+told_either P Q (inl p) told = inl (inl p)
+told_either P Q (inr never) (inl q) = inl (inr q)
+told_either P Q (inr never) (inr none) = inr (λ h. elim h [ inl p ↦ never p | inr q ↦ none q ])
+
+told_between : (low high byte : ℕ) → Told ((low ≤ byte) × (byte ≤ high))
+told_between low high byte = told_both (low ≤ byte) (byte ≤ high) (told_le low byte) (told_le byte high)
+
+told_pattern_byte : (byte : ℕ) → Told (IsSignaturePatternByte byte)
+told_pattern_byte byte =
+    told_either (IsLetter byte) _ (told_either (IsUpper byte) _ (told_between capital_a capital_z byte) (told_between small_a small_z byte))
+    (told_either (byte ≡ question_mark) _ (cases_eq byte question_mark) (cases_eq byte star))
+
+told_pattern_bytes : (bytes : List ℕ) → Told (All IsSignaturePatternByte bytes)
+told_pattern_bytes [] = inl (All-nil IsSignaturePatternByte)
+told_pattern_bytes (byte ∷ bytes) = elim (told_pattern_byte byte) [
+  | inr never ↦ inr (λ all. never (All-head IsSignaturePatternByte byte bytes all))
+  | inl first ↦ elim (told_pattern_bytes bytes) [
+    | inr never ↦ inr (λ all. never (All-tail IsSignaturePatternByte byte bytes all))
+    | inl rest ↦ inl (All-cons IsSignaturePatternByte byte bytes first rest)
+  ]
+]
+
+told_signature_pattern : (bytes : List ℕ) → Told (IsSignaturePattern bytes)
+told_signature_pattern bytes = elim (cases_eq (length bytes) 12) [
+  | inr other ↦ inr (λ h. other h.twelve)
+  | inl twelve ↦ elim (told_pattern_bytes bytes) [
+    | inr never ↦ inr (λ h. never h.kinds)
+    | inl kinds ↦ inl (record { twelve = twelve; kinds = kinds })
   ]
 ]
 
@@ -124,28 +213,81 @@ import_there words rest name = elim (told_single rest) [
   ]
 ]
 
-wait_there : (words rest : List Word) → words ≡ bare (codes "wait") ∷ rest → ToldStatement words
-wait_there words [] name = inl (statement.Wait, name, λ s is. wait_alone words [] s name is)
-wait_there words (w ∷ rest) name = inr (λ s is.
-    let same = wait_alone words (w ∷ rest) s name is in
-    let both : words ≡ bare (codes "wait") ∷ [] = subst (IsStatement words) same is in
-    let none : w ∷ rest ≡ [] = behind_name (codes "wait") words (w ∷ rest) [] name both in
+-- a statement that is its name alone
+name_there : (name : List ℕ) (s : Statement) (words rest : List Word) → words ≡ bare name ∷ rest → ((l : List Word) → l ≡ bare name ∷ [] → IsStatement l s) →
+    ((l more : List Word) (t : Statement) → l ≡ bare name ∷ more → IsStatement l t → (t ≡ s) × (l ≡ bare name ∷ [])) → ToldStatement words
+name_there name s words [] is spells alone = inl (s, spells words is, λ t told. (alone words [] t is told).0)
+name_there name s words (w ∷ rest) is spells alone = inr (λ t told.
+    let none : w ∷ rest ≡ [] = behind_name name words (w ∷ rest) [] is (alone words (w ∷ rest) t is told).1 in
     absurd (cc none))
 
+wait_there : (words rest : List Word) → words ≡ bare (codes "wait") ∷ rest → ToldStatement words
+wait_there words rest name = name_there (codes "wait") statement.Wait words rest name (λ l e. e)
+    (λ l more t is told. let same = wait_alone l more t is told in (same, subst (IsStatement l) same told))
+
+players_there : (words rest : List Word) → words ≡ bare (codes "players") ∷ rest → ToldStatement words
+players_there words rest name = name_there (codes "players") statement.Players words rest name (λ l e. e)
+    (λ l more t is told. let same = players_alone l more t is told in (same, subst (IsStatement l) same told))
+
+doubles_there : (words rest : List Word) → words ≡ bare (codes "doubles") ∷ rest → ToldStatement words
+doubles_there words rest name = name_there (codes "doubles") statement.Doubles words rest name (λ l e. e)
+    (λ l more t is told. let same = doubles_alone l more t is told in (same, subst (IsStatement l) same told))
+
 search_there : (words rest : List Word) → words ≡ bare (codes "search") ∷ rest → ToldStatement words
-search_there words rest name = elim (told_body rest) [
+search_there words rest name = elim (told_filtered_body rest) [
   | inr never ↦ inr (λ s is.
-      let (query, same) = search_alone words rest s name is in
+      let (query, filter, same) = search_alone words rest s name is in
       let (body, both, spelled) = subst (IsStatement words) same is in
-      never query (subst (λ l. IsBody l query) (sym (behind_name (codes "search") words rest body name both)) spelled))
-  | inl (query, spelled, only) ↦ inl (
-    statement.Search query,
+      never query filter (subst (λ l. IsFilteredBody l query filter) (sym (behind_name (codes "search") words rest body name both)) spelled))
+  | inl (query, filter, spelled, only) ↦ inl (
+    statement.Search query filter,
     (rest, name, spelled),
     λ s is.
-        let (other, same) = search_alone words rest s name is in
+        let (other, other_filter, same) = search_alone words rest s name is in
         let (body, both, spelled_too) = subst (IsStatement words) same is in
-        let here : IsBody rest other = subst (λ l. IsBody l other) (sym (behind_name (codes "search") words rest body name both)) spelled_too in
-        same ∙ ap (λ q. statement.Search q) (only other here),
+        let here : IsFilteredBody rest other other_filter = subst (λ l. IsFilteredBody l other other_filter) (sym (behind_name (codes "search") words rest body name both)) spelled_too in
+        let (queries, filters) = only other other_filter here in
+        same ∙ ap (λ q. statement.Search q other_filter) queries ∙ ap (λ f. statement.Search query f) filters,
+  )
+]
+
+-- the pattern of a question for signatures
+pattern_behind : (words rest : List Word) (pattern : SigPattern) → words ≡ bare (codes "signature") ∷ rest → words ≡ bare (codes "signature") ∷ bare pattern.bytes ∷ [] → rest ≡ bare pattern.bytes ∷ []
+pattern_behind words rest pattern name both = behind_name (codes "signature") words rest (bare pattern.bytes ∷ []) name both
+
+same_pattern : (p q : SigPattern) → p.bytes ≡ q.bytes → p ≡ q
+same_pattern p q bytes = ap (λ l. record { bytes = l }) bytes
+
+signature_there : (words rest : List Word) → words ≡ bare (codes "signature") ∷ rest → ToldStatement words
+signature_there words [] name = inr (λ s is.
+    let (pattern, same) = signature_alone words [] s name is in
+    let (both, pattern_is) = subst (IsStatement words) same is in
+    let none : [] ≡ bare pattern.bytes ∷ [] = pattern_behind words [] pattern name both in
+    absurd (cc none))
+signature_there words (w ∷ v ∷ rest) name = inr (λ s is.
+    let (pattern, same) = signature_alone words (w ∷ v ∷ rest) s name is in
+    let (both, pattern_is) = subst (IsStatement words) same is in
+    let one : w ∷ v ∷ rest ≡ bare pattern.bytes ∷ [] = pattern_behind words (w ∷ v ∷ rest) pattern name both in
+    absurd (cc one))
+signature_there words ((word.Quoted bytes) ∷ []) name = inr (λ s is.
+    let (pattern, same) = signature_alone words (word.Quoted bytes ∷ []) s name is in
+    let (both, pattern_is) = subst (IsStatement words) same is in
+    let first : word.Quoted bytes ≡ bare pattern.bytes = same_first (word.Quoted bytes) (bare pattern.bytes) [] [] (pattern_behind words (word.Quoted bytes ∷ []) pattern name both) in
+    absurd (cc first))
+signature_there words ((word.Bare bytes) ∷ []) name = elim (told_signature_pattern bytes) [
+  | inr never ↦ inr (λ s is.
+      let (pattern, same) = signature_alone words (bare bytes ∷ []) s name is in
+      let (both, pattern_is) = subst (IsStatement words) same is in
+      let one : bytes ≡ pattern.bytes = same_bare bytes pattern.bytes (same_first (bare bytes) (bare pattern.bytes) [] [] (pattern_behind words (bare bytes ∷ []) pattern name both)) in
+      never (subst IsSignaturePattern (sym one) pattern_is))
+  | inl pattern_is ↦ inl (
+    statement.Signature (record { bytes = bytes }),
+    (name, pattern_is),
+    λ s is.
+        let (pattern, same) = signature_alone words (bare bytes ∷ []) s name is in
+        let (both, _) = subst (IsStatement words) same is in
+        let one : bytes ≡ pattern.bytes = same_bare bytes pattern.bytes (same_first (bare bytes) (bare pattern.bytes) [] [] (pattern_behind words (bare bytes ∷ []) pattern name both)) in
+        same ∙ ap (λ p. statement.Signature p) (same_pattern pattern (record { bytes = bytes }) (sym one)),
   )
 ]
 
@@ -199,14 +341,18 @@ game_there words rest name = elim (told_single rest) [
 
 -- words without such a name spell nothing
 none_there : (words : List Word) → BeginsOtherwise (codes "import") words → BeginsOtherwise (codes "wait") words →
-    BeginsOtherwise (codes "until") words → BeginsOtherwise (codes "search") words → BeginsOtherwise (codes "game") words →
+    BeginsOtherwise (codes "until") words → BeginsOtherwise (codes "search") words → BeginsOtherwise (codes "signature") words →
+    BeginsOtherwise (codes "players") words → BeginsOtherwise (codes "doubles") words → BeginsOtherwise (codes "game") words →
     NoStatement words
-none_there words import_ wait until search_ game (statement.Import path) (w, is, _) = import_ (w ∷ []) is
-none_there words import_ wait until search_ game statement.Wait is = wait [] is
-none_there words import_ wait until search_ game (statement.Until number) (w, is, _, _) = until (w ∷ []) is
-none_there words import_ wait until search_ game (statement.Search query) (body, is, _) = search_ body is
-none_there words import_ wait until search_ game (statement.Together searches) is = is
-none_there words import_ wait until search_ game (statement.Game number) (w, is, _, _) = game (w ∷ []) is
+none_there words import_ wait until searched signature players doubles game (statement.Import path) (w, is, _) = import_ (w ∷ []) is
+none_there words import_ wait until searched signature players doubles game statement.Wait is = wait [] is
+none_there words import_ wait until searched signature players doubles game (statement.Until number) (w, is, _, _) = until (w ∷ []) is
+none_there words import_ wait until searched signature players doubles game (statement.Search query filter) (body, is, _) = searched body is
+none_there words import_ wait until searched signature players doubles game (statement.Signature pattern) (is, _) = signature (bare pattern.bytes ∷ []) is
+none_there words import_ wait until searched signature players doubles game statement.Players is = players [] is
+none_there words import_ wait until searched signature players doubles game statement.Doubles is = doubles [] is
+none_there words import_ wait until searched signature players doubles game (statement.Game number) (w, is, _, _) = game (w ∷ []) is
+none_there words import_ wait until searched signature players doubles game (statement.Together searches) is = is
 
 pub told_statement : (words : List Word) → ToldStatement words
 told_statement words = elim (told_name (codes "import") words) [
@@ -217,9 +363,18 @@ told_statement words = elim (told_name (codes "import") words) [
       | inl (rest, is) ↦ until_there words rest is
       | inr until ↦ elim (told_name (codes "search") words) [
         | inl (rest, is) ↦ search_there words rest is
-        | inr search_ ↦ elim (told_name (codes "game") words) [
-          | inl (rest, is) ↦ game_there words rest is
-          | inr game ↦ inr (none_there words import_ wait until search_ game)
+        | inr searched ↦ elim (told_name (codes "signature") words) [
+          | inl (rest, is) ↦ signature_there words rest is
+          | inr signature ↦ elim (told_name (codes "players") words) [
+            | inl (rest, is) ↦ players_there words rest is
+            | inr players ↦ elim (told_name (codes "doubles") words) [
+              | inl (rest, is) ↦ doubles_there words rest is
+              | inr doubles ↦ elim (told_name (codes "game") words) [
+                | inl (rest, is) ↦ game_there words rest is
+                | inr game ↦ inr (none_there words import_ wait until searched signature players doubles game)
+              ]
+            ]
+          ]
         ]
       ]
     ]

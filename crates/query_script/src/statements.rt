@@ -8,6 +8,7 @@ ghost use Rattle.std.specs.Prelude.{
   List,
   [],
   ◌∷◌,
+  All,
   Option,
   None,
   codes,
@@ -161,14 +162,20 @@ fn pattern_of(bytes: &[u8]) -> Option<SigPattern>
         × IsSignaturePattern pattern.bytes) }
     ensures none { IfNone result (¬ IsSignaturePattern bytes.now) }
 {
-    let Ok(bytes) = <[u8; 12]>::try_from(bytes) else {
+    if !are_pattern_bytes(bytes) {
         return None;
-    };
-    if bytes.iter().all(|byte| is_pattern_byte(*byte)) {
-        Some(SigPattern { bytes })
-    } else {
-        None
     }
+    match <[u8; 12]>::try_from(bytes) {
+        Ok(bytes) => Some(SigPattern { bytes }),
+        Err(_) => None,
+    }
+}
+
+// Whether each of the bytes may stand in a signature pattern.
+fn are_pattern_bytes(bytes: &[u8]) -> bool
+    ensures { IsTrue result ↔ All IsSignaturePatternByte bytes.now }
+{
+    bytes.iter().all(|byte| is_pattern_byte(*byte))
 }
 
 // Whether the byte may stand in a signature pattern: a letter, `?` or `*`.
