@@ -129,26 +129,25 @@ games_from-push name place (first ∷ trees) tree =
     ap (λ gs. record { file = name; place = place; tree = first } ∷ gs)
     (games_from-push name (place + 1) trees tree ∙ ap (λ n. games_from name (place + 1) trees ++ record { file = name; place = n; tree = tree } ∷ []) placed)
 
--- a game that is stored under this name and place
-game_of-is : (name : List ℕ) (place : ℕ) (s : Stored) → string_bytes s.file ≡ name → s.place ≡ place → game_of s ≡ record { file = name; place = place; tree = s.tree }
-game_of-is name place s named placed =
-    ap (λ n. record { file = n; place = s.place; tree = s.tree }) named ∙ ap (λ n. record { file = name; place = n; tree = s.tree }) placed
+-- a game by its file's name and its place there
+pub game_named : {name file : List ℕ} {place number : ℕ} (tree : Tree) → file ≡ name → number ≡ place → ◌≡◌ {A = Game} (record { file = file; place = number; tree = tree }) (record { file = name; place = place; tree = tree })
+game_named tree named placed = λ i. record { file = named i; place = placed i; tree = tree }
 
 -- one game more is stored
-pub stored_more : (name : List ℕ) (trees : List Tree) (before stored more : List Stored) (s : Stored) → games_of stored ≡ games_of before ++ games_from name 0 trees → more ≡ stored ++ s ∷ [] → string_bytes s.file ≡ name → s.place ≡ length trees → games_of more ≡ games_of before ++ games_from name 0 (trees ++ s.tree ∷ [])
-stored_more name trees before stored more s so_far pushed named placed =
-    let last : List Game = record { file = name; place = length trees; tree = s.tree } ∷ [] in
+pub stored_more : (name : List ℕ) (trees : List Tree) (before stored more : List Stored) (s : Stored) (tree : Tree) → games_of stored ≡ games_of before ++ games_from name 0 trees → more ≡ stored ++ s ∷ [] → game_of s ≡ record { file = name; place = length trees; tree = tree } → games_of more ≡ games_of before ++ games_from name 0 (trees ++ tree ∷ [])
+stored_more name trees before stored more s tree so_far pushed is =
+    let last : List Game = record { file = name; place = length trees; tree = tree } ∷ [] in
     let from_none : 0 + length trees ≡ length trees = omega arith in
-    let pieces : games_from name 0 (trees ++ s.tree ∷ []) ≡ games_from name 0 trees ++ last = games_from-push name 0 trees s.tree ∙ ap (λ n. games_from name 0 trees ++ record { file = name; place = n; tree = s.tree } ∷ []) from_none in
+    let pieces : games_from name 0 (trees ++ tree ∷ []) ≡ games_from name 0 trees ++ last = games_from-push name 0 trees tree ∙ ap (λ n. games_from name 0 trees ++ record { file = name; place = n; tree = tree } ∷ []) from_none in
     ap games_of pushed ∙ map_push game_of stored s
     ∙ ap (λ gs. gs ++ game_of s ∷ []) so_far
-    ∙ ap (λ g. (games_of before ++ games_from name 0 trees) ++ g ∷ []) (game_of-is name (length trees) s named placed)
+    ∙ ap (λ g. (games_of before ++ games_from name 0 trees) ++ g ∷ []) is
     ∙ append_assoc (games_of before) (games_from name 0 trees) last
     ∙ ap (λ gs. games_of before ++ gs) (sym pieces)
 
--- one game more is stored with its changes
-pub changes_more : (stored more : List Stored) (s : Stored) → All IsOfItsTree stored → IsOfItsTree s → more ≡ stored ++ s ∷ [] → All IsOfItsTree more
-changes_more stored more s each last pushed = rw pushed (All-append IsOfItsTree stored (s ∷ []) each (All-cons IsOfItsTree s [] last (λ k d below. absurd (omega arith))))
+-- one game more is stored with what is of its tree
+pub of_tree_more : (stored more : List Stored) (s : Stored) → All IsOfItsTree stored → IsOfItsTree s → more ≡ stored ++ s ∷ [] → All IsOfItsTree more
+of_tree_more stored more s each last pushed = rw pushed (All-append IsOfItsTree stored (s ∷ []) each (All-cons IsOfItsTree s [] last (λ k d below. absurd (omega arith))))
 
 -- the name of each place is a file's
 pub name_there : (files : List File) (path : List ℕ) (names : List (String Global)) (i : ℕ) (name : String Global) → All (HasFile files path) (map string_bytes names) → i < length names → name ≡ get_or names i name → HasFile files path (string_bytes name)

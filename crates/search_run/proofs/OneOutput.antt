@@ -56,9 +56,9 @@ module _ (files : List File) (rules : Rules) (serial : IsTrue rules.serial) (s :
   one-block [] m n a b one other = λ i. block_of ((one.0 ∙ sym other.0) i) ((one.1 ∙ sym other.1) i)
   one-block (p ∷ ps) m n a b one other =
       let number = one-number one.0 other.0 one.4 other.4 in
-      let first = search-one p.line (view_at s (last_of s)) (trees-at s h) p.query one.1 other.1
-      (at_last (λ k. IsSearchText p.line (view_at s k) p.query one.1) one.0 one.4 one.5)
-      (at_last (λ k. IsSearchText p.line (view_at s k) p.query other.1) other.0 other.4 other.5) in
+      let first = search-one p.line (view_at s (last_of s)) (trees-at s h) p.query p.filter one.1 other.1
+      (at_last (λ k. IsSearchText p.line (view_at s k) p.query p.filter one.1) one.0 one.4 one.5)
+      (at_last (λ k. IsSearchText p.line (view_at s k) p.query p.filter other.1) other.0 other.4 other.5) in
       let rest = one-block ps one.2 other.2 one.3 other.3 one.6 other.6 in
       let greatest = one.7 ∙ ap (λ k. max k one.2) number ∙ ap (λ (b : Block). max other.0 b.greatest) rest ∙ sym other.7 in
       let text = one.8 ∙ ap (λ t. t ++ one.3) first ∙ ap (λ (b : Block). other.1 ++ b.text) rest ∙ sym other.8 in
@@ -95,8 +95,14 @@ module _ (files : List File) (rules : Rules) (serial : IsTrue rules.serial) (s :
       let block = one-block searches one.0 other.0 a b one.1 other.1 in
       let state = one.3 ∙ ap (λ (k : Block). with_floor s k.greatest) block ∙ sym other.3 in
       λ i. passed_by (block i).text (state i)
-  one-passing line (statement.Search query) used more a b next after one none other too =
-      one-answer line (statement.Search query) one.0 other.0 a b next after one.1 other.1 one.2 other.2 one.4 other.4
+  one-passing line (statement.Search query filter) used more a b next after one none other too =
+      one-answer line (statement.Search query filter) one.0 other.0 a b next after one.1 other.1 one.2 other.2 one.4 other.4
+  one-passing line (statement.Signature pattern) used more a b next after one none other too =
+      one-answer line (statement.Signature pattern) one.0 other.0 a b next after one.1 other.1 one.2 other.2 one.4 other.4
+  one-passing line statement.Players used more a b next after one none other too =
+      one-answer line statement.Players one.0 other.0 a b next after one.1 other.1 one.2 other.2 one.4 other.4
+  one-passing line statement.Doubles used more a b next after one none other too =
+      one-answer line statement.Doubles one.0 other.0 a b next after one.1 other.1 one.2 other.2 one.4 other.4
   one-passing line (statement.Game number) used more a b next after one none other too =
       one-answer line (statement.Game number) one.0 other.0 a b next after one.1 other.1 one.2 other.2 one.4 other.4
 

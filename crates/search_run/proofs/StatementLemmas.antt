@@ -12,6 +12,8 @@ use Rattle.query_script.specs.declared.statement.Statement.{Statement}
 use Rattle.query_script.specs.declared.statement.Statement.TheVariants as statement
 use Rattle.query_script.specs.Texts.{import_text, until_text, wait_text}
 use Rattle.pattern_images.specs.declared.query.Query.{Query}
+use Rattle.info_filter.specs.declared.filter.Filter.{Filter}
+use Rattle.dyer_signature.specs.declared.bytes.SigPattern.{SigPattern}
 use Rattle.session_core.specs.Answers.{IsAnswer, IsSearchText}
 use Rattle.node_position.specs.Games.{Game}
 use Rattle.search_run.specs.Course.{Finding, ImportCourse, IsImported, losses_of, trees_in}
@@ -33,7 +35,7 @@ view_kept s kept is =
     ∙ ap (λ (n : ℕ). record { version = n; games = kept.games }) (sym is.version)
 
 -- the texts of the searches of a block, and of one search more, each over the last version
-pub BlockTexts-more : (kept : Kept) (searches : List PlacedSearch) (p : PlacedSearch) (text more : List ℕ) → BlockTexts kept searches text → IsSearchText p.line (view_of kept) p.query more → BlockTexts kept (searches ++ p ∷ []) (text ++ more)
+pub BlockTexts-more : (kept : Kept) (searches : List PlacedSearch) (p : PlacedSearch) (text more : List ℕ) → BlockTexts kept searches text → IsSearchText p.line (view_of kept) p.query p.filter more → BlockTexts kept (searches ++ p ∷ []) (text ++ more)
 BlockTexts-more kept [] p text more none is = (more, [], is, refl, ap (λ t. t ++ more) none ∙ sym (append-nil more))
 BlockTexts-more kept (q ∷ searches) p text more h is =
     (h.0, h.1 ++ more, h.2, BlockTexts-more kept searches p h.1 more h.3 is, ap (λ t. t ++ more) h.4 ∙ append_assoc h.0 h.1 more)
@@ -84,18 +86,16 @@ module _ (files : List File) (s : State) (kept : Kept) (is : IsKept s kept) (lin
       let are = BlockTexts-are s kept is searches text block in
       ([], with_floor s are.0, (are.0, are.2, refl, refl))
 
-  text-search : (query : Query) → IsSearchText line (view_of kept) query text → IsStatementText files serial_rules s line (statement.Search query) text
-  text-search query of =
-      ([], with_floor s (last_of s), (last_of s, last_named s kept is, rw (view_kept s kept is) of, refl, refl))
+  -- one that is answered from the games of a version: it names the last one
+  answered-here : (own : Statement) → IsAnswer line (view_of kept) own text → (n : ℕ) × IsNamed serial_rules s n × IsAnswer line (view_at s n) own text × ◌≡◌ {A = List ImportCourse} [] [] × (with_floor s (last_of s) ≡ with_floor s n)
+  answered-here own of = (last_of s, last_named s kept is, rw (view_kept s kept is) of, refl, refl)
 
-  text-game : (number : ℕ) → IsAnswer line (view_of kept) (statement.Game number) text → IsStatementText files serial_rules s line (statement.Game number) text
-  text-game number of =
-      ([], with_floor s (last_of s), (last_of s, last_named s kept is, rw (view_kept s kept is) of, refl, refl))
-
-  -- of one that is answered from the games of a version
   pub text-answered : (own : Statement) → IsAnswer line (view_of kept) own text → IsStatementText files serial_rules s line own text
-  text-answered (statement.Search query) of = text-search query of
-  text-answered (statement.Game number) of = text-game number of
+  text-answered (statement.Search query filter) of = ([], with_floor s (last_of s), answered-here (statement.Search query filter) of)
+  text-answered (statement.Signature pattern) of = ([], with_floor s (last_of s), answered-here (statement.Signature pattern) of)
+  text-answered statement.Players of = ([], with_floor s (last_of s), answered-here statement.Players of)
+  text-answered statement.Doubles of = ([], with_floor s (last_of s), answered-here statement.Doubles of)
+  text-answered (statement.Game number) of = ([], with_floor s (last_of s), answered-here (statement.Game number) of)
   text-answered (statement.Import path) of = absurd of
   text-answered statement.Wait of = absurd of
   text-answered (statement.Until number) of = absurd of
@@ -125,8 +125,20 @@ module _ (files : List File) (kept : Kept) (line : ℕ) (text : List ℕ) (befor
   leads-together searches = λ s is of.
       ([], with_floor s of.2.0, named s of.2.0 is (greatest-le s searches of.2.0 text of.2.1), (of.2.0, of.2.1, refl, refl), rose_by_none before now later)
 
-  pub leads-search : (query : Query) → LeadsOn files serial_rules kept line (statement.Search query) text kept before now
-  leads-search query = λ s is of.
+  pub leads-search : (query : Query) (filter : Filter) → LeadsOn files serial_rules kept line (statement.Search query filter) text kept before now
+  leads-search query filter = λ s is of.
+      ([], with_floor s of.2.0, named s of.2.0 is of.2.1.to, (of.2.0, of.2.1, of.2.2, refl, refl), rose_by_none before now later)
+
+  pub leads-signature : (pattern : SigPattern) → LeadsOn files serial_rules kept line (statement.Signature pattern) text kept before now
+  leads-signature pattern = λ s is of.
+      ([], with_floor s of.2.0, named s of.2.0 is of.2.1.to, (of.2.0, of.2.1, of.2.2, refl, refl), rose_by_none before now later)
+
+  pub leads-players : LeadsOn files serial_rules kept line statement.Players text kept before now
+  leads-players = λ s is of.
+      ([], with_floor s of.2.0, named s of.2.0 is of.2.1.to, (of.2.0, of.2.1, of.2.2, refl, refl), rose_by_none before now later)
+
+  pub leads-doubles : LeadsOn files serial_rules kept line statement.Doubles text kept before now
+  leads-doubles = λ s is of.
       ([], with_floor s of.2.0, named s of.2.0 is of.2.1.to, (of.2.0, of.2.1, of.2.2, refl, refl), rose_by_none before now later)
 
   pub leads-game : (number : ℕ) → LeadsOn files serial_rules kept line (statement.Game number) text kept before now

@@ -71,7 +71,10 @@ module _ (files : List File) (rules : Rules) where
   passed-on s next line statement.Wait used text h is = rw is.2 (waited s h)
   passed-on s next line (statement.Until number) used text h is = rw is.4 (named s is.0 h is.1.named.to)
   passed-on s next line (statement.Together searches) used text h is = rw is.3 (named s is.0 h (greatest-named s searches is.0 text is.1))
-  passed-on s next line (statement.Search query) used text h is = rw is.4 (named s is.0 h is.1.to)
+  passed-on s next line (statement.Search query filter) used text h is = rw is.4 (named s is.0 h is.1.to)
+  passed-on s next line (statement.Signature pattern) used text h is = rw is.4 (named s is.0 h is.1.to)
+  passed-on s next line statement.Players used text h is = rw is.4 (named s is.0 h is.1.to)
+  passed-on s next line statement.Doubles used text h is = rw is.4 (named s is.0 h is.1.to)
   passed-on s next line (statement.Game number) used text h is = rw is.4 (named s is.0 h is.1.to)
 
   pub reached : (course : List ImportCourse) (placed : List Placed) (s : State) (out : List ℕ) → HasPrinted files rules course placed s out → IsReached s
@@ -88,7 +91,7 @@ module _ (files : List File) (rules : Rules) where
   search-texts : (s : State) → IsReached s → (searches : List PlacedSearch) → (n : ℕ) × (text : List ℕ) × AreSearchTexts rules s searches n text
   search-texts s h [] = (0, [], (refl, refl))
   search-texts s h (p ∷ ps) =
-      let first = search-text p.line (view_at s (last_of s)) (trees-at s h) p.query in
+      let first = search-text p.line (view_at s (last_of s)) (trees-at s h) p.query p.filter in
       let rest = search-texts s h ps in
       (max (last_of s) rest.0, first.0 ++ rest.1, (last_of s, first.0, rest.0, rest.1, last_named s h, first.1, rest.2, refl, refl))
 
@@ -109,8 +112,17 @@ module _ (files : List File) (rules : Rules) where
       (until_text line number (last_of s), ([], with_floor s (last_of s), (last_of s, record { named = last_named s h; reached = inr refl }, refl, refl, refl), refl))
   statement-passes s line (statement.Together searches) h =
       let found = search-texts s h searches in (found.1, ([], with_floor s found.0, (found.0, found.2, refl, refl), refl))
-  statement-passes s line (statement.Search query) h =
-      let found = answered-passes s line (statement.Search query) h tt in
+  statement-passes s line (statement.Search query filter) h =
+      let found = answered-passes s line (statement.Search query filter) h tt in
+      (found.0, ([], with_floor s (last_of s), (last_of s, last_named s h, found.1, refl, refl), refl))
+  statement-passes s line (statement.Signature pattern) h =
+      let found = answered-passes s line (statement.Signature pattern) h tt in
+      (found.0, ([], with_floor s (last_of s), (last_of s, last_named s h, found.1, refl, refl), refl))
+  statement-passes s line statement.Players h =
+      let found = answered-passes s line statement.Players h tt in
+      (found.0, ([], with_floor s (last_of s), (last_of s, last_named s h, found.1, refl, refl), refl))
+  statement-passes s line statement.Doubles h =
+      let found = answered-passes s line statement.Doubles h tt in
       (found.0, ([], with_floor s (last_of s), (last_of s, last_named s h, found.1, refl, refl), refl))
   statement-passes s line (statement.Game number) h =
       let found = answered-passes s line (statement.Game number) h tt in
@@ -122,7 +134,10 @@ module _ (files : List File) (rules : Rules) where
   text-passes s line statement.Wait text (used, next, is) = (used, next, is, rw is.0 refl)
   text-passes s line (statement.Until number) text (used, next, is) = (used, next, is, rw is.2 refl)
   text-passes s line (statement.Together searches) text (used, next, is) = (used, next, is, rw is.2 refl)
-  text-passes s line (statement.Search query) text (used, next, is) = (used, next, is, rw is.3 refl)
+  text-passes s line (statement.Search query filter) text (used, next, is) = (used, next, is, rw is.3 refl)
+  text-passes s line (statement.Signature pattern) text (used, next, is) = (used, next, is, rw is.3 refl)
+  text-passes s line statement.Players text (used, next, is) = (used, next, is, rw is.3 refl)
+  text-passes s line statement.Doubles text (used, next, is) = (used, next, is, rw is.3 refl)
   text-passes s line (statement.Game number) text (used, next, is) = (used, next, is, rw is.3 refl)
 
   -- ---- the rest of a script

@@ -40,7 +40,7 @@ view_of kept = record { version = kept.version; games = kept.games }
 abbrev pub BlockTexts : Kept → List PlacedSearch → List ℕ → Type 0
 BlockTexts kept [] text = text ≡ []
 BlockTexts kept (p ∷ ps) text =
-    (first : List ℕ) × (rest : List ℕ) × IsSearchText p.line (view_of kept) p.query first
+    (first : List ℕ) × (rest : List ℕ) × IsSearchText p.line (view_of kept) p.query p.filter first
     × BlockTexts kept ps rest × (text ≡ first ++ rest)
 
 -- the text of the report that waits, or nothing

@@ -159,7 +159,7 @@ pub(crate) fn import<F: Folder>(
         × RoseBy (losses_of (entry ∷ [])) (F.faults folder.old) (F.faults folder.new))) }
     ensures added { IfOk result (λ r. AreAdded before r.1 (trees_in (games_kept r.0))) }
     ensures room { HasFewGames before → IfOk result (λ r. HasFewGames r.1) }
-    ensures changes { IfOk result (λ r. AreOfTheirTrees r.0) }
+    ensures of_their_trees { IfOk result (λ r. AreOfTheirTrees r.0) }
     ensures few { IfOk result (λ r. HasFewFiles r.0) }
     ensures same { F.files folder.new ≡ F.files folder.old }
     ensures later { F.faults folder.old ≤ F.faults folder.new }
@@ -234,7 +234,7 @@ impl Follower {
     }
 }
 
-// Adds the trees of a file of this name, each with its place in the file and with its changes.
+// Adds the trees of a file of this name, each with its place in the file and what is kept beside it.
 fn store(
     alloc: Global,
     follower: &mut Follower,
@@ -245,7 +245,7 @@ fn store(
     requires { length trees.items ≤ 400000 }
     ensures added { OnOk result (games_of games.new.items
         ≡ games_of games.old.items ++ games_from name.now 0 trees.items) }
-    ensures changes { All IsOfItsTree games.old.items →
+    ensures of_their_trees { All IsOfItsTree games.old.items →
         OnOk result (All IsOfItsTree games.new.items) }
 {
     let mut place = 0;
@@ -276,7 +276,7 @@ fn read_next<F: Folder>(
     ensures added { OnOk result (AddsGames counts.old counts.new (games_of games.old.items)
         (games_of games.new.items)) }
     ensures room { HasFewGames counts.old → OnOk result (HasFewGames counts.new) }
-    ensures changes { All IsOfItsTree games.old.items →
+    ensures of_their_trees { All IsOfItsTree games.old.items →
         OnOk result (All IsOfItsTree games.new.items) }
     ensures count { OnOk result (vec_len files.new ≡ vec_len files.old + 1) }
     ensures same { F.files folder.new ≡ F.files folder.old }
@@ -310,7 +310,7 @@ fn read_files<F: Folder>(
     ensures added { IfOk result
         (λ read. AreAdded before read.2 (trees_in (games_of read.1.items))) }
     ensures room { HasFewGames before → IfOk result (λ read. HasFewGames read.2) }
-    ensures changes { IfOk result (λ read. All IsOfItsTree read.1.items) }
+    ensures of_their_trees { IfOk result (λ read. All IsOfItsTree read.1.items) }
     ensures count { IfOk result (λ read. vec_len read.0 ≡ length names.now) }
     ensures same { F.files folder.new ≡ F.files folder.old }
     ensures later { F.faults folder.old ≤ F.faults folder.new }

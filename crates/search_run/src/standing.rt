@@ -260,7 +260,7 @@ fn add_games(games: &mut Vec<Stored>, imported: Imported) -> Result<(), NoMemory
     requires { AreOfTheirTrees imported }
     ensures added { OnOk result (games_of games.new.items
         ≡ games_of games.old.items ++ games_kept imported) }
-    ensures changes { All IsOfItsTree games.old.items →
+    ensures of_their_trees { All IsOfItsTree games.old.items →
         OnOk result (All IsOfItsTree games.new.items) }
     ensures kept { OnErr result (games.new.items ≡ games.old.items) }
 {

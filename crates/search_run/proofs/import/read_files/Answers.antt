@@ -10,7 +10,7 @@ loop-name-init g c = record {
   later = omega arith;
   added = rw c.new-games.ensures.items (AreAdded-none c.args.before);
   room = λ few. few;
-  changes = rw c.new-games.ensures.items (λ k d below. absurd (omega arith));
+  of_their_trees = rw c.new-games.ensures.items (λ k d below. absurd (omega arith));
   count = omega arith;
   read = λ files told there. rw (c.new-files.ensures.items, c.new-games.ensures.items) (HasReadAll-start files _ _ _);
 }
@@ -21,7 +21,7 @@ loop-name-preserved g c = record {
   later = omega (arith, c.loop-name.invariant.later, c.read_next.ensures.later);
   added = AreAdded-more c.args.before _ _ _ _ c.loop-name.invariant.added c.in_ok-read_next.ensures.added;
   room = λ few. c.in_ok-read_next.ensures.room (c.loop-name.invariant.room few);
-  changes = c.in_ok-read_next.ensures.changes c.loop-name.invariant.changes;
+  of_their_trees = c.in_ok-read_next.ensures.of_their_trees c.loop-name.invariant.of_their_trees;
   count = omega (arith, c.loop-name.invariant.count, c.in_ok-read_next.ensures.count);
   read = λ files told there.
       let name = c.name-item.result in

@@ -16,7 +16,7 @@ invariant-loop-name g l = record {
   later : g.F.Folder.faults l.fn.folder ≤ g.F.Folder.faults l.folder;
   added : AreAdded l.fn.before l.counts (trees_in (games_of l.games.items));
   room : HasFewGames l.fn.before → HasFewGames l.counts;
-  changes : All IsOfItsTree l.games.items;
+  of_their_trees : All IsOfItsTree l.games.items;
   count : vec_len l.files ≡ l.name-index;
   read : IfTold (g.F.Folder.files l.fn.folder) (λ all. All (HasFile all l.path) (map string_bytes l.names) → HasReadAll all l.path l.fn.before (map string_bytes (take l.name-index l.names)) (g.F.Folder.faults l.fn.folder) (g.F.Folder.faults l.folder) (file_reports l.files.items) (games_of l.games.items));
 }

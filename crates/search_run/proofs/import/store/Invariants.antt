@@ -8,5 +8,5 @@ abbrev pub invariant-loop-tree : goal.invariant-loop-tree
 invariant-loop-tree l = record {
   placed : l.place ≡ length l.yielded;
   stored : games_of l.games.items ≡ games_of l.fn.games.items ++ games_from l.name 0 l.yielded;
-  changes : All IsOfItsTree l.fn.games.items → All IsOfItsTree l.games.items;
+  of_their_trees : All IsOfItsTree l.fn.games.items → All IsOfItsTree l.games.items;
 }

@@ -27,7 +27,7 @@ pub invariant_of-self-2 : goal.invariant_of-self-2
 invariant_of-self-2 g c = (
   counts_of-more c.self.inside.counts c.in_ok-imported.counts (games_of c.self.inside.games.items) (games_kept c.in_ok-imported.imported) (games_of c.add_games.new.games.items) c.self.invariant.0 c.in_ok-imported.ensures.added c.in_ok-add_games.ensures.added,
   c.in_ok-imported.ensures.room c.self.invariant.1,
-  c.in_ok-add_games.ensures.changes c.self.invariant.2,
+  c.in_ok-add_games.ensures.of_their_trees c.self.invariant.2,
 )
 
 pub invariant_of-self : goal.invariant_of-self
