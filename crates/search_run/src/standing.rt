@@ -178,8 +178,7 @@ impl Standing {
             line,
             query,
             filter,
-        } in searches
-        {
+        } in searches {
             session.answer_search(
                 alloc,
                 *line,

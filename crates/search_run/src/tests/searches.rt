@@ -45,13 +45,25 @@ const HIGH: &str = "(;SZ[3:5]AB[aa][ba])";
 
 const PLAYED_LATER: &str = "(;SZ[9];B[aa];W[tt];B[];W[ba])";
 
+// A game with two handicap stones, and variations behind Black's second move.
+const HANDICAP: &str = "(;GM[1]FF[4]CA[UTF-8]AP[CGoban:3]ST[2]\nRU[Japanese]SZ[19]HA[2]KM[0.50]\n\
+    PW[Ito]PB[Sato]WR[5d]BR[3d]DT[2003-04-12]PC[The Kiseido Go Server]RE[W+Resign]AB[dp][pd]\n\
+    ;W[qp]C[Hi [3d\\]: good game]\n;B[dd](;W[pq];B[po])(;W[fc];B[cf]))\n";
+
+// Nineteen passes, and then move 20.
+const LATE_POINT: &str = "(;PB[A]PW[B]RE[B+R];B[];B[];B[];B[];B[];B[];B[];B[];B[];B[]\
+    ;B[];B[];B[];B[];B[];B[];B[];B[];B[];W[dd])";
+
+const LATE_POINT_MIRRORED: &str = "(;PB[B]PW[C]RE[W+3.5];B[];B[];B[];B[];B[];B[];B[];B[];B[];B[]\
+    ;B[];B[];B[];B[];B[];B[];B[];B[];B[];W[pd])";
+
 const NOTHING_FOUND: &str = "3 search version 1 games 1 hits 0\ntotal 0 0 0 0 0 0\n";
 
 const ONE_STONE_TWICE: &str =
     "3 search version 1 games 1 hits 2\nhit 0 1 2 2 0 -\nhit 0 3 2 1 0 -\ntotal 2 0 0 0 0 2\n";
 
 #[rattlefmt::skip]
-const CASES: [Case; 28] = [
+const CASES: [Case; 32] = [
     (&[GAME], "search same fixed X\n", ONE_STONE_TWICE),
     (&[GAME], "search same X\n", ONE_STONE_TWICE),
     // the colours exchanged
@@ -183,6 +195,33 @@ const CASES: [Case; 28] = [
         "together\n# black\n\nsearch same fixed XX\nend\ngame 1\n",
         "6 search version 1 games 1 hits 0\ntotal 0 0 0 0 0 0\n8 game 1 version 1 none\n",
     ),
+    // a filter: who played, and when
+    (
+        &[HANDICAP],
+        "search at 0 0 ....../....../.....O/...X../....../..X... where player \"Sato\" and from 2003-01-01 and to 2003-12-31\n",
+        "3 search version 1 games 1 hits 1\nhit 0 6 0 0 0 -\ntotal 1 0 0 0 1 0\n",
+    ),
+    (
+        &[HANDICAP],
+        "search at 0 0 ....../....../.....O/...X../....../..X... where black \"Ito\"\n",
+        "3 search version 1 games 1 hits 0\ntotal 0 0 0 0 0 0\n",
+    ),
+    // each search of a block with a filter of its own
+    (
+        &[GAME, HANDICAP],
+        "together\nsearch same O where white \"Ito\" and result white\nsearch same O where white \"\"\nend\n",
+        "4 search version 1 games 2 hits 3\nhit 1 1 16 15 0 -\nhit 1 3 15 16 0 -\nhit 1 5 5 2 0 -\n\
+         total 3 0 0 0 3 0\n5 search version 1 games 2 hits 4\nhit 0 2 1 2 0 -\n\
+         hit 1 1 16 15 0 -\nhit 1 3 15 16 0 -\nhit 1 5 5 2 0 -\ntotal 4 0 0 0 3 1\n",
+    ),
+    // one game in two files, the second one mirrored
+    (
+        &[LATE_POINT, LATE_POINT_MIRRORED],
+        "doubles\nsignature pd**********\nplayers\n",
+        "3 doubles version 1 games 2 groups 1\ndouble dd?????????? 0 1\n\
+         4 signature version 1 games 2 found 2\ngame 0 dd??????????\ngame 1 dd??????????\n\
+         5 players version 1 games 2 names 3\nplayer 1 1 0 A\nplayer 2 0 2 B\nplayer 1 1 0 C\n",
+    ),
     (&[GAME], "until 9\n", "3 until 9 version 1\n"),
     (
         &[GAME, GAME],
@@ -216,6 +255,16 @@ fn statements_over_no_games(rt: HostRuntime) -> Result<(), Fail> {
     let cases = [
         ("until 3\n", "1 until 3 version 0\n"),
         ("game 5\n", "1 game 5 version 0 none\n"),
+        ("players\n", "1 players version 0 games 0 names 0\n"),
+        ("doubles\n", "1 doubles version 0 games 0 groups 0\n"),
+        (
+            "signature ************\n",
+            "1 signature version 0 games 0 found 0\n",
+        ),
+        (
+            "search X where player \"\"\n",
+            "1 search version 0 games 0 hits 0\ntotal 0 0 0 0 0 0\n",
+        ),
         (
             "together\nsearch X\nend",
             "2 search version 0 games 0 hits 0\ntotal 0 0 0 0 0 0\n",
