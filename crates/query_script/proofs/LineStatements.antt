@@ -120,7 +120,7 @@ search_or_signature words one other is is' =
     omega (arith, second)
 
 -- words that spell a search spell no other statement
-search_alone : (words body : List Word) (s : Statement) → words ≡ bare (codes "search") ∷ body → IsStatement words s → IsSearch s
+pub search_alone : (words body : List Word) (s : Statement) → words ≡ bare (codes "search") ∷ body → IsStatement words s → IsSearch s
 search_alone words body (statement.Import path) name (w, is, path_is) = absurd (two_names 115 105 _ _ words body _ name is (λ e. omega (arith, e)))
 search_alone words body statement.Wait name is = absurd (two_names 115 119 _ _ words body _ name is (λ e. omega (arith, e)))
 search_alone words body (statement.Until number) name (w, is, number_is, bound) = absurd (two_names 115 117 _ _ words body _ name is (λ e. omega (arith, e)))

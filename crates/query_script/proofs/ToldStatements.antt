@@ -4,13 +4,11 @@ use Rattle.std.proofs.lemmas.Bool.{cases_eq, cases_lt}
 use Rattle.std.proofs.lemmas.List.Elements.{All-cons, All-head, All-nil, All-tail}
 use Rattle.std.proofs.lemmas.Str.{IsUtf8-from_is_utf8, is_utf8-from_IsUtf8}
 use Rattle.std.specs.Str.{IsUtf8, is_utf8}
-use Rattle.pattern_images.specs.declared.query.Query.{Query}
 use Rattle.dyer_signature.specs.declared.bytes.SigPattern.{SigPattern}
 use Rattle.dyer_signature.specs.Patterns.{IsSignaturePatternByte, star}
 use Rattle.dyer_signature.specs.Signatures.{question_mark}
 use Rattle.sgf_reader.specs.Bytes.{capital_a, capital_z, small_a, small_z}
 use Rattle.sgf_reader.specs.Grammar.{IsLetter, IsUpper}
-use Rattle.info_filter.specs.declared.filter.Filter.{Filter}
 use Rattle.pattern_images.proofs.Tellings.{Told, told_both, told_le}
 use Rattle.query_script.specs.declared.statement.Statement.{Statement}
 use Rattle.query_script.specs.declared.statement.Statement.TheVariants as statement
@@ -20,7 +18,7 @@ use Rattle.query_script.specs.Conditions.{IsFilteredBody}
 use Rattle.query_script.specs.Reading.{BeginsOtherwise}
 use Rattle.query_script.specs.Statements.{IsPath, IsSignaturePattern, IsStatement, most_number}
 use Rattle.query_script.specs.Words.{IsNumber, bare, bytes_of}
-use Rattle.query_script.proofs.LineStatements.{search_or_signature, two_names}
+use Rattle.query_script.proofs.LineStatements.{search_alone, search_or_signature, two_names}
 use Rattle.query_script.proofs.Numbers.{IsNumber-once}
 use Rattle.query_script.proofs.FilteredBodies.{told_filtered_body}
 use Rattle.query_script.proofs.ToldSearches.{behind_name, same_bare, same_first, told_name, told_up_to}
@@ -69,17 +67,6 @@ until_alone words rest statement.Players name is = absurd (two_names 117 112 _ _
 until_alone words rest statement.Doubles name is = absurd (two_names 117 100 _ _ words rest _ name is (λ e. omega (arith, e)))
 until_alone words rest (statement.Game number) name (w, is, number_is, bound) = absurd (two_names 117 103 _ _ words rest _ name is (λ e. omega (arith, e)))
 until_alone words rest (statement.Together searches) name told = absurd told
-
-search_alone : (words rest : List Word) (s : Statement) → words ≡ bare (codes "search") ∷ rest → IsStatement words s → (query : Query) × (filter : Filter) × (s ≡ statement.Search query filter)
-search_alone words rest (statement.Import path) name (w, is, path_is) = absurd (two_names 115 105 _ _ words rest _ name is (λ e. omega (arith, e)))
-search_alone words rest statement.Wait name is = absurd (two_names 115 119 _ _ words rest _ name is (λ e. omega (arith, e)))
-search_alone words rest (statement.Until number) name (w, is, number_is, bound) = absurd (two_names 115 117 _ _ words rest _ name is (λ e. omega (arith, e)))
-search_alone words rest (statement.Search query filter) name told = (query, filter, refl)
-search_alone words rest (statement.Signature pattern) name (is, pattern_is) = absurd (search_or_signature words rest _ name is)
-search_alone words rest statement.Players name is = absurd (two_names 115 112 _ _ words rest _ name is (λ e. omega (arith, e)))
-search_alone words rest statement.Doubles name is = absurd (two_names 115 100 _ _ words rest _ name is (λ e. omega (arith, e)))
-search_alone words rest (statement.Game number) name (w, is, number_is, bound) = absurd (two_names 115 103 _ _ words rest _ name is (λ e. omega (arith, e)))
-search_alone words rest (statement.Together searches) name told = absurd told
 
 signature_alone : (words rest : List Word) (s : Statement) → words ≡ bare (codes "signature") ∷ rest → IsStatement words s → (pattern : SigPattern) × (s ≡ statement.Signature pattern)
 signature_alone words rest (statement.Import path) name (w, is, path_is) = absurd (two_names 115 105 _ _ words rest _ name is (λ e. omega (arith, e)))

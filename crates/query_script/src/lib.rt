@@ -1,9 +1,9 @@
 //! The script: its grammar, and the printed texts of its statements.
 //!
 //! Stands on kb_geometry, game_tree, pattern_images, pattern_syntax, continuation_table,
-//! info_filter, dyer_signature and the library bstr, which splits the lines. The layer above uses that `read_script` gives the
-//! statements of a script in the grammar, or else its least bad line, and that `print_hits` and the
-//! other printers append the texts.
+//! info_filter, dyer_signature and the library bstr, which splits the lines. The layer above uses
+//! that `read_script` gives the statements of a script in the grammar, or else its least bad line,
+//! and that `print_hits` and the other printers append the texts.
 #![tactic(auto)]
 
 mod conditions;

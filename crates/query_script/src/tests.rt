@@ -1,4 +1,5 @@
 // Scripts that are read or refused, worked out by hand from the grammar.
+mod conditions;
 mod printed;
 
 use crate::{MAX_SCRIPT, Placed, PlacedSearch, ScriptError, Statement, read_script};
