@@ -8,3 +8,4 @@ pub mod Tables
 pub mod OneTable
 pub mod SomeDay
 pub mod WrittenDays
+pub mod ToldFilters

@@ -12,7 +12,7 @@ use Rattle.info_filter.proofs.Calendars.{day_once, day_there, no_day}
 use Rattle.info_filter.proofs.DateTexts.{made, no_day as no_day_part, no_end, no_month, no_year}
 
 -- one of two, where it can be told
-abbrev Tells : Type 0 → Type 0
+abbrev pub Tells : Type 0 → Type 0
 Tells A = A ⊎ ¬ A
 
 tells_le : (a b : ℕ) → Tells (a ≤ b)
@@ -26,7 +26,7 @@ tells_both (inl a) (inl b) = inl (a, b)
 tells_both (inl a) (inr never) = inr (λ both. never both.1)
 tells_both (inr never) b = inr (λ both. never both.0)
 
-tells_either : {A B : Type 0} → Tells A → Tells B → Tells (A ⊎ B)
+pub tells_either : {A B : Type 0} → Tells A → Tells B → Tells (A ⊎ B)
 tells_either (inl a) b = inl (inl a)
 tells_either (inr never) (inl b) = inl (inr b)
 tells_either (inr never) (inr none) = inr (λ e. elim e [ inl a ↦ never a | inr b ↦ none b ])

@@ -7,6 +7,7 @@ use Rattle.sgf_writer.specs.Written.{IsWritten}
 use Rattle.std.proofs.lemmas.List.{get_or-map, length-map}
 use Rattle.pattern_images.specs.declared.hit.Hit.{Hit}
 use Rattle.pattern_images.specs.declared.query.Query.{Query}
+use Rattle.info_filter.specs.declared.filter.Filter.{Filter}
 use Rattle.continuation_table.specs.Table.{IsTable, TableView}
 use Rattle.query_script.specs.Texts.{game_head, no_game_text, search_text}
 use Rattle.session_core.specs.declared.stored.Stored.{Stored}
@@ -17,10 +18,10 @@ use Rattle.session_core.specs.Stores.{view_of}
 use Rattle.session_core.proofs.AddedHits.{OnOk-then}
 
 -- the text of a search was appended
-pub IsSearchText-printed : {T E : Type 0} (result : Result T E) (line version : ℕ) (games : List Stored) (query : Query) (hits : List Hit) (table : TableView) (old new : List ℕ)
-    → AreHits query (games_of games) hits → IsTable hits table → OnOk result (new ≡ old ++ search_text line version (length games) hits table)
-    → OnOk result ((text : List ℕ) × IsSearchText line (view_of version games) query text × (new ≡ old ++ text))
-IsSearchText-printed result line version games query hits table old new are is printed =
+pub IsSearchText-printed : {T E : Type 0} (result : Result T E) (line version : ℕ) (games : List Stored) (query : Query) (filter : Filter) (hits : List Hit) (table : TableView) (old new : List ℕ)
+    → AreHits query filter (games_of games) hits → IsTable hits table → OnOk result (new ≡ old ++ search_text line version (length games) hits table)
+    → OnOk result ((text : List ℕ) × IsSearchText line (view_of version games) query filter text × (new ≡ old ++ text))
+IsSearchText-printed result line version games query filter hits table old new are is printed =
     OnOk-then result printed (λ same. (
       search_text line version (length games) hits table,
       record { hits = hits; table = table; are_hits = are; is_table = is; text_is = ap (λ n. search_text line version n hits table) (sym (length-map games game_of)) },

@@ -4,10 +4,11 @@ use Rattle.game_tree.specs.Tree.{Tree}
 use Rattle.capture_board.specs.Deltas.{Deltas}
 use Rattle.pattern_images.specs.declared.hit.Hit.{Hit}
 use Rattle.pattern_images.specs.declared.query.Query.{Query}
+use Rattle.info_filter.specs.declared.filter.Filter.{Filter}
 use Rattle.pattern_images.specs.Placements.{ArePlacements, Placement}
 use Rattle.line_matcher.specs.Occurrences.{occurrences_in}
 use Rattle.node_position.specs.Games.{AreNodeChanges}
-use Rattle.session_core.specs.Hits.{AreHitsIn, AreHitsOf}
+use Rattle.session_core.specs.Hits.{AreGameHits, AreHitsIn, AreHitsOf, AsksFor}
 use Rattle.session_core.specs.Searching.{AreHitsAdded}
 use Rattle.session_core.proofs.AddedHits.{AreHitsAdded-none}
 use Rattle.session_core.proofs.WhereFound.{no_occurrences}
@@ -32,3 +33,12 @@ module _ (query : Query) (number : ℕ) (game : Tree) (changes : Deltas) (of : A
         are_placements = are;
         are_hits = subst (λ os. AreHitsOf query number game changes placements os []) (sym (no_occurrences changes placements none)) AreHitsOf.nothing;
       }))
+
+module _ (query : Query) (filter : Filter) (number : ℕ) (game : Tree) (old : List Hit) where
+  -- those in a game that is asked for
+  pub AreGameHits-asked : (new : List Hit) → AsksFor query filter game → AreHitsAdded (AreHitsIn query number game) old new → AreHitsAdded (AreGameHits query filter number game) old new
+  AreGameHits-asked new asks added = record { more = added.more; added = added.added; are_hits = AreGameHits.asked asks added.are_hits }
+
+  -- none in one that isn't
+  pub AreGameHits-none : ¬ AsksFor query filter game → AreHitsAdded (AreGameHits query filter number game) old old
+  AreGameHits-none not = AreHitsAdded-none (AreGameHits query filter number game) old (AreGameHits.not_asked not)

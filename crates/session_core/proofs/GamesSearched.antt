@@ -1,5 +1,5 @@
 -- Searching one game after another.
-use Rattle.std.proofs.Common.{◌≡◌, ℕ, ◌+◌, ◌<◌, ◌≤◌, inl, inr, List, [], ◌∷◌, ◌++◌, length, get_or, take, sym, ap, ◌∙◌, subst, zero-add, arith}
+use Rattle.std.proofs.Common.{◌≡◌, ℕ, zero, suc, ◌+◌, ◌-◌, ◌<◌, ◌≤◌, inl, inr, List, [], ◌∷◌, ◌++◌, length, get_or, take, sym, ap, ◌∙◌, subst, add-zero, zero-add, arith}
 use Rattle.std.specs.Prelude.{◌==◌, ◌&&◌, All}
 use Rattle.std.specs.Bool.{Decides}
 use Rattle.std.proofs.lemmas.Bool.{and_from, and_parts, cases_lt, eq-eqb, eqb-true}
@@ -8,21 +8,23 @@ use Rattle.kb_geometry.proofs.Shapes.{shape_same}
 use Rattle.std.proofs.lemmas.List.{get_or_default, length-map, length-take-le, map_push, take_more}
 use Rattle.pattern_images.specs.declared.hit.Hit.{Hit}
 use Rattle.pattern_images.specs.declared.query.Query.{Query}
+use Rattle.info_filter.specs.declared.filter.Filter.{Filter}
 use Rattle.session_core.specs.declared.stored.Stored.{Stored}
-use Rattle.pattern_images.specs.Placements.{ArePlacements, Placement}
+use Rattle.pattern_images.specs.Query.{IsForBoard}
 use Rattle.session_core.specs.Games.{IsOfItsTree, game_of, games_of}
-use Rattle.session_core.specs.Hits.{AreGameHits, AreHits, AreHitsFrom, AreHitsIn}
+use Rattle.session_core.specs.Hits.{AreGameHits, AreHits, AreHitsFrom, AsksFor}
 use Rattle.session_core.specs.Searching.{AreHitsAdded, IsRun}
+use Rattle.session_core.proofs.AddedHits.{AreHitsAdded-none}
 
 -- one game more is searched
-pub AreHits-more : (query : Query) (games : List Stored) (n : ℕ) (stored : Stored) (hits new : List Hit) → n < length games → stored ≡ get_or games n stored → AreHits query (games_of (take n games)) hits
-    → AreHitsAdded (AreHitsIn query n stored.tree) hits new → AreHits query (games_of (take (n + 1) games)) new
-AreHits-more query games n stored hits new lt is so_far added =
+pub AreHits-more : (query : Query) (filter : Filter) (games : List Stored) (n : ℕ) (stored : Stored) (hits new : List Hit) → n < length games → stored ≡ get_or games n stored → AreHits query filter (games_of (take n games)) hits
+    → AreHitsAdded (AreGameHits query filter n stored.tree) hits new → AreHits query filter (games_of (take (n + 1) games)) new
+AreHits-more query filter games n stored hits new lt is so_far added =
     let counted : length (games_of (take n games)) ≡ n = length-map (take n games) game_of ∙ length-take-le n games (omega arith) in
     let next : games_of (take (n + 1) games) ≡ games_of (take n games) ++ game_of stored ∷ [] = ap games_of (take_more games n stored lt ∙ ap (λ (s : Stored). take n games ++ s ∷ []) (sym is)) ∙ map_push game_of (take n games) stored in
-    subst (λ gs. AreHits query gs new) (sym next)
-    (subst (λ hs. AreHits query (games_of (take n games) ++ game_of stored ∷ []) hs) (sym added.added)
-    (AreHitsFrom.one_more (game_of stored) added.more so_far (AreGameHits.asked tt (subst (λ k. AreHitsIn query k stored.tree added.more) (sym counted ∙ sym (zero-add (length (games_of (take n games))))) added.are_hits))))
+    subst (λ gs. AreHits query filter gs new) (sym next)
+    (subst (λ hs. AreHits query filter (games_of (take n games) ++ game_of stored ∷ []) hs) (sym added.added)
+    (AreHitsFrom.one_more (game_of stored) added.more so_far (subst (λ k. AreGameHits query filter k stored.tree added.more) (sym counted ∙ sym (zero-add (length (games_of (take n games))))) added.are_hits)))
 
 -- ---- runs of games on boards of one shape
 pub IsRun-more : (games : List Stored) (from to : ℕ) (first last : Stored) → from < length games → to < length games → IsRun games from to → first ≡ get_or games from first → last ≡ get_or games to last
@@ -50,15 +52,35 @@ same_shape a b = (
 )
 
 module _ (games : List Stored) (k : ℕ) (stored : Stored) (lt : k < length games) (is : stored ≡ get_or games k stored) where
-  -- the changes of one of the games are its tree's
-  pub has_its_changes : All IsOfItsTree games → IsOfItsTree stored
-  has_its_changes all = subst IsOfItsTree (sym is) (all k stored lt)
+  -- what is stored beside the tree of one of the games is the tree's
+  pub is_of_its_tree : All IsOfItsTree games → IsOfItsTree stored
+  is_of_its_tree all = subst IsOfItsTree (sym is) (all k stored lt)
 
-  -- the placements on the board of a run are those on the board of each of its games
-  pub placements_on_run : (query : Query) (placements : List Placement) (shape : Shape) (from to : ℕ) (first : Stored) → All IsOfItsTree games → from ≤ k → k < to → IsRun games from to → first ≡ get_or games from first
-      → shape ≡ first.deltas.shape → ArePlacements query shape placements → ArePlacements query stored.tree.shape placements
-  placements_on_run query placements shape from to first all low high run at same are =
+  -- the board of a run is that of the tree of each of its games
+  pub shape_on_run : (shape : Shape) (from to : ℕ) (first : Stored) → All IsOfItsTree games → from ≤ k → k < to → IsRun games from to → first ≡ get_or games from first → shape ≡ first.deltas.shape → shape ≡ stored.tree.shape
+  shape_on_run shape from to first all low high run at same =
       let one : stored.deltas.shape ≡ (get_or games k first).deltas.shape = ap (λ (s : Stored). s.deltas.shape) (is ∙ get_or_default games k stored first lt) in
       let other : (get_or games from first).deltas.shape ≡ first.deltas.shape = ap (λ (s : Stored). s.deltas.shape) (sym at) in
-      let has = has_its_changes all in
-      subst (λ (s : Shape). ArePlacements query s placements) (same ∙ sym other ∙ sym (run k first low high) ∙ sym one ∙ has.lead.same_shape) are
+      let has = is_of_its_tree all in
+      same ∙ sym other ∙ sym (run k first low high) ∙ sym one ∙ has.changes.lead.same_shape
+
+-- a run on boards for which the query isn't: none of its games is asked for
+module _ (query : Query) (filter : Filter) (games : List Stored) (from to : ℕ) (first : Stored) (shape : Shape) (all : All IsOfItsTree games) (below : from < to) (within : to ≤ length games) (run : IsRun games from to) (at : first ≡ get_or games from first) (same : shape ≡ first.deltas.shape) (other : ¬ IsForBoard query shape) (hits : List Hit) where
+  abbrev so_far : ℕ → Type 0
+  so_far k = AreHits query filter (games_of (take k games)) hits
+
+  not_asked : (k : ℕ) → from ≤ k → k < to → so_far k → so_far (k + 1)
+  not_asked k low high before =
+      let stored = get_or games k first in
+      let lt : k < length games = omega (arith, high, within) in
+      let is = get_or_default games k first stored lt in
+      let here = shape_on_run games k stored lt is shape from to first all low high run at same in
+      let none : ¬ AsksFor query filter stored.tree = λ asks. other (subst (λ (s : Shape). IsForBoard query s) (sym here) asks.0) in
+      AreHits-more query filter games k stored hits hits lt is before (AreHitsAdded-none (AreGameHits query filter k stored.tree) hits (AreGameHits.not_asked none))
+
+  not_asked_to : (n : ℕ) → from + n ≤ to → so_far from → so_far (from + n)
+  not_asked_to zero le before = subst so_far (sym (add-zero from)) before
+  not_asked_to (suc n) le before = subst so_far (omega arith) (not_asked (from + n) (omega arith) (omega (arith, le)) (not_asked_to n (omega (arith, le)) before))
+
+  pub AreHits-other_board : so_far from → so_far to
+  AreHits-other_board before = subst so_far (omega (arith, below)) (not_asked_to (to - from) (omega (arith, below)) before)

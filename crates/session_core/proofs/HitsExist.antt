@@ -1,7 +1,7 @@
 -- Games have their hits: each occurrence has a hit or is one at which the query doesn't look.
 use Prim.Native.Nat.{zero}
 use Rattle.std.proofs.Common.{◌≡◌, ◌⊎◌, inl, inr, ℕ, suc, ◌+◌, ◌<◌, ◌≤◌, List, [], ◌∷◌, ◌++◌, length, get_or, take, Option, Some, None, refl, sym, ap, ◌∙◌, subst, add-zero, add-one, arith}
-use Rattle.std.specs.Prelude.{All, IsTrue}
+use Rattle.std.specs.Prelude.{◌==◌, ◌&&◌, All, IfSome, IsTrue}
 use Rattle.std.proofs.lemmas.Bool.{cases_Bool, cases_lt, false≢true}
 use Rattle.std.proofs.lemmas.List.{take_all, take_more}
 use Rattle.std.proofs.lemmas.List.Elements.{All-head, All-tail}
@@ -18,15 +18,19 @@ use Rattle.pattern_images.specs.declared.hit.Hit.{Hit}
 use Rattle.pattern_images.specs.declared.hit.Next.{Next}
 use Rattle.pattern_images.specs.declared.hit.Place.{Place}
 use Rattle.pattern_images.specs.declared.query.Query.{Query}
+use Rattle.info_filter.specs.declared.filter.Filter.{Filter}
 use Rattle.pattern_images.specs.ImageList.{IsPlaceOf, IsPlacedOn, placement_at}
 use Rattle.pattern_images.specs.Placements.{ArePlacements, IsResult, Placement}
+use Rattle.pattern_images.specs.Query.{IsForBoard}
+use Rattle.info_filter.proofs.ToldFilters.{told_accepts}
 use Rattle.pattern_images.proofs.Existence.{some_list}
 use Rattle.pattern_images.proofs.PlacedOn.{IsPlacedOn-result}
 use Rattle.continuation_table.proofs.ToldContinuations.{told_continuation}
 use Rattle.line_matcher.specs.declared.occurrence.Occurrence.{Occurrence}
 use Rattle.line_matcher.specs.Occurrences.{occurrences_in}
 use Rattle.node_position.specs.Games.{AreNodeChanges, Game}
-use Rattle.session_core.specs.Hits.{AreGameHits, AreHitsFrom, AreHitsOf, GoesOn, IsHit, LooksAt}
+use Rattle.session_core.specs.Hits.{AreGameHits, AreHitsFrom, AreHitsIn, AreHitsOf, AsksFor, GoesOn, IsHit, LooksAt}
+use Rattle.session_core.proofs.GamesSearched.{same_shape}
 use Rattle.session_core.proofs.HitParts.{AreHitsFrom-append}
 use Rattle.session_core.proofs.WhereFound.{IsThere, occurrences_are_there}
 
@@ -109,8 +113,21 @@ module _ (query : Query) (number : ℕ) (tree : Tree) (is_tree : IsTree tree) (c
 
 -- ---- the hits of games
 
-game_hits : (query : Query) (number : ℕ) (tree : Tree) → IsTree tree → (hits : List Hit) × AreGameHits query number tree hits
-game_hits query number tree is_tree =
+-- the query is for a board of this shape or not
+told_board : (query : Query) (shape : Shape) → IsForBoard query shape ⊎ ¬ IsForBoard query shape
+told_board query shape = told query.board
+  where
+    told : (board : Option Shape) → IfSome board (λ (b : Shape). b ≡ shape) ⊎ ¬ IfSome board (λ (b : Shape). b ≡ shape)
+    told None = inl tt
+    told (Some board) =
+        let test = same_shape board shape in
+        elim (cases_Bool ((board.cols == shape.cols) && (board.rows == shape.rows))) [
+          | inl t ↦ inl (test.0 t)
+          | inr f ↦ inr (λ same. absurd (false≢true (sym f ∙ test.1 same)))
+        ]
+
+hits_in : (query : Query) (number : ℕ) (tree : Tree) → IsTree tree → (hits : List Hit) × AreHitsIn query number tree hits
+hits_in query number tree is_tree =
     let positions = positions-found tree is_tree in
     let changes = changes-found tree is_tree positions.0 positions.1 in
     let of : AreNodeChanges tree changes.0 = record { positions = positions.0; are_positions = positions.1; net = changes.1; lead = changes.2 } in
@@ -118,20 +135,36 @@ game_hits query number tree is_tree =
     let os = occurrences_in changes.0 placements.0 in
     let hits = hits_to query number tree is_tree changes.0 of placements.0 placements.1 os (occurrences_are_there changes.0 placements.0) (length os) (omega arith) in (
       hits.0,
-      AreGameHits.asked tt (record {
+      record {
         changes = changes.0;
         are_changes = of;
         placements = placements.0;
         are_placements = placements.1;
         are_hits = subst (λ xs. AreHitsOf query number tree changes.0 placements.0 xs hits.0) (take_all (length os) os (omega arith)) hits.1;
-      }),
+      },
     )
 
+-- a game is asked for or not
+asks-or-not : (query : Query) (filter : Filter) (tree : Tree) → AsksFor query filter tree ⊎ ¬ AsksFor query filter tree
+asks-or-not query filter tree = elim (told_board query tree.shape) [
+  | inr other ↦ inr (λ asks. other asks.0)
+  | inl board ↦ elim (told_accepts filter tree.info) [
+    | inl accepts ↦ inl (board, accepts)
+    | inr refuses ↦ inr (λ asks. refuses asks.1)
+  ]
+]
+
+game_hits : (query : Query) (filter : Filter) (number : ℕ) (tree : Tree) → IsTree tree → (hits : List Hit) × AreGameHits query filter number tree hits
+game_hits query filter number tree is_tree = elim (asks-or-not query filter tree) [
+  | inl asks ↦ let hits = hits_in query number tree is_tree in (hits.0, AreGameHits.asked asks hits.1)
+  | inr not ↦ ([], AreGameHits.not_asked not)
+]
+
 -- games of trees have hits
-pub hits-found : (first : ℕ) (query : Query) (games : List Game) → All (λ (g : Game). IsTree g.tree) games → (hits : List Hit) × AreHitsFrom first query games hits
-hits-found first query [] trees = ([], AreHitsFrom.nothing)
-hits-found first query (game ∷ games) trees =
-    let one = game_hits query first game.tree (All-head (λ (g : Game). IsTree g.tree) game games trees) in
-    let single : AreHitsFrom first query (game ∷ []) one.0 = AreHitsFrom.one_more game one.0 AreHitsFrom.nothing (subst (λ k. AreGameHits query k game.tree one.0) (sym (add-zero first)) one.1) in
-    let rest = hits-found (first + 1) query games (All-tail (λ (g : Game). IsTree g.tree) game games trees) in
-    (one.0 ++ rest.0, AreHitsFrom-append first query (game ∷ []) one.0 single games rest.0 rest.1)
+pub hits-found : (first : ℕ) (query : Query) (filter : Filter) (games : List Game) → All (λ (g : Game). IsTree g.tree) games → (hits : List Hit) × AreHitsFrom first query filter games hits
+hits-found first query filter [] trees = ([], AreHitsFrom.nothing)
+hits-found first query filter (game ∷ games) trees =
+    let one = game_hits query filter first game.tree (All-head (λ (g : Game). IsTree g.tree) game games trees) in
+    let single : AreHitsFrom first query filter (game ∷ []) one.0 = AreHitsFrom.one_more game one.0 AreHitsFrom.nothing (subst (λ k. AreGameHits query filter k game.tree one.0) (sym (add-zero first)) one.1) in
+    let rest = hits-found (first + 1) query filter games (All-tail (λ (g : Game). IsTree g.tree) game games trees) in
+    (one.0 ++ rest.0, AreHitsFrom-append first query filter (game ∷ []) one.0 single games rest.0 rest.1)

@@ -6,6 +6,7 @@ use Rattle.game_tree.specs.Tree.{IsTree}
 use Rattle.node_position.specs.Games.{Game}
 use Rattle.pattern_images.specs.declared.hit.Hit.{Hit}
 use Rattle.pattern_images.specs.declared.query.Query.{Query}
+use Rattle.info_filter.specs.declared.filter.Filter.{Filter}
 use Rattle.continuation_table.specs.Table.{IsTable, TableView}
 use Rattle.continuation_table.proofs.OneTable.{one_table}
 use Rattle.continuation_table.proofs.SomeTable.{some_table}
@@ -32,15 +33,15 @@ tree_there : (games : List Game) → All (λ (g : Game). IsTree g.tree) games �
 tree_there games trees n game there = subst (λ (g : Game). IsTree g.tree) (there.at game) (trees n game there.in_range)
 
 module _ (line : ℕ) (view : View) (trees : All (λ (g : Game). IsTree g.tree) view.games) where
-  pub search-text : (query : Query) → (text : List ℕ) × IsSearchText line view query text
-  search-text query =
-      let hits = hits-found 0 query view.games trees in
+  pub search-text : (query : Query) (filter : Filter) → (text : List ℕ) × IsSearchText line view query filter text
+  search-text query filter =
+      let hits = hits-found 0 query filter view.games trees in
       let table = some_table hits.0 in
       (search_text line view.version (length view.games) hits.0 table.0, record { hits = hits.0; table = table.0; are_hits = hits.1; is_table = table.1; text_is = refl })
 
-  pub search-one : (query : Query) (a b : List ℕ) → IsSearchText line view query a → IsSearchText line view query b → a ≡ b
-  search-one query a b one other =
-      let hits = hits-unique 0 query view.games view.games one.hits other.hits trees one.are_hits other.are_hits refl in
+  pub search-one : (query : Query) (filter : Filter) (a b : List ℕ) → IsSearchText line view query filter a → IsSearchText line view query filter b → a ≡ b
+  search-one query filter a b one other =
+      let hits = hits-unique 0 query filter view.games view.games one.hits other.hits trees one.are_hits other.are_hits refl in
       let table = one_table other.hits one.table other.table (subst (λ hs. IsTable hs one.table) hits one.is_table) other.is_table in
       one.text_is
       ∙ ap (λ (hs : List Hit). search_text line view.version (length view.games) hs one.table) hits
@@ -67,7 +68,10 @@ module _ (line : ℕ) (view : View) (trees : All (λ (g : Game). IsTree g.tree) 
   game-one number _ _ (IsGameText.none past) (IsGameText.none too) = refl
 
   pub answer-found : (own : Statement) → IsAnswered own → (text : List ℕ) × IsAnswer line view own text
-  answer-found (statement.Search query) answered = search-text query
+  answer-found (statement.Search query filter) answered = search-text query filter
+  answer-found (statement.Signature pattern) answered = ?
+  answer-found statement.Players answered = ?
+  answer-found statement.Doubles answered = ?
   answer-found (statement.Game number) answered = game-text number
   answer-found (statement.Import path) answered = absurd answered
   answer-found statement.Wait answered = absurd answered
@@ -75,7 +79,10 @@ module _ (line : ℕ) (view : View) (trees : All (λ (g : Game). IsTree g.tree) 
   answer-found (statement.Together searches) answered = absurd answered
 
   pub answer-unique : (own : Statement) (a b : List ℕ) → IsAnswer line view own a → IsAnswer line view own b → a ≡ b
-  answer-unique (statement.Search query) a b one other = search-one query a b one other
+  answer-unique (statement.Search query filter) a b one other = search-one query filter a b one other
+  answer-unique (statement.Signature pattern) a b one other = ?
+  answer-unique statement.Players a b one other = ?
+  answer-unique statement.Doubles a b one other = ?
   answer-unique (statement.Game number) a b one other = game-one number a b one other
   answer-unique (statement.Import path) a b one other = absurd one
   answer-unique statement.Wait a b one other = absurd one

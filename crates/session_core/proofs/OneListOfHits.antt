@@ -14,6 +14,7 @@ use Rattle.pattern_images.specs.declared.hit.Hit.{Hit}
 use Rattle.pattern_images.specs.declared.hit.Next.{Next}
 use Rattle.pattern_images.specs.declared.hit.Place.{Place}
 use Rattle.pattern_images.specs.declared.query.Query.{Query}
+use Rattle.info_filter.specs.declared.filter.Filter.{Filter}
 use Rattle.pattern_images.specs.ImageList.{IsPlaceOf, placement_at}
 use Rattle.pattern_images.specs.Placements.{Placement}
 use Rattle.pattern_images.proofs.OneList.{one_list}
@@ -98,11 +99,11 @@ module _ (query : Query) (number : ℕ) (tree : Tree) (is_tree : IsTree tree) wh
       let here = subst (λ ps. AreHitsOf query number tree other.changes ps (occurrences_in other.changes ps) a) placements moved in
       same_hits number tree other.changes other.placements query _ _ a b here other.are_hits refl
 
-  same_in_game : (a b : List Hit) → AreGameHits query number tree a → AreGameHits query number tree b → a ≡ b
-  same_in_game a b (AreGameHits.asked asks one) (AreGameHits.asked too other) = same_in a b one other
-  same_in_game a _ (AreGameHits.asked asks one) (AreGameHits.not_asked not) = absurd (not asks)
-  same_in_game _ b (AreGameHits.not_asked not) (AreGameHits.asked asks other) = absurd (not asks)
-  same_in_game _ _ (AreGameHits.not_asked not) (AreGameHits.not_asked none) = refl
+  same_in_game : (filter : Filter) (a b : List Hit) → AreGameHits query filter number tree a → AreGameHits query filter number tree b → a ≡ b
+  same_in_game filter a b (AreGameHits.asked asks one) (AreGameHits.asked too other) = same_in a b one other
+  same_in_game filter a _ (AreGameHits.asked asks one) (AreGameHits.not_asked not) = absurd (not asks)
+  same_in_game filter _ b (AreGameHits.not_asked not) (AreGameHits.asked asks other) = absurd (not asks)
+  same_in_game filter _ _ (AreGameHits.not_asked not) (AreGameHits.not_asked none) = refl
 
 -- the parts of a claim on a list and one element more
 last_of_all : {A : Type 0} (P : A → Type 0) (xs : List A) (x : A) → All P (xs ++ x ∷ []) → All P xs × P x
@@ -111,8 +112,8 @@ last_of_all {A} P (y ∷ ys) x all =
     let rest = last_of_all P ys x (λ k d below. all (suc k) d (omega arith)) in
     (All-cons P y ys (all 0 y (omega arith)) rest.0, rest.1)
 
-module _ (first : ℕ) (query : Query) where
-  pub hits-unique : (games more : List Game) (a b : List Hit) → All (λ (g : Game). IsTree g.tree) games → AreHitsFrom first query games a → AreHitsFrom first query more b → games ≡ more → a ≡ b
+module _ (first : ℕ) (query : Query) (filter : Filter) where
+  pub hits-unique : (games more : List Game) (a b : List Hit) → All (λ (g : Game). IsTree g.tree) games → AreHitsFrom first query filter games a → AreHitsFrom first query filter more b → games ≡ more → a ≡ b
   hits-unique _ _ _ _ trees AreHitsFrom.nothing AreHitsFrom.nothing e = refl
   hits-unique _ _ _ _ trees AreHitsFrom.nothing (AreHitsFrom.one_more {games = gs} g found other last) e = absurd (push_not_nil gs g e)
   hits-unique _ _ _ _ trees (AreHitsFrom.one_more {games = gs} g found one last) AreHitsFrom.nothing e = absurd (push_not_nil gs g (sym e))
@@ -121,7 +122,7 @@ module _ (first : ℕ) (query : Query) where
       let split = last_of_all (λ (h : Game). IsTree h.tree) gs g trees in
       let before = hits-unique gs ks hs bs split.0 one other same.0 in
       let number : first + length ks ≡ first + length gs = ap (λ (xs : List Game). first + length xs) (sym same.0) in
-      let moved = subst (λ (h : Game). AreGameHits query (first + length ks) h.tree other_found) (sym same.1) other_last in
-      let here = subst (λ n. AreGameHits query n g.tree other_found) number moved in
-      let now = same_in_game query (first + length gs) g.tree split.1 found other_found last here in
+      let moved = subst (λ (h : Game). AreGameHits query filter (first + length ks) h.tree other_found) (sym same.1) other_last in
+      let here = subst (λ n. AreGameHits query filter n g.tree other_found) number moved in
+      let now = same_in_game query (first + length gs) g.tree split.1 filter found other_found last here in
       λ i. before i ++ now i

@@ -3,9 +3,9 @@ ghost use Rattle.std.specs.Prelude.{All, IfOk, OnOk};
 ghost use Rattle.session_core.specs.Games.{IsOfItsTree};
 
 use crate::{MAX_BASE_GAMES, Session, Stored};
-use game_tree::{GameTree, build};
-use info_filter::{ConditionList, Filter};
-use kb_geometry::{Point, Rect, Shape};
+use game_tree::{Bytes, GameTree, build};
+use info_filter::{Condition, ConditionList, Filter};
+use kb_geometry::{NoMemory, Outcome, Point, Rect, Shape};
 use node_position::deltas;
 use pattern_images::Query;
 use pattern_syntax::read_pattern;
@@ -18,7 +18,20 @@ use std::test::Fail;
 // Files: the name of each, and its text.
 pub(crate) type Files = &'static [(&'static str, &'static str)];
 
-// A search: its options and its pattern.
+// A condition on the information of games. Days are numbers.
+#[derive(Clone, Copy)]
+pub(crate) enum Only {
+    Player(&'static str),
+    Black(&'static str),
+    White(&'static str),
+    Event(&'static str),
+    Place(&'static str),
+    Result(Outcome),
+    From(i32),
+    To(i32),
+}
+
+// A search: its options, its pattern, and its conditions.
 #[derive(Clone, Copy)]
 pub(crate) struct Asked {
     pub same: bool,
@@ -29,6 +42,7 @@ pub(crate) struct Asked {
     /// The one base place.
     pub at: Option<(u8, u8)>,
     pub pattern: &'static str,
+    pub only: &'static [Only],
 }
 
 // The line and the version that the answers tell.
@@ -49,11 +63,32 @@ fn query_of(alloc: Global, asked: Asked) -> Result<Query, Fail> {
     Ok(query)
 }
 
-// The filter that accepts every game.
-fn all(alloc: Global) -> Filter {
-    Filter {
-        conditions: ConditionList::new(Vec::new(alloc)),
+fn bytes_of(alloc: Global, text: &str) -> Result<Bytes, NoMemory> {
+    Ok(Bytes::new(text.as_bytes().to_vec(alloc)?))
+}
+
+fn condition_of(alloc: Global, only: Only) -> Result<Condition, NoMemory> {
+    Ok(match only {
+        Only::Player(name) => Condition::Player(bytes_of(alloc, name)?),
+        Only::Black(name) => Condition::Black(bytes_of(alloc, name)?),
+        Only::White(name) => Condition::White(bytes_of(alloc, name)?),
+        Only::Event(name) => Condition::Event(bytes_of(alloc, name)?),
+        Only::Place(name) => Condition::Place(bytes_of(alloc, name)?),
+        Only::Result(outcome) => Condition::Result(outcome),
+        Only::From(day) => Condition::From(day),
+        Only::To(day) => Condition::To(day),
+    })
+}
+
+// The filter of a search.
+fn filter_of(alloc: Global, asked: Asked) -> Result<Filter, NoMemory> {
+    let mut conditions = Vec::new(alloc);
+    for only in asked.only {
+        conditions.push(condition_of(alloc, *only)?)?;
     }
+    Ok(Filter {
+        conditions: ConditionList::new(conditions),
+    })
 }
 
 // The game with what is kept beside its tree.
@@ -98,13 +133,11 @@ pub(crate) fn search_text(
     asked: Asked,
 ) -> Result<String, Fail> {
     let query = query_of(alloc, asked)?;
+    let filter = filter_of(alloc, asked)?;
     let games = games_of(alloc, files)?;
     assert!(rt; games.len() <= MAX_BASE_GAMES as usize);
     let mut out = Vec::new(alloc);
-    let statement = Statement::Search {
-        query,
-        filter: all(alloc),
-    };
+    let statement = Statement::Search { query, filter };
     Session::new().answer(alloc, LINE, &statement, VERSION, &games, &mut out)?;
     Ok(String::from_utf8(out)?)
 }
@@ -134,12 +167,13 @@ pub(crate) fn two_texts(
     asked: Asked,
 ) -> Result<String, Fail> {
     let query = query_of(alloc, asked)?;
+    let filter = filter_of(alloc, asked)?;
     let games = games_of(alloc, files)?;
     assert!(rt; games.len() <= MAX_BASE_GAMES as usize);
     let mut out = Vec::new(alloc);
     let mut session = Session::new();
     let statement = Statement::Game { number };
     session.answer(alloc, LINE, &statement, VERSION, &games, &mut out)?;
-    session.answer_search(alloc, LINE, &query, &all(alloc), VERSION, &games, &mut out)?;
+    session.answer_search(alloc, LINE, &query, &filter, VERSION, &games, &mut out)?;
     Ok(String::from_utf8(out)?)
 }

@@ -7,4 +7,4 @@ pub returns-clause-some : goal.returns-clause-some
 returns-clause-some c = hits-found
 
 pub returns-clause-one : goal.returns-clause-one
-returns-clause-one c = λ first query games a b trees one other. hits-unique first query games games a b trees one other refl
+returns-clause-one c = λ first query filter games a b trees one other. hits-unique first query filter games games a b trees one other refl

@@ -1,14 +1,14 @@
-use Rattle.std.proofs.Common.{refl}
+use Rattle.std.proofs.Common.{◌≡◌, true, false, sym, ◌∙◌}
 use Rattle.session_core.proofs.AddedHits.{OnOk-then}
-use Rattle.session_core.proofs.GameHits.{AreHitsIn-added, AreHitsIn-none}
+use Rattle.session_core.proofs.GameHits.{AreGameHits-asked, AreGameHits-none}
 use Rattle.session_core.proofs.search.add_game.Goals as goal
 
-pub returns-then-is_empty : goal.returns-then-is_empty
-returns-then-is_empty c =
-    AreHitsIn-none c.args.query.now c.args.number c.args.game.now.tree c.args.game.now.deltas c.requires.changes c.args.matcher.now.images.now.placements c.requires.placements
-    c.args.hits.now.items c.args.hits.now.items (c.is_empty.ensures.0 c.if-is_empty.true) refl
+pub returns-then-not-is_accepted : goal.returns-then-not-is_accepted
+returns-then-not-is_accepted c =
+    AreGameHits-none c.args.query.now c.args.filter.now c.args.number c.args.game.now.tree c.args.hits.now.items
+    (λ asks. let no : false ≡ true = sym c.if-not-is_accepted.true ∙ c.is_accepted.ensures.1 asks.1 in absurd cc)
 
 pub returns : goal.returns
 returns c =
-    OnOk-then c.add_hits.result (rw (c.deref.ensures.value, c.in_ok-found.ensures) at c.add_hits.ensures)
-    (AreHitsIn-added c.args.query.now c.args.number c.args.game.now.tree c.args.game.now.deltas c.requires.changes c.args.matcher.now.images.now.placements c.requires.placements c.args.hits.now.items c.add_hits.new.hits.items)
+    OnOk-then c.add_hits_in.result c.add_hits_in.ensures
+    (AreGameHits-asked c.args.query.now c.args.filter.now c.args.number c.args.game.now.tree c.args.hits.now.items c.add_hits_in.new.hits.items (c.requires.board, c.is_accepted.ensures.0 c.if-not-is_accepted.false))

@@ -16,19 +16,19 @@ loop-occurrence-init c = AreHitsAdded-none (AreHitsOf c.args.query.now c.args.nu
 
 pub looks_at-requires : goal.looks_at-requires
 looks_at-requires c =
-    node_in_tree c.args.game.now.tree c.args.game.now.deltas c.requires.changes c.args.images.now.placements c.args.occurrences.now c.requires.occurrences c.loop-occurrence.occurrence-index (get_or c.args.occurrences.now c.loop-occurrence.occurrence-index none) c.loop-occurrence-test.true (get_or_default c.args.occurrences.now c.loop-occurrence.occurrence-index none (get_or c.args.occurrences.now c.loop-occurrence.occurrence-index none) c.loop-occurrence-test.true)
+    node_in_tree c.args.game.now.tree c.args.game.now.deltas c.requires.stored.changes c.args.images.now.placements c.args.occurrences.now c.requires.occurrences c.loop-occurrence.occurrence-index (get_or c.args.occurrences.now c.loop-occurrence.occurrence-index none) c.loop-occurrence-test.true (get_or_default c.args.occurrences.now c.loop-occurrence.occurrence-index none (get_or c.args.occurrences.now c.loop-occurrence.occurrence-index none) c.loop-occurrence-test.true)
 
 pub hit_of-requires-clause-node : goal.hit_of-requires-clause-node
 hit_of-requires-clause-node c =
-    node_in_tree c.args.game.now.tree c.args.game.now.deltas c.requires.changes c.args.images.now.placements c.args.occurrences.now c.requires.occurrences c.loop-occurrence.occurrence-index (get_or c.args.occurrences.now c.loop-occurrence.occurrence-index none) c.loop-occurrence-test.true (get_or_default c.args.occurrences.now c.loop-occurrence.occurrence-index none (get_or c.args.occurrences.now c.loop-occurrence.occurrence-index none) c.loop-occurrence-test.true)
+    node_in_tree c.args.game.now.tree c.args.game.now.deltas c.requires.stored.changes c.args.images.now.placements c.args.occurrences.now c.requires.occurrences c.loop-occurrence.occurrence-index (get_or c.args.occurrences.now c.loop-occurrence.occurrence-index none) c.loop-occurrence-test.true (get_or_default c.args.occurrences.now c.loop-occurrence.occurrence-index none (get_or c.args.occurrences.now c.loop-occurrence.occurrence-index none) c.loop-occurrence-test.true)
 
 pub hit_of-requires-clause-placement : goal.hit_of-requires-clause-placement
 hit_of-requires-clause-placement c =
-    (is_there c.args.game.now.tree c.args.game.now.deltas c.requires.changes c.args.images.now.placements c.args.occurrences.now c.requires.occurrences c.loop-occurrence.occurrence-index (get_or c.args.occurrences.now c.loop-occurrence.occurrence-index none) c.loop-occurrence-test.true (get_or_default c.args.occurrences.now c.loop-occurrence.occurrence-index none (get_or c.args.occurrences.now c.loop-occurrence.occurrence-index none) c.loop-occurrence-test.true)).placement
+    (is_there c.args.game.now.tree c.args.game.now.deltas c.requires.stored.changes c.args.images.now.placements c.args.occurrences.now c.requires.occurrences c.loop-occurrence.occurrence-index (get_or c.args.occurrences.now c.loop-occurrence.occurrence-index none) c.loop-occurrence-test.true (get_or_default c.args.occurrences.now c.loop-occurrence.occurrence-index none (get_or c.args.occurrences.now c.loop-occurrence.occurrence-index none) c.loop-occurrence-test.true)).placement
 
 pub hit_of-requires-clause-holds : goal.hit_of-requires-clause-holds
 hit_of-requires-clause-holds c =
-    (is_there c.args.game.now.tree c.args.game.now.deltas c.requires.changes c.args.images.now.placements c.args.occurrences.now c.requires.occurrences c.loop-occurrence.occurrence-index (get_or c.args.occurrences.now c.loop-occurrence.occurrence-index none) c.loop-occurrence-test.true (get_or_default c.args.occurrences.now c.loop-occurrence.occurrence-index none (get_or c.args.occurrences.now c.loop-occurrence.occurrence-index none) c.loop-occurrence-test.true)).holds
+    (is_there c.args.game.now.tree c.args.game.now.deltas c.requires.stored.changes c.args.images.now.placements c.args.occurrences.now c.requires.occurrences c.loop-occurrence.occurrence-index (get_or c.args.occurrences.now c.loop-occurrence.occurrence-index none) c.loop-occurrence-test.true (get_or_default c.args.occurrences.now c.loop-occurrence.occurrence-index none (get_or c.args.occurrences.now c.loop-occurrence.occurrence-index none) c.loop-occurrence-test.true)).holds
 
 pub loop-occurrence-preserved : goal.loop-occurrence-preserved
 loop-occurrence-preserved c = elim c.if-looks_at.branch [

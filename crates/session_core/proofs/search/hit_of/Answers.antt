@@ -1,6 +1,4 @@
-use Rattle.std.proofs.Common.{refl, ap, ◌∙◌}
-use Rattle.game_tree.specs.Information.{Information}
-use Rattle.game_tree.specs.Result.{outcome_of}
+use Rattle.std.proofs.Common.{refl}
 use Rattle.pattern_images.specs.ImageList.{placement_at}
 use Rattle.session_core.proofs.AddedHits.{GoesOn-from}
 use Rattle.session_core.proofs.search.hit_of.Goals as goal
@@ -13,6 +11,6 @@ returns c =
       node = refl;
       place = c.place.ensures.value;
       moves = c.move_number.ensures;
-      outcome = c.outcome.ensures ∙ ap (λ (info : Information). outcome_of info.outcome_text) c.info.ensures;
+      outcome = c.requires.stored.outcome;
       next = GoesOn-from game.tree game.deltas (placement_at c.args.images.now.placements o.placement) o.node c.next_below.result c.next_below.ensures.some c.next_below.ensures.none;
     }

@@ -6,5 +6,5 @@ use Rattle.session_core.proofs.search.hits_of.Goals as goal
 pub loop-from-init : goal.loop-from-init
 loop-from-init c = record {
   in_range = omega arith;
-  hits = subst (λ (hits : List Hit). AreHits c.args.query.now [] hits) (sym c.new-hits.ensures.items) AreHitsFrom.nothing;
+  hits = subst (λ (hits : List Hit). AreHits c.args.query.now c.args.filter.now [] hits) (sym c.new-hits.ensures.items) AreHitsFrom.nothing;
 }

@@ -6,7 +6,7 @@ use Rattle.session_core.proofs.search.hits_of.Given as goal
 abbrev pub invariant-loop-from : goal.invariant-loop-from
 invariant-loop-from l = record {
   in_range : l.from ≤ length l.games;
-  hits : AreHits l.query (games_of (take l.from l.games)) l.hits.items;
+  hits : AreHits l.query l.filter (games_of (take l.from l.games)) l.hits.items;
 }
 
 abbrev pub decreases-loop-from : goal.decreases-loop-from
