@@ -5,5 +5,6 @@ pub mod MainMoves
 pub mod OneSignature
 pub mod Pairs
 pub mod PatternImages
-mod SoFar
+pub mod SoFar
+pub mod SomeCanonicalForm
 pub mod Turnings

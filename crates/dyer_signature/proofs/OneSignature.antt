@@ -26,7 +26,7 @@ some_letter n lt = elim (cases_lt n 26) [
 ]
 
 -- and so each point has two letters
-some_pair : (p : Option Point) → IfSome p (λ (r : Point). (r.x < 52) × (r.y < 52)) → (a : ℕ) × (b : ℕ) × IsPair p a b
+pub some_pair : (p : Option Point) → IfSome p (λ (r : Point). (r.x < 52) × (r.y < 52)) → (a : ℕ) × (b : ℕ) × IsPair p a b
 some_pair None inside = (question_mark, question_mark, (refl, refl))
 some_pair (Some p) inside =
     let (a, column) = some_letter p.x inside.0 in

@@ -1,5 +1,5 @@
 // Laws of the words for signatures, images and patterns, for who reads a contract of this crate.
-ghost use Rattle.std.specs.Prelude.{◌≡◌, ◌↔◌, ℕ, List};
+ghost use Rattle.std.specs.Prelude.{◌≡◌, ◌⊎◌, ◌↔◌, ℕ, List};
 ghost use Rattle.kb_geometry.specs.declared.shape.Shape.{Shape};
 ghost use Rattle.game_tree.specs.Tree.{IsTree, Tree};
 ghost use Rattle.dyer_signature.specs.Images.{IsCanonicalForm, IsSignatureImage};
@@ -13,9 +13,12 @@ pub fn a_tree_has_one_signature()
         IsTree tree → IsSignatureOf tree a → IsSignatureOf tree b → a ≡ b }
 {}
 
-/// A signature has one canonical form only: that of [`canonical`](crate::canonical).
+/// A signature on a board has a canonical form, and one only: that of
+/// [`canonical`](crate::canonical).
 pub fn a_signature_has_one_canonical_form()
-    ensures { (shape : Shape) (signature a b : List ℕ) →
+    ensures some { (shape : Shape) (signature : List ℕ) → IsSignatureOn shape signature →
+        (form : List ℕ) × IsCanonicalForm shape signature form }
+    ensures one { (shape : Shape) (signature a b : List ℕ) →
         IsCanonicalForm shape signature a → IsCanonicalForm shape signature b → a ≡ b }
 {}
 
@@ -34,6 +37,12 @@ pub fn images_alone_have_one_canonical_form()
         IsSignatureOn shape signature → IsSignatureOn shape other →
         IsCanonicalForm shape signature form → IsCanonicalForm shape other form_of_other →
         IsSignatureImage shape signature other ↔ (form ≡ form_of_other) }
+{}
+
+/// It can be told whether a signature on a board matches a pattern.
+pub fn a_signature_matches_a_pattern_or_not()
+    ensures { (shape : Shape) (signature pattern : List ℕ) → IsSignatureOn shape signature →
+        Matches shape signature pattern ⊎ ¬ Matches shape signature pattern }
 {}
 
 /// An image of a signature, the canonical form among them, matches a pattern exactly where the

@@ -8,3 +8,9 @@ mod HitParts
 mod HitsExist
 mod OneListOfHits
 pub mod OneAnswer
+mod KeyEntries
+mod Numbered
+mod Groups
+mod FoundGames
+mod ListTexts
+mod GroupTexts

@@ -7,3 +7,5 @@ pub mod Signed
 pub mod Stores
 -- Words of private functions.
 pub mod Searching
+pub mod Listing
+pub mod Grouping

@@ -1,7 +1,16 @@
 // The groups of double games. indexmap keeps their keys in the order of first sight.
-ghost use Rattle.std.specs.Prelude.{◌≡◌, ◌++◌, ◌∷◌, ◌<◌, [], List, IfOk, OnOk, length, map};
-ghost use Rattle.session_core.specs.Doubles.{AreKeysOf, groups_of};
-ghost use Rattle.session_core.specs.Games.{IsOfItsTree, games_of};
+ghost use Rattle.std.specs.Prelude.{◌≡◌, ◌≤◌, IfOk, OnOk, length, map};
+ghost use Rattle.std.specs.List.{flat_map};
+ghost use Rattle.session_core.specs.Doubles.{groups_of, tells_a_point};
+ghost use Rattle.session_core.specs.Grouping.{
+  entries_of,
+  entry_of,
+  group_in,
+  is_group,
+  key_of,
+  stored_key,
+  with_number,
+};
 
 use crate::stored::Stored;
 use dyer_signature::Signature;
@@ -18,7 +27,9 @@ pub(crate) struct DoubleKey {
 
 impl DoubleKey {
     // The key of a game.
-    fn of(game: &Stored) -> DoubleKey {
+    fn of(game: &Stored) -> DoubleKey
+        ensures { key_of result ≡ stored_key game.now }
+    {
         DoubleKey {
             shape: game.tree.shape(),
             form: game.canonical,
@@ -26,8 +37,10 @@ impl DoubleKey {
     }
 
     // Whether a byte of the signature isn't `?`.
-    fn tells_a_point(&self) -> bool {
-        self.form.bytes != [b'?'; 12]
+    fn tells_a_point(&self) -> bool
+        ensures { result ≡ tells_a_point (key_of self.now) }
+    {
+        self.form.bytes.iter().any(|byte| *byte != b'?')
     }
 }
 
@@ -42,7 +55,11 @@ pub(crate) struct Numbers {
 pub(crate) type GamesByKey = IndexMap<DoubleKey, Numbers>;
 
 // The games with each key. The only error is `NoMemory`.
-pub(crate) fn games_by_key(alloc: Global, games: &[Stored]) -> Result<GamesByKey, NoMemory> {
+pub(crate) fn games_by_key(alloc: Global, games: &[Stored]) -> Result<GamesByKey, NoMemory>
+    requires { length games.now ≤ 400000 }
+    ensures { IfOk result (λ by_key. flat_map group_in (entries_of by_key.entries)
+        ≡ groups_of (map stored_key games.now)) }
+{
     let mut by_key = IndexMap::new(alloc);
     for number in 0..games.len() {
         add_game(
@@ -61,9 +78,12 @@ fn add_game(
     by_key: &mut GamesByKey,
     key: DoubleKey,
     number: u32,
-) -> Result<(), NoMemory> {
-    match by_key.get_mut(&key) {
-        Some(numbers) => numbers.others.push(number)?,
+) -> Result<(), NoMemory>
+    ensures { OnOk result (entries_of by_key.new.entries
+        ≡ with_number (entries_of by_key.old.entries) (key_of key) number) }
+{
+    match by_key.get_index_of(&key) {
+        Some(at) => by_key[at].others.push(number)?,
         None => {
             let numbers = Numbers {
                 first: number,
@@ -77,6 +97,8 @@ fn add_game(
 
 // Whether the games with a key are a group of double games: there are two or more, and the
 // signature tells a point.
-pub(crate) fn are_group(key: &DoubleKey, numbers: &Numbers) -> bool {
+pub(crate) fn are_group(key: &DoubleKey, numbers: &Numbers) -> bool
+    ensures { result ≡ is_group (entry_of (key.now, numbers.now)) }
+{
     !numbers.others.is_empty() && key.tells_a_point()
 }
