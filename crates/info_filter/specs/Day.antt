@@ -1,4 +1,5 @@
--- The day of a game, which is read from the text of its date (property DT).
+-- The day of a game, which is read from the text of its date (property DT), and days as they are
+-- written by themselves.
 use Rattle.std.specs.Prelude.{◌≡◌, ◌⊎◌, ℕ, ◌≤◌, ◌<◌, List, ◌∷◌, ◌++◌, length, All, Option, Some, None, ℤ, pos}
 use Rattle.std.specs.Str.Parse.{AllDigits, digits_value}
 use Rattle.jiff_core.specs.Calendar.{IsCivilDate, days_from_civil}

@@ -1,5 +1,5 @@
--- The words of a search with its conditions: the body, and `where COND` and any number of
--- `and COND` behind it.
+-- The words of a search with its conditions: the body, and behind it perhaps `where COND` and any
+-- number of `and COND`.
 use Rattle.std.specs.Prelude.{◌≡◌, ℕ, ℤ, List, [], ◌∷◌, ◌++◌, codes}
 use Rattle.kb_geometry.specs.declared.stone.Outcome.{Outcome}
 use Rattle.kb_geometry.specs.declared.stone.Outcome.TheVariants as outcome
@@ -22,11 +22,11 @@ outcome_word outcome.Void = codes "void"
 outcome_word outcome.Unknown = codes "unknown"
 outcome_word outcome.Other = codes "other"
 
--- the word is the bare name of a kind of condition, and the other one a quoted text
+-- the first word is the bare name of a condition, and the second one a quoted text
 abbrev pub IsTextAsked : List ℕ → List ℕ → Word → Word → Type 0
 IsTextAsked name text kind value = (kind ≡ bare name) × (value ≡ word.Quoted text)
 
--- the word is the bare name of a kind of condition, and the other one a day, written YYYY-MM-DD
+-- the first word is the bare name of a condition, and the second one a day, written YYYY-MM-DD
 abbrev pub IsDayAsked : List ℕ → ℤ → Word → Word → Type 0
 IsDayAsked name day kind value =
     (text : List ℕ) × (kind ≡ bare name) × (value ≡ bare text) × IsWrittenDay text day

@@ -80,8 +80,8 @@ row_text row = row_head row ++ tally_text row.tally
 abbrev pub total_text : Tally → List ℕ
 total_text tally = codes "total " ++ tally_text tally
 
--- `LINE ASKED version V games G COUNTED N`: the first line of a text that is answered from the
--- games of a version
+-- `LINE ASKED version V games G COUNTED N`: the first line of a text that counts something among
+-- the games of a version
 abbrev pub head_text : ℕ → List ℕ → ℕ → ℕ → List ℕ → ℕ → List ℕ
 head_text line asked version games counted count = line_text (decimal line ∷ codes " " ∷ asked
     ∷ codes " version " ∷ decimal version ∷ codes " games " ∷ decimal games ∷ codes " " ∷ counted

@@ -1,4 +1,4 @@
-// The first line of each text that is answered from the games of a version.
+// The first line of a text that counts something among the games of a version.
 ghost use Rattle.std.specs.Prelude.{◌≡◌, ◌++◌, ◌∷◌, [], OnErr, OnOk, codes};
 ghost use Rattle.std.specs.Fmt.{decimal};
 ghost use mathlib.Core.List.{IsPrefix};

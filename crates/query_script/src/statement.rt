@@ -31,7 +31,7 @@ pub enum Statement {
     Signature { pattern: SigPattern },
     /// `players`: the players of the games.
     Players,
-    /// `doubles`: the games that stand there twice or more, however they are turned.
+    /// `doubles`: the groups of games with one board and one canonical signature.
     Doubles,
     /// `game N`: a game as SGF text.
     Game { number: u32 },

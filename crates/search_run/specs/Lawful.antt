@@ -82,10 +82,10 @@ pub record IsAwaited (rules : Rules) (s : State) (awaited n : ℕ) : Type 0 wher
 abbrev pub AreSearchTexts : Rules → State → List PlacedSearch → ℕ → List ℕ → Type 0
 AreSearchTexts rules s [] greatest text = (greatest ≡ 0) × (text ≡ [])
 AreSearchTexts rules s (p ∷ ps) greatest text =
-    (n : ℕ) × (first : List ℕ) × (others : ℕ) × (rest : List ℕ) × IsNamed rules s n
+    (n : ℕ) × (first : List ℕ) × (behind : ℕ) × (rest : List ℕ) × IsNamed rules s n
     × IsSearchText p.line (view_at s n) p.query p.filter first
-    × AreSearchTexts rules s ps others rest
-    × (greatest ≡ max n others) × (text ≡ first ++ rest)
+    × AreSearchTexts rules s ps behind rest
+    × (greatest ≡ max n behind) × (text ≡ first ++ rest)
 
 -- A statement at a line prints this text and leads to the next state, by these entries of the
 -- course. An import and a wait print a report that waits first. A statement that is answered from
