@@ -115,8 +115,8 @@ signature_head line version games found =
     head_text line (codes "signature") version games (codes "found") found
 
 -- `game GAME SIGNATURE`
-abbrev pub signed_game_text : ℕ → List ℕ → List ℕ
-signed_game_text game signature = line_text (codes "game " ∷ decimal game ∷ codes " " ∷ signature
+abbrev pub found_game_text : ℕ → List ℕ → List ℕ
+found_game_text game signature = line_text (codes "game " ∷ decimal game ∷ codes " " ∷ signature
     ∷ [])
 
 -- `LINE players version V games G names N`

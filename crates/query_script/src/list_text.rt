@@ -11,7 +11,7 @@ ghost use Rattle.query_script.specs.Texts.{
   players_head,
   players_text,
   signature_head,
-  signed_game_text,
+  found_game_text,
   spaced,
 };
 
@@ -41,23 +41,23 @@ pub fn print_signature_head(
 
 /// Appends a line for a game that was found by its signature: `game GAME SIGNATURE`. The only error
 /// is `NoMemory`, and then `out` is as before.
-pub fn print_signed_game(
+pub fn print_found_game(
     game: u32,
     signature: &Signature,
     out: &mut Vec<u8>,
 ) -> Result<(), NoMemory>
     ensures ok { OnOk result (out.new.items
-        ≡ out.old.items ++ signed_game_text game signature.now.bytes) }
+        ≡ out.old.items ++ found_game_text game signature.now.bytes) }
     ensures refused { OnErr result (out.new.items ≡ out.old.items) }
 {
     let len = out.len();
-    let done = append_signed_game(out, game, signature);
+    let done = append_found_game(out, game, signature);
     cut_back(out, len, done)
 }
 
-fn append_signed_game(out: &mut Vec<u8>, game: u32, signature: &Signature) -> Result<(), NoMemory>
+fn append_found_game(out: &mut Vec<u8>, game: u32, signature: &Signature) -> Result<(), NoMemory>
     ensures ok { OnOk result (out.new.items
-        ≡ out.old.items ++ signed_game_text game signature.now.bytes) }
+        ≡ out.old.items ++ found_game_text game signature.now.bytes) }
     ensures refused { OnErr result (IsPrefix out.old.items out.new.items) }
 {
     append(out, b"game ")?;

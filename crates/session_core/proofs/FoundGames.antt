@@ -1,16 +1,18 @@
 -- The games that are found by their signatures, one game after another.
 use Rattle.std.proofs.Common.{◌≡◌, ◌∙◌, ◌+◌, ◌<◌, ◌++◌, ◌↔◌, ℕ, List, [], ◌∷◌, Some, All, get_or, length, map, refl, sym, ap, subst, slice_get, take, arith}
 use Rattle.std.specs.Option.{option_map_or}
-use Rattle.std.proofs.lemmas.List.{length-map, length-take-le, map-append, take_more}
+use Rattle.std.specs.List.{flat_map}
+use Rattle.std.proofs.lemmas.List.{flat_map_more, length-map, length-take-le, map-append, take_more}
 use Rattle.std.proofs.lemmas.Option.{slice_get-get_or}
 use Rattle.game_tree.specs.Tree.{IsTree}
 use Rattle.dyer_signature.specs.Patterns.{Matches}
 use Rattle.dyer_signature.specs.Signatures.{IsSignatureOn}
 use Rattle.dyer_signature.proofs.ImageGroups.{matches-image}
 use Rattle.dyer_signature.proofs.SoFar.{signature-on_board}
+use Rattle.query_script.specs.Texts.{found_game_text}
 use Rattle.session_core.specs.declared.stored.Stored.{Stored}
 use Rattle.session_core.specs.Games.{IsOfItsTree, game_of, games_of}
-use Rattle.session_core.specs.Listing.{form_at, found_at}
+use Rattle.session_core.specs.Listing.{form_at, found_at, signed_text}
 use Rattle.session_core.specs.Signed.{AreGamesFound, FoundGame}
 
 module _ (games : List Stored) (n : ℕ) (game : Stored) (below : n < length games) (at : game ≡ get_or games n game) where
@@ -52,3 +54,15 @@ module _ (games : List Stored) (n : ℕ) (game : Stored) (below : n < length gam
         let left_out = AreGamesFound.left_out (game_of game) stored.signature game.canonical.bytes so_far stored.signed (λ matches. differs (same_matches.1 matches)) in
         subst (λ gs. AreGamesFound pattern gs (map (found_at games) new)) (sym games-next)
         (subst (λ (ns : List ℕ). AreGamesFound pattern (games_of (take n games) ++ game_of game ∷ []) (map (found_at games) ns)) (sym same) left_out)
+
+-- one line more
+pub line-more : (games : List Stored) (found : List ℕ) (k : ℕ) (game : Stored) (old out new : List ℕ) → k < length found → get_or found k 0 < length games → game ≡ get_or games (get_or found k 0) game
+    → out ≡ old ++ flat_map (signed_text games) (take k found) → new ≡ out ++ found_game_text (get_or found k 0) game.canonical.bytes → new ≡ old ++ flat_map (signed_text games) (take (k + 1) found)
+line-more games found k game old out new lt below at before printed =
+    let n = get_or found k 0 in
+    let line : found_game_text n game.canonical.bytes ≡ signed_text games n = ap (found_game_text n) (sym (form-is games n game below at)) in
+    printed
+    ∙ ap (λ o. o ++ found_game_text n game.canonical.bytes) before
+    ∙ ap (λ l. (old ++ flat_map (signed_text games) (take k found)) ++ l) line
+    ∙ flat_map_more (signed_text games) old (take k found) n
+    ∙ ap (λ ns. old ++ flat_map (signed_text games) ns) (sym (take_more found k 0 lt))

@@ -14,3 +14,4 @@ mod Groups
 mod FoundGames
 mod ListTexts
 mod GroupTexts
+pub mod ListAnswers

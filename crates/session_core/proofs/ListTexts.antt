@@ -8,7 +8,7 @@ use Rattle.std.proofs.lemmas.List.Folds.{flat_map-map}
 use Rattle.game_tree.specs.Information.{Information}
 use Rattle.info_filter.specs.Players.{IsPlayersTable, TableRow}
 use Rattle.node_position.specs.Games.{Game}
-use Rattle.query_script.specs.Texts.{double_text, doubles_head, players_text, signature_head, signed_game_text}
+use Rattle.query_script.specs.Texts.{double_text, doubles_head, players_text, signature_head, found_game_text}
 use Rattle.session_core.specs.declared.stored.Stored.{Stored}
 use Rattle.session_core.specs.Answers.{IsDoublesText, IsPlayersText, IsSignatureText}
 use Rattle.session_core.specs.Doubles.{DoubleKey, Group, IsKeyOf, groups_of}
@@ -79,8 +79,8 @@ pub IsSignatureText-printed : {T E : Type 0} (result : Result T E) (line version
 IsSignatureText-printed result line version games pattern numbers old between new are head_is printed =
     let found = map (found_at games) numbers in
     let head = signature_head line version (length games) (length numbers) in
-    let lines = flat_map (λ (s : FoundGame). signed_game_text s.game s.form) found in
-    let same_lines : lines ≡ flat_map (signed_text games) numbers = flat_map-map (λ (s : FoundGame). signed_game_text s.game s.form) (found_at games) numbers in
+    let lines = flat_map (λ (s : FoundGame). found_game_text s.game s.form) found in
+    let same_lines : lines ≡ flat_map (signed_text games) numbers = flat_map-map (λ (s : FoundGame). found_game_text s.game s.form) (found_at games) numbers in
     let head_same : head ≡ signature_head line version (length (map game_of games)) (length found) =
     ap (λ n. signature_head line version n (length numbers)) (sym (length-map games game_of)) ∙ ap (signature_head line version (length (map game_of games))) (sym (length-map numbers (found_at games))) in
     OnOk-then result printed (λ same. (

@@ -18,6 +18,7 @@ use Rattle.query_script.specs.declared.statement.Statement.TheVariants as statem
 use Rattle.query_script.specs.Texts.{game_head, no_game_text, search_text}
 use Rattle.session_core.specs.Answers.{IsAnswer, IsAnswered, IsGameText, IsSearchText, IsThere, View}
 use Rattle.session_core.proofs.HitsExist.{hits-found}
+use Rattle.session_core.proofs.ListAnswers.{doubles-one, doubles-text, players-one, players-text, signature-one, signature-text}
 use Rattle.session_core.proofs.OneListOfHits.{hits-unique}
 
 -- the game with a number
@@ -69,9 +70,9 @@ module _ (line : ℕ) (view : View) (trees : All (λ (g : Game). IsTree g.tree) 
 
   pub answer-found : (own : Statement) → IsAnswered own → (text : List ℕ) × IsAnswer line view own text
   answer-found (statement.Search query filter) answered = search-text query filter
-  answer-found (statement.Signature pattern) answered = ?
-  answer-found statement.Players answered = ?
-  answer-found statement.Doubles answered = ?
+  answer-found (statement.Signature pattern) answered = signature-text line view trees pattern.bytes
+  answer-found statement.Players answered = players-text line view trees
+  answer-found statement.Doubles answered = doubles-text line view trees
   answer-found (statement.Game number) answered = game-text number
   answer-found (statement.Import path) answered = absurd answered
   answer-found statement.Wait answered = absurd answered
@@ -80,9 +81,9 @@ module _ (line : ℕ) (view : View) (trees : All (λ (g : Game). IsTree g.tree) 
 
   pub answer-unique : (own : Statement) (a b : List ℕ) → IsAnswer line view own a → IsAnswer line view own b → a ≡ b
   answer-unique (statement.Search query filter) a b one other = search-one query filter a b one other
-  answer-unique (statement.Signature pattern) a b one other = ?
-  answer-unique statement.Players a b one other = ?
-  answer-unique statement.Doubles a b one other = ?
+  answer-unique (statement.Signature pattern) a b one other = signature-one line view trees pattern.bytes a b one other
+  answer-unique statement.Players a b one other = players-one line view trees a b one other
+  answer-unique statement.Doubles a b one other = doubles-one line view trees a b one other
   answer-unique (statement.Game number) a b one other = game-one number a b one other
   answer-unique (statement.Import path) a b one other = absurd one
   answer-unique statement.Wait a b one other = absurd one

@@ -8,7 +8,7 @@ use Rattle.sgf_writer.specs.Written.{IsWritten}
 use Rattle.query_script.specs.declared.statement.Statement.{Statement}
 use Rattle.query_script.specs.declared.statement.Statement.TheVariants as statement
 use Rattle.query_script.specs.Bytes.{line_feed}
-use Rattle.query_script.specs.Texts.{double_text, doubles_head, game_head, no_game_text, players_text, search_text, signature_head, signed_game_text}
+use Rattle.query_script.specs.Texts.{double_text, doubles_head, game_head, no_game_text, players_text, search_text, signature_head, found_game_text}
 use Rattle.info_filter.specs.declared.filter.Filter.{Filter}
 use Rattle.info_filter.specs.Players.{IsPlayersTable, TableRow}
 use Rattle.node_position.specs.Games.{Game}
@@ -53,7 +53,7 @@ pub record IsSignatureText (line : ℕ) (view : View) (pattern : List ℕ)
   pub are_found : AreGamesFound pattern view.games found
   pub text_is : text
       ≡ signature_head line view.version (length view.games) (length found)
-      ++ flat_map (λ (s : FoundGame). signed_game_text s.game s.form) found
+      ++ flat_map (λ (s : FoundGame). found_game_text s.game s.form) found
 
 -- the text of the players: their table
 pub record IsPlayersText (line : ℕ) (view : View) (text : List ℕ) : Type 0 where

@@ -2,7 +2,7 @@
 use Rattle.std.specs.Prelude.{ℕ, List, [], map, slice_get}
 use Rattle.std.specs.Option.{option_map_or}
 use Rattle.game_tree.specs.Information.{Information}
-use Rattle.query_script.specs.Texts.{signed_game_text}
+use Rattle.query_script.specs.Texts.{found_game_text}
 use Rattle.session_core.specs.declared.stored.Stored.{Stored}
 use Rattle.session_core.specs.Signed.{FoundGame}
 
@@ -17,7 +17,7 @@ form_at games number =
 
 -- the line for the game with a number
 abbrev pub signed_text : List Stored → ℕ → List ℕ
-signed_text games number = signed_game_text number (form_at games number)
+signed_text games number = found_game_text number (form_at games number)
 
 -- the game with a number, which was found
 abbrev pub found_at : List Stored → ℕ → FoundGame

@@ -30,7 +30,8 @@ pub fn games_have_one_list_of_hits()
     ensures some { (first : ℕ) (query : Query) (filter : Filter) (games : List Game) →
         All (λ (g : Game). IsTree g.tree) games →
         (hits : List Hit) × AreHitsFrom first query filter games hits }
-    ensures one { (first : ℕ) (query : Query) (filter : Filter) (games : List Game) (a b : List Hit) →
+    ensures one { (first : ℕ) (query : Query) (filter : Filter) (games : List Game)
+        (a b : List Hit) →
         All (λ (g : Game). IsTree g.tree) games →
         AreHitsFrom first query filter games a → AreHitsFrom first query filter games b → a ≡ b }
 {}

@@ -29,7 +29,7 @@ use dyer_signature::{SigPattern, matches};
 use info_filter::Players;
 use kb_geometry::NoMemory;
 use query_script::{
-    print_double, print_doubles_head, print_players, print_signature_head, print_signed_game,
+    print_double, print_doubles_head, print_players, print_signature_head, print_found_game,
 };
 use std::alloc::Global;
 
@@ -63,7 +63,7 @@ fn append_found(games: &[Stored], found: &[u32], out: &mut Vec<u8>) -> Result<()
 {
     for number in found {
         let game = &games[*number as usize];
-        print_signed_game(*number, &game.canonical, out)?;
+        print_found_game(*number, &game.canonical, out)?;
     }
     Ok(())
 }

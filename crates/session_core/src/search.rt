@@ -30,8 +30,8 @@ use std::alloc::Global;
 use std::marker::Brand;
 use std::sync::ledger::{Blank, Ledger};
 
-// The hits of a query in the games that a filter accepts. Games are numbered from 0. Hits stand by game, then by node, then
-// in the order of the placements. The only error is `NoMemory`.
+// The hits of a query in the games that a filter accepts. Games are numbered from 0. Hits stand by
+// game, then by node, then in the order of the placements. The only error is `NoMemory`.
 pub(crate) fn hits_of(
     alloc: Global,
     query: &Query,
@@ -75,9 +75,9 @@ fn have_one_shape(a: &Stored, b: &Stored) -> bool
     a.deltas.shape() == b.deltas.shape()
 }
 
-// Adds the hits of the games of a run. No game is asked where the query names another board. The
-// images are made once, for they are the same on all its
-// boards, and so is the walker, which has room for the greatest board.
+// Adds the hits of the games of a run. No game is asked for where the query names another board.
+// The images are made once, for they are the same on all its boards, and so is the walker, which has
+// room for the greatest board.
 fn add_run(
     alloc: Global,
     query: &Query,

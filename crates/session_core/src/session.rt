@@ -43,8 +43,9 @@ impl Session {
         Session {}
     }
 
-    /// Appends the text of a search, of the games whose signature matches a pattern, of the players,
-    /// of the double games or of a game, whose line is this one, over the games of the version with this number.
+    /// Appends the text of a search, of the games whose signature matches a pattern, of the
+    /// players, of the double games or of a game, whose line is this one, over the games of the
+    /// version with this number.
     ///
     /// There are at most [`MAX_BASE_GAMES`] games, as [`Stored::new`] makes them. The only error is
     /// `NoMemory`; then `out` begins with what it held.

@@ -1,4 +1,5 @@
 // The texts of statements over games from SGF texts. They were worked out by hand.
+mod lists;
 mod made;
 
 use kb_geometry::Outcome;

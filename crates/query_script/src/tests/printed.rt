@@ -1,7 +1,7 @@
 // Printed texts, written down by hand.
 use crate::{
     print_double, print_doubles_head, print_game, print_hits, print_import, print_no_game,
-    print_players, print_signature_head, print_signed_game, print_until, print_wait,
+    print_players, print_signature_head, print_found_game, print_until, print_wait,
 };
 use continuation_table::Table;
 use dyer_signature::Signature;
@@ -196,8 +196,8 @@ fn lines_of_signatures_are_printed(rt: HostRuntime) -> Result<(), Fail> {
     let long = Signature {
         bytes: *b"abcdefghijZ?",
     };
-    print_signed_game(0, &short, &mut out)?;
-    print_signed_game(4294967295, &long, &mut out)?;
+    print_found_game(0, &short, &mut out)?;
+    print_found_game(4294967295, &long, &mut out)?;
     print_double(&long, 3, &[10], &mut out)?;
     print_double(&short, 0, &[7, 4294967295], &mut out)?;
     let wanted = "before\ngame 0 ????????????\ngame 4294967295 abcdefghijZ?\n\

@@ -1,5 +1,6 @@
 // Games, queries and answers for the tests, from texts.
 ghost use Rattle.std.specs.Prelude.{All, IfOk, OnOk};
+ghost use Rattle.session_core.specs.Answers.{IsAnswered};
 ghost use Rattle.session_core.specs.Games.{IsOfItsTree};
 
 use crate::{MAX_BASE_GAMES, Session, Stored};
@@ -101,7 +102,12 @@ fn stored(alloc: Global, file: &str, place: u32, tree: GameTree) -> Result<Store
 }
 
 // Adds the games of a file.
-fn add_file(alloc: Global, file: &str, text: &[u8], games: &mut Vec<Stored>) -> Result<(), Fail>
+pub(crate) fn add_file(
+    alloc: Global,
+    file: &str,
+    text: &[u8],
+    games: &mut Vec<Stored>,
+) -> Result<(), Fail>
     requires { All IsOfItsTree games.old.items }
     ensures { OnOk result (All IsOfItsTree games.new.items) }
 {
@@ -175,5 +181,21 @@ pub(crate) fn two_texts(
     let statement = Statement::Game { number };
     session.answer(alloc, LINE, &statement, VERSION, &games, &mut out)?;
     session.answer_search(alloc, LINE, &query, &filter, VERSION, &games, &mut out)?;
+    Ok(String::from_utf8(out)?)
+}
+
+// The text of a statement over games.
+pub(crate) fn statement_text(
+    rt: &impl Abort,
+    alloc: Global,
+    games: &[Stored],
+    statement: &Statement,
+) -> Result<String, Fail>
+    requires answered { IsAnswered statement.now }
+    requires stored { All IsOfItsTree games.now }
+{
+    assert!(rt; games.len() <= MAX_BASE_GAMES as usize);
+    let mut out = Vec::new(alloc);
+    Session::new().answer(alloc, LINE, statement, VERSION, games, &mut out)?;
     Ok(String::from_utf8(out)?)
 }
