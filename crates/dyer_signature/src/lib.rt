@@ -17,9 +17,8 @@ pub use bytes::{SigPattern, Signature};
 pub use images::canonical;
 pub use laws::{
     a_signature_has_one_canonical_form, a_signature_matches_a_pattern_or_not,
-    a_tree_has_one_signature,
-    an_image_has_the_images_of_its_signature, an_image_matches_where_its_signature_does,
-    images_alone_have_one_canonical_form,
+    a_tree_has_one_signature, an_image_has_the_images_of_its_signature,
+    an_image_matches_where_its_signature_does, images_alone_have_one_canonical_form,
 };
 pub use main_line::signature;
 pub use matching::matches;

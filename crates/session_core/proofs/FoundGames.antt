@@ -1,12 +1,11 @@
 -- The games that are found by their signatures, one game after another.
-use Rattle.std.proofs.Common.{◌≡◌, ◌∙◌, ◌+◌, ◌<◌, ◌++◌, ◌↔◌, ℕ, List, [], ◌∷◌, Some, All, get_or, length, map, refl, sym, ap, subst, slice_get, take, arith}
+use Rattle.std.proofs.Common.{◌≡◌, ◌∙◌, ◌+◌, ◌<◌, ◌++◌, ◌↔◌, ℕ, List, [], ◌∷◌, Some, get_or, length, map, sym, ap, subst, take, arith}
 use Rattle.std.specs.Option.{option_map_or}
 use Rattle.std.specs.List.{flat_map}
 use Rattle.std.proofs.lemmas.List.{flat_map_more, length-map, length-take-le, map-append, take_more}
 use Rattle.std.proofs.lemmas.Option.{slice_get-get_or}
 use Rattle.game_tree.specs.Tree.{IsTree}
 use Rattle.dyer_signature.specs.Patterns.{Matches}
-use Rattle.dyer_signature.specs.Signatures.{IsSignatureOn}
 use Rattle.dyer_signature.proofs.ImageGroups.{matches-image}
 use Rattle.dyer_signature.proofs.SoFar.{signature-on_board}
 use Rattle.query_script.specs.Texts.{found_game_text}

@@ -1,5 +1,5 @@
 -- The entries that a loop goes over, the groups among them and their lines.
-use Rattle.std.proofs.Common.{◌≡◌, ◌∙◌, ◌+◌, ◌++◌, ◌<◌, ◌≤◌, ℕ, Bool, true, false, Bor, List, [], ◌∷◌, if◌then◌else◌, length, length-append, map, refl, sym, ap, arith}
+use Rattle.std.proofs.Common.{◌≡◌, ◌∙◌, ◌++◌, ◌≤◌, Bool, true, false, Bor, List, [], ◌∷◌, if◌then◌else◌, length, length-append, map, refl, sym, ap, arith}
 use Rattle.std.specs.List.{flat_map}
 use Rattle.std.specs.Map.Iter.{deref_pair}
 use Rattle.std.proofs.lemmas.Grind.{flat_map-append}

@@ -5,7 +5,6 @@ use Rattle.std.proofs.Math.Seq.{get_or-append_seam}
 use Rattle.std.proofs.lemmas.List.{append-nil}
 use Rattle.std.proofs.lemmas.List.Elements.{All-head, All-tail}
 use Rattle.kb_geometry.proofs.Lists.{All-before, push_not_nil, push_same}
-use Rattle.game_tree.specs.Information.{Information}
 use Rattle.game_tree.specs.Tree.{IsTree, Tree}
 use Rattle.dyer_signature.specs.Images.{IsCanonicalForm}
 use Rattle.dyer_signature.specs.Patterns.{Matches}
@@ -128,8 +127,13 @@ module _ (line : ℕ) (view : View) (trees : All (λ (g : Game). IsTree g.tree) 
   pub signature-one : (pattern a b : List ℕ) → IsSignatureText line view pattern a → IsSignatureText line view pattern b → a ≡ b
   signature-one pattern a b one other =
       one.text_is
+<<<<<<< ours
       ∙ ap (λ (found : List FoundGame). signature_head line view.version (length view.games) (length found) ++ flat_map (λ (s : FoundGame). found_game_text s.game s.form) found)
           (found_once pattern view.games view.games one.found other.found trees one.are_found other.are_found refl)
+=======
+      ∙ ap (λ (found : List FoundGame). signature_head line view.version (length view.games) (length found) ++ flat_map (λ (s : FoundGame). signed_game_text s.game s.form) found)
+      (found_once pattern view.games view.games one.found other.found trees one.are_found other.are_found refl)
+>>>>>>> theirs
       ∙ sym other.text_is
 
   pub players-text : (text : List ℕ) × IsPlayersText line view text
@@ -141,7 +145,7 @@ module _ (line : ℕ) (view : View) (trees : All (λ (g : Game). IsTree g.tree) 
   players-one a b one other =
       one.text_is
       ∙ ap (λ (rows : List TableRow). players_text line view.version (length view.games) rows)
-          (rows_once (sides_of (map (λ (g : Game). g.tree.info) view.games)) one.rows other.rows one.is_table other.is_table)
+      (rows_once (sides_of (map (λ (g : Game). g.tree.info) view.games)) one.rows other.rows one.is_table other.is_table)
       ∙ sym other.text_is
 
   pub doubles-text : (text : List ℕ) × IsDoublesText line view text
@@ -153,5 +157,5 @@ module _ (line : ℕ) (view : View) (trees : All (λ (g : Game). IsTree g.tree) 
   doubles-one a b one other =
       one.text_is
       ∙ ap (λ (keys : List DoubleKey). doubles_head line view.version (length view.games) (length (groups_of keys)) ++ flat_map (λ (g : Group). double_text g.form g.games) (groups_of keys))
-          (keys_once view.games trees one.keys other.keys one.are_keys other.are_keys)
+      (keys_once view.games trees one.keys other.keys one.are_keys other.are_keys)
       ∙ sym other.text_is

@@ -1,7 +1,7 @@
 -- The texts of listed games and players, from what was printed.
 use Rattle.std.proofs.Common.{◌≡◌, ◌∙◌, ◌++◌, ℕ, zero, suc, List, [], ◌∷◌, All, Some, append_assoc, length, map, refl, slice_get, sym, ap, subst}
 use Rattle.std.specs.List.{flat_map}
-use Rattle.std.specs.Prelude.{Result, Ok, Err, OnOk}
+use Rattle.std.specs.Prelude.{Result, OnOk}
 use Rattle.std.proofs.lemmas.List.{length-map}
 use Rattle.std.proofs.lemmas.List.Elements.{All-head, All-tail}
 use Rattle.std.proofs.lemmas.List.Folds.{flat_map-map}
@@ -17,11 +17,7 @@ use Rattle.session_core.specs.Grouping.{stored_key}
 use Rattle.session_core.specs.Listing.{found_at, infos_of, signed_text}
 use Rattle.session_core.specs.Signed.{AreGamesFound, FoundGame}
 use Rattle.session_core.specs.Stores.{view_of}
-
--- what follows from what is known of a success
-OnOk-then : {T E P Q : Type 0} (r : Result T E) → OnOk r P → (P → Q) → OnOk r Q
-OnOk-then (Ok v) p then = then p
-OnOk-then (Err e) p then = p
+use Rattle.session_core.proofs.AddedHits.{OnOk-then}
 
 infos-same : (games : List Stored) → infos_of games ≡ map (λ (g : Game). g.tree.info) (map game_of games)
 infos-same [] = refl

@@ -1,5 +1,5 @@
 -- What is listed of the elements of a list, each with its number.
-use Rattle.std.proofs.Common.{◌≡◌, ◌∙◌, ◌+◌, ◌++◌, ◌<◌, ◌≤◌, ℕ, zero, suc, Bool, true, false, cond, filter, List, [], ◌∷◌, Option, Some, None, append_assoc, length, length-append, refl, sym, ap, subst, slice_get, arith}
+use Rattle.std.proofs.Common.{◌≡◌, ◌∙◌, ◌+◌, ◌++◌, ◌<◌, ◌≤◌, ℕ, suc, Bool, true, false, cond, filter, List, [], ◌∷◌, Option, Some, None, append_assoc, length, length-append, refl, sym, ap, subst, slice_get, arith}
 use Rattle.std.specs.List.{flat_map, range_with_len}
 use Rattle.std.specs.Option.{option_map_or}
 use Rattle.std.proofs.lemmas.Grind.{flat_map-append}
@@ -60,6 +60,7 @@ numbers-filtered {X} test all (n ∷ ns) =
     told : (b : Bool) (l : List ℕ) → cond b (n ∷ l) l ≡ cond b (n ∷ []) [] ++ l
     told true l = refl
     told false l = refl
+
     by : (o : Option X) → cond (option_map_or test o false) (n ∷ filter (λ k. option_map_or test (slice_get all k) false) ns) (filter (λ k. option_map_or test (slice_get all k) false) ns)
         ≡ option_map_or (λ x. cond (test x) (n ∷ []) []) o [] ++ filter (λ k. option_map_or test (slice_get all k) false) ns
     by None = refl

@@ -1,5 +1,5 @@
 -- Words of the private functions that group double games.
-use Rattle.std.specs.Prelude.{◌≡◌, ◌&&◌, ◌++◌, ℕ, Bool, true, false, List, [], ◌∷◌, length, map, if◌then◌else◌}
+use Rattle.std.specs.Prelude.{◌&&◌, ◌++◌, ℕ, Bool, true, false, List, [], ◌∷◌, map, if◌then◌else◌}
 use Rattle.std.specs.List.{flat_map}
 use Rattle.query_script.specs.Texts.{double_text}
 use Rattle.session_core.specs.declared.doubles.DoubleKey.{DoubleKey as StoredKey}

@@ -1,9 +1,9 @@
-use Rattle.std.proofs.Common.{◌≡◌, ◌∙◌, ◌+◌, ◌++◌, ℕ, List, [], ◌∷◌, ap, arith, length, map, refl, sym, subst, take}
+use Rattle.std.proofs.Common.{◌≡◌, ◌∙◌, ◌+◌, ◌++◌, ℕ, List, [], ◌∷◌, ap, arith, length, map, sym, take}
 use Rattle.std.specs.List.{flat_map}
 use Rattle.std.proofs.lemmas.List.{length-map, length-take-le, map-append, take_all, take_more}
 use Rattle.session_core.specs.declared.stored.Stored.{Stored}
 use Rattle.session_core.specs.Doubles.{DoubleKey, groups_of}
-use Rattle.session_core.specs.Grouping.{Entry, entries_of, group_in, key_of, stored_key, with_number}
+use Rattle.session_core.specs.Grouping.{Entry, group_in, key_of, stored_key, with_number}
 use Rattle.session_core.proofs.Groups.{all_entries, entries-more, groups-entries}
 use Rattle.session_core.proofs.doubles.games_by_key.Goals as goal
 

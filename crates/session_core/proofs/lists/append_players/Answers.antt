@@ -1,6 +1,3 @@
-use Rattle.std.proofs.Common.{◌≡◌, ◌∙◌, ◌++◌, List, ap, length, map, sym, subst}
-use Rattle.std.specs.Prelude.{OnOk}
-use Rattle.std.proofs.lemmas.List.{length-map}
 use Rattle.session_core.proofs.ListTexts.{IsPlayersText-printed}
 use Rattle.session_core.proofs.lists.append_players.Goals as goal
 

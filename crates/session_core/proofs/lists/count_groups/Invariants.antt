@@ -1,4 +1,4 @@
-use Rattle.std.proofs.Common.{◌≡◌, ◌≤◌, length}
+use Rattle.std.proofs.Common.{◌≡◌, length}
 use Rattle.std.specs.List.{flat_map}
 use Rattle.session_core.specs.Grouping.{entry_of, group_in}
 use Rattle.session_core.proofs.lists.count_groups.Given as goal

@@ -1,8 +1,7 @@
-use Rattle.std.proofs.Common.{◌≡◌, ◌∙◌, ◌+◌, ◌<◌, ◌++◌, ℕ, [], ◌∷◌, All, true, false, length, map, ap, arith, sym, subst}
+use Rattle.std.proofs.Common.{◌≡◌, ◌∙◌, ◌<◌, ◌++◌, ℕ, [], ◌∷◌, All, true, false, length, map, ap, sym, subst}
 use Rattle.std.proofs.lemmas.List.Elements.{All-append, All-cons, All-nil}
 use Rattle.dyer_signature.specs.Patterns.{Matches}
 use Rattle.kb_geometry.specs.declared.shape.Shape.{Shape}
-use Rattle.session_core.specs.declared.stored.Stored.{Stored}
 use Rattle.session_core.specs.Games.{IsOfItsTree}
 use Rattle.session_core.specs.Listing.{found_at}
 use Rattle.session_core.specs.Signed.{AreGamesFound}
@@ -39,7 +38,7 @@ loop-number-preserved c =
           let same : new ≡ old = ap (λ v. v.items) w.found-is in
           record {
             are = found-left_out games n game c.loop-number-test.true c.index-games-number.is stored c.shape.ensures.tree bytes old new c.loop-number.invariant.are
-            (λ it. let no : false ≡ true = sym w.if-matches.false ∙ c.matches.ensures.value.1 (subst matches (sym c.shape.ensures.value) it) in absurd cc) same;
+                (λ it. let no : false ≡ true = sym w.if-matches.false ∙ c.matches.ensures.value.1 (subst matches (sym c.shape.ensures.value) it) in absurd cc) same;
             in_range = subst (λ ns. All (λ (k : ℕ). k < length games) ns) (sym same) c.loop-number.invariant.in_range;
           }
     ]
