@@ -41,11 +41,7 @@ pub fn print_signature_head(
 
 /// Appends a line for a game that was found by its signature: `game GAME SIGNATURE`. The only error
 /// is `NoMemory`, and then `out` is as before.
-pub fn print_found_game(
-    game: u32,
-    signature: &Signature,
-    out: &mut Vec<u8>,
-) -> Result<(), NoMemory>
+pub fn print_found_game(game: u32, signature: &Signature, out: &mut Vec<u8>) -> Result<(), NoMemory>
     ensures ok { OnOk result (out.new.items
         ≡ out.old.items ++ found_game_text game signature.now.bytes) }
     ensures refused { OnErr result (out.new.items ≡ out.old.items) }

@@ -29,7 +29,7 @@ use dyer_signature::{SigPattern, matches};
 use info_filter::Players;
 use kb_geometry::NoMemory;
 use query_script::{
-    print_double, print_doubles_head, print_players, print_signature_head, print_found_game,
+    print_double, print_doubles_head, print_found_game, print_players, print_signature_head,
 };
 use std::alloc::Global;
 

@@ -1,7 +1,7 @@
 // Printed texts, written down by hand.
 use crate::{
-    print_double, print_doubles_head, print_game, print_hits, print_import, print_no_game,
-    print_players, print_signature_head, print_found_game, print_until, print_wait,
+    print_double, print_doubles_head, print_found_game, print_game, print_hits, print_import,
+    print_no_game, print_players, print_signature_head, print_until, print_wait,
 };
 use continuation_table::Table;
 use dyer_signature::Signature;
