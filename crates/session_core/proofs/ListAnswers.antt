@@ -127,13 +127,8 @@ module _ (line : ℕ) (view : View) (trees : All (λ (g : Game). IsTree g.tree) 
   pub signature-one : (pattern a b : List ℕ) → IsSignatureText line view pattern a → IsSignatureText line view pattern b → a ≡ b
   signature-one pattern a b one other =
       one.text_is
-<<<<<<< ours
       ∙ ap (λ (found : List FoundGame). signature_head line view.version (length view.games) (length found) ++ flat_map (λ (s : FoundGame). found_game_text s.game s.form) found)
-          (found_once pattern view.games view.games one.found other.found trees one.are_found other.are_found refl)
-=======
-      ∙ ap (λ (found : List FoundGame). signature_head line view.version (length view.games) (length found) ++ flat_map (λ (s : FoundGame). signed_game_text s.game s.form) found)
       (found_once pattern view.games view.games one.found other.found trees one.are_found other.are_found refl)
->>>>>>> theirs
       ∙ sym other.text_is
 
   pub players-text : (text : List ℕ) × IsPlayersText line view text
