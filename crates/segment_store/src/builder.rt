@@ -4,7 +4,7 @@ ghost use Rattle.std.specs.Arc.{arc_str_bytes};
 ghost use Rattle.node_position.specs.Games.{AreNodeChanges};
 
 use crate::finished::FinishedGame;
-use crate::segment::Segment;
+use crate::segment::{Segment, in_blocks};
 use capture_board::NodeDeltas;
 use game_tree::GameTree;
 use kb_geometry::NoMemory;
@@ -84,10 +84,10 @@ impl SegmentBuilder {
     }
 
     /// The segment of these games.
-    pub fn finish(self) -> Result<Segment, NoMemory>
+    pub fn finish(self, alloc: Global) -> Result<Segment, NoMemory>
         ensures { IfOk result (λ segment. segment ≡ self) }
     {
-        Ok(Segment::of(self.games))
+        in_blocks(alloc, self.games.as_slice())
     }
 }
 
