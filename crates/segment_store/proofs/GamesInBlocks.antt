@@ -2,7 +2,7 @@
 use Rattle.std.proofs.Common.{get_or, ◌≡◌, ◌+◌, ◌-◌, ◌<◌, ◌≤◌, ℕ, inl, inr, List, [], ◌∷◌, ◌++◌, take, drop, map, length, length-append, ap, refl, sym, subst, ◌∙◌, arith, append_assoc, Some}
 use Rattle.std.proofs.Math.Seq.{get_or-append_seam, take-append_seam, take-length}
 use Rattle.std.proofs.lemmas.Bool.{cases_lt}
-use Rattle.std.proofs.lemmas.List.{append-nil, drop-take, get_or_append_left, map-append, take-append-drop, take-append-le, take-take, take_more}
+use Rattle.std.proofs.lemmas.List.{append-nil, drop-take, get_or_append_left, map-append, take-append-drop, take-append-le, take-take, take_more, take_rest}
 use Rattle.std.proofs.lemmas.List.Concat.{flat_map-append, get_or-flat_map}
 use Rattle.std.proofs.lemmas.List.Folds.{length-flat_map-take}
 use Rattle.std.proofs.lemmas.Option.{get_or_from_slice_get, slice_get-get_or, slice_get_within}
@@ -74,3 +74,28 @@ games_from_first (p ∷ blocks) e some = refl
 pub taken_on : {X Y : Type 0} (v : X → Y) (xs : List X) (from more : ℕ) → map v (take from xs) ++ map v (take more (drop from xs)) ≡ map v (take (from + more) xs)
 taken_on v xs from more =
     sym (map-append v (take from xs) (take more (drop from xs))) ∙ ap (map v) (ap (λ ys. take from xs ++ ys) (sym (drop-take from more xs)) ∙ (ap (λ ys. ys ++ drop from (take (from + more) xs)) (sym (take-take from (from + more) xs (omega arith))) ∙ take-append-drop from (take (from + more) xs)))
+
+pub taken_to : {X Y : Type 0} (v : X → Y) (xs : List X) (from to : ℕ) (done more all : List Y) → done ≡ map v (take from xs) → more ≡ map v (take (to - from) (drop from xs)) → all ≡ done ++ more → from ≤ to → all ≡ map v (take to xs)
+taken_to v xs from to done more all before next is low =
+    let on : from + (to - from) ≡ to = omega (arith, low) in
+    is ∙ (ap (λ ys. ys ++ more) before ∙ (ap (λ ys. map v (take from xs) ++ ys) next ∙ (taken_on v xs from (to - from) ∙ ap (λ n. map v (take n xs)) on)))
+
+-- the game with a number, found in a block by the number of the block's first game
+pub found_by_number : (blocks : List Placed) (k g : ℕ) (p : Placed) (block whole : List Game) (x : Game) → AreNumbered blocks → k < length blocks → length (games_in (take k blocks)) ≤ g → p ≡ get_or blocks k p → block ≡ games_of p → games_in blocks ≡ whole → slice_get block (g - p.first) ≡ Some x → slice_get whole g ≡ Some x
+found_by_number blocks k g p block whole x numbered within low there is all found =
+    let first : p.first ≡ length (games_in (take k blocks)) = ap (λ q. q.first) there ∙ numbered k p within in
+    let in_p = subst (λ n. slice_get (games_of p) (g - n) ≡ Some x) first (subst (λ ys. slice_get ys (g - p.first) ≡ Some x) is found) in
+    let in_k = subst (λ q. slice_get (games_of q) (g - length (games_in (take k blocks))) ≡ Some x) there in_p in
+    subst (λ ys. slice_get ys g ≡ Some x) all (found_in_block blocks k g p x within low in_k)
+
+regrouped : (a b c d : List Game) → (a ++ (b ++ c)) ++ d ≡ (a ++ b) ++ (c ++ d)
+regrouped a b c d = simp append_assoc
+
+-- the blocks of two segments, where the last of the one and the first of the other are one block
+pub games_joined : (one other : List Placed) (last first : Placed) (x y : List Game) → 0 < length one → 0 < length other → last ≡ get_or one (length one - 1) last → first ≡ get_or other 0 first → games_in one ≡ x → games_in other ≡ y → (games_in (take (length one - 1) one) ++ (games_of last ++ games_of first)) ++ games_in (take (length other - 1) (drop 1 other)) ≡ x ++ y
+games_joined one other last first x y some_one some_other is_last is_first all_one all_other =
+    let before = games_in (take (length one - 1) one) in
+    let behind = games_in (drop 1 other) in
+    let one_is : before ++ games_of last ≡ x = ap (λ q. before ++ games_of q) is_last ∙ (sym (games_to_last one last some_one) ∙ all_one) in
+    let other_is : games_of first ++ behind ≡ y = ap (λ q. games_of q ++ behind) is_first ∙ (sym (games_from_first other first some_other) ∙ all_other) in
+    ap (λ zs. (before ++ (games_of last ++ games_of first)) ++ games_in zs) (take_rest other 1) ∙ (regrouped before (games_of last) (games_of first) behind ∙ (ap (λ zs. zs ++ (games_of first ++ behind)) one_is ∙ ap (λ zs. x ++ zs) other_is))
