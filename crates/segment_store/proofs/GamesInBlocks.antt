@@ -17,12 +17,12 @@ games_more blocks p = flat_map-append games_of blocks (p ∷ []) ∙ ap (λ xs. 
 
 pub numbered_more : (blocks : List Placed) (p : Placed) → AreNumbered blocks → p.first ≡ length (games_in blocks) → AreNumbered (blocks ++ p ∷ [])
 numbered_more blocks p numbered first k d below = elim (cases_lt k (length blocks)) [
-    inl lower ↦ ap (λ q. q.first) (get_or_append_left blocks (p ∷ []) d k lower) ∙ (numbered k d lower ∙ ap (λ xs. length (games_in xs)) (sym (take-append-le k blocks (p ∷ []) (omega (arith, lower)))))
+  | inl lower ↦ ap (λ q. q.first) (get_or_append_left blocks (p ∷ []) d k lower) ∙ (numbered k d lower ∙ ap (λ xs. length (games_in xs)) (sym (take-append-le k blocks (p ∷ []) (omega (arith, lower)))))
   | inr upper ↦
       let last : k ≡ length blocks = omega (arith, upper, below, length-append blocks (p ∷ [])) in
       subst (λ n. (get_or (blocks ++ p ∷ []) n d).first ≡ length (games_in (take n (blocks ++ p ∷ [])))) (sym last)
-          (ap (λ q. q.first) (get_or-append_seam blocks p [] d) ∙ (first ∙ ap (λ xs. length (games_in xs)) (sym (take-append_seam blocks (p ∷ [])))))
-  ]
+      (ap (λ q. q.first) (get_or-append_seam blocks p [] d) ∙ (first ∙ ap (λ xs. length (games_in xs)) (sym (take-append_seam blocks (p ∷ [])))))
+]
 
 -- no block
 pub AreBlocks-none : AreBlocks [] 0

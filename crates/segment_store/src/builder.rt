@@ -1,5 +1,5 @@
 // A segment that is being built.
-ghost use Rattle.std.specs.Prelude.{◌≡◌, ◌<◌, ◌++◌, ◌∷◌, [], length, IfOk, MatchResult};
+ghost use Rattle.std.specs.Prelude.{◌≡◌, ◌<◌, ◌≤◌, ◌++◌, ◌∷◌, [], length, IfOk, MatchResult};
 ghost use Rattle.std.specs.Arc.{arc_str_bytes};
 ghost use Rattle.node_position.specs.Games.{AreNodeChanges};
 
@@ -39,6 +39,14 @@ impl SegmentBuilder {
         SegmentBuilder {
             games: Vec::new(alloc),
         }
+    }
+
+    /// How many games it has yet.
+    pub fn game_count(&self) -> u32
+        ensures value { result ≡ length self.now }
+        ensures most { length self.now ≤ 400000 }
+    {
+        self.games.len() as u32
     }
 
     /// Adds the game of a file with this name, at this place among the games of the file, from 0.

@@ -208,10 +208,7 @@ fn merge_joined(
 }
 
 // The games of a list, at most 400,000, in blocks of 64. The last block may have fewer.
-pub(crate) fn in_blocks(
-    alloc: Global,
-    games: &[Arc<FinishedGame>],
-) -> Result<Segment, NoMemory>
+pub(crate) fn in_blocks(alloc: Global, games: &[Arc<FinishedGame>]) -> Result<Segment, NoMemory>
     requires { length games.now ≤ 400000 }
     ensures { IfOk result (λ segment. segment ≡ map arc_value games.now) }
 {

@@ -1,4 +1,4 @@
-use Rattle.std.proofs.Common.{rules, ◌≡◌, ◌++◌, map, ap, ◌∙◌}
+use Rattle.std.proofs.Common.{◌++◌, map, ap, ◌∙◌}
 use Rattle.std.specs.Arc.{arc_value}
 use Rattle.version_publisher.proofs.PartLists.{map_appended_clones, map_clones}
 use Rattle.segment_store.proofs.block.joined.Goals as goal

@@ -1,4 +1,4 @@
-use Rattle.std.proofs.Common.{rules, arith, ◌≡◌, ◌≤◌, length, ◌∙◌}
+use Rattle.std.proofs.Common.{rules, arith, ◌≤◌, length, ◌∙◌}
 use Rattle.std.proofs.lemmas.Grind.{common_steps}
 use Rattle.std.specs.Arc.{arc_value}
 use Rattle.segment_store.proofs.GamesInBlocks.{taken_to}

@@ -1,4 +1,4 @@
-use Rattle.std.proofs.Common.{arith, ◌≡◌, ap, ◌∙◌}
+use Rattle.std.proofs.Common.{arith, ap, ◌∙◌}
 use Rattle.std.proofs.lemmas.Result.{IfOk-weaker}
 use Rattle.segment_store.specs.Blocks.{games_in}
 use Rattle.segment_store.proofs.GamesInBlocks.{games_joined}

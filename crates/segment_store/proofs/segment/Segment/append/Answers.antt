@@ -1,4 +1,4 @@
-use Rattle.std.proofs.Common.{rules, ◌≡◌, ◌<◌, ◌≤◌, ◌+◌, ◌++◌, length, ℕ}
+use Rattle.std.proofs.Common.{rules}
 use Rattle.segment_store.proofs.GamesInBlocks.{room_for}
 use Rattle.segment_store.proofs.segment.Segment.append.Goals as goal
 
