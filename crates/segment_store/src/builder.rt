@@ -65,12 +65,12 @@ impl SegmentBuilder {
             (λ _. self.new ≡ self.old) }
     {
         let deltas = deltas(alloc, &tree)?;
-        self.add_finished(alloc, file, place, tree, deltas)
+        self.add_with_deltas(alloc, file, place, tree, deltas)
     }
 
     /// The same of a game whose changes are known. They are those of the tree, as
     /// [`deltas`](node_position::deltas) gives them.
-    pub fn add_finished(
+    pub fn add_with_deltas(
         &mut self,
         alloc: Global,
         file: &str,
@@ -86,7 +86,18 @@ impl SegmentBuilder {
             (λ _. self.new ≡ self.old) }
     {
         let name = name_of(alloc, self.games.as_slice(), file)?;
-        let game = Arc::new(alloc, FinishedGame::new(name, place, tree, deltas))?;
+        self.add_finished(alloc, FinishedGame::new(name, place, tree, deltas))
+    }
+
+    /// Adds a game that was finished before. There must be fewer than 400,000 games yet. After
+    /// `NoMemory` all is as before, and the game is gone.
+    pub fn add_finished(&mut self, alloc: Global, game: FinishedGame) -> Result<(), NoMemory>
+        requires { length self.old < 400000 }
+        ensures { MatchResult result
+            (λ _. self.new ≡ self.old ++ game ∷ [])
+            (λ _. self.new ≡ self.old) }
+    {
+        let game = Arc::new(alloc, game)?;
         self.games.push(game)?;
         Ok(())
     }

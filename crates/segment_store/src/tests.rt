@@ -1,8 +1,9 @@
 // Segments of games from SGF texts. The values were worked out by hand.
-use crate::{Segment, SegmentBuilder, merge};
+use crate::{FinishedGame, Segment, SegmentBuilder, merge};
 use dyer_signature::Signature;
 use game_tree::build;
 use kb_geometry::Outcome;
+use node_position::deltas;
 use sgf_reader::read;
 use std::alloc::Global;
 use std::process::Abort;
@@ -74,6 +75,44 @@ fn readers_tell_what_was_added(rt: HostRuntime) -> Result<(), Fail> {
     ];
     for (g, wanted) in (0..).zip(rows) {
         assert_eq!(rt; row(&segment, g), wanted, "game {g}");
+    }
+    Ok(())
+}
+
+// Adds the games of a text with their changes, and those at odd places finished.
+fn add_known(
+    rt: &impl Abort,
+    alloc: Global,
+    file: &str,
+    text: &str,
+    builder: &mut SegmentBuilder,
+) -> Result<(), Fail> {
+    let collection = read(alloc, text.as_bytes())?;
+    let name = ArcStr::from_str(alloc, file)?;
+    for (place, tree) in (0u32..).zip(build(alloc, text.as_bytes(), &collection)?) {
+        assert!(rt; builder.game_count() < 400_000);
+        let deltas = deltas(alloc, &tree)?;
+        if place % 2 == 0 {
+            builder.add_with_deltas(alloc, file, place, tree, deltas)?;
+        } else {
+            let game = FinishedGame::new(name.clone()?, place, tree, deltas);
+            builder.add_finished(alloc, game)?;
+        }
+    }
+    Ok(())
+}
+
+#[test]
+fn games_are_added_with_what_is_known(rt: HostRuntime) -> Result<(), Fail> {
+    let alloc = rt.alloc();
+    let mut plain = SegmentBuilder::new(alloc);
+    add_text(&rt, alloc, "a.sgf", 0, TWO_GAMES, &mut plain)?;
+    let plain = plain.finish(alloc)?;
+    let mut known = SegmentBuilder::new(alloc);
+    add_known(&rt, alloc, "a.sgf", TWO_GAMES, &mut known)?;
+    let known = known.finish(alloc)?;
+    for g in 0..3 {
+        assert_eq!(rt; row(&known, g), row(&plain, g), "game {g}");
     }
     Ok(())
 }
