@@ -1,0 +1,26 @@
+-- What is kept beside the tree of a finished game.
+use Rattle.std.specs.Prelude.{◌≡◌, ℕ, List, Option, ℤ}
+use Rattle.kb_geometry.specs.declared.stone.Outcome.{Outcome}
+use Rattle.game_tree.specs.Result.{outcome_of}
+use Rattle.game_tree.specs.Tree.{Tree}
+use Rattle.capture_board.specs.Deltas.{Deltas}
+use Rattle.node_position.specs.Games.{AreNodeChanges}
+use Rattle.info_filter.specs.Day.{IsDayOf}
+use Rattle.dyer_signature.specs.Images.{IsCanonicalForm}
+use Rattle.dyer_signature.specs.Signatures.{IsSignatureOf, IsSignatureOn}
+
+-- the canonical form of the signature of a tree
+pub record IsCanonicalOf (tree : Tree) (form : List ℕ) : Type 0 where
+  pub signature : List ℕ
+  pub of_tree : IsSignatureOf tree signature
+  pub canonical : IsCanonicalForm tree.shape signature form
+  pub on_board : IsSignatureOn tree.shape form
+
+-- What is kept beside a tree is the tree's: its changes, its day, the class of its result, and the
+-- canonical form of its signature.
+pub record IsOfItsTree (tree : Tree) (changes : Deltas) (day : Option ℤ) (outcome : Outcome)
+    (form : List ℕ) : Type 0 where
+  pub are_changes : AreNodeChanges tree changes
+  pub is_day : IsDayOf tree.info.date day
+  pub is_outcome : outcome ≡ outcome_of tree.info.outcome_text
+  pub is_canonical : IsCanonicalOf tree form

@@ -1,0 +1,21 @@
+//! Finished games, and segments of them that the versions of a base share.
+//!
+//! Stands on game_tree, capture_board and node_position for a game and its changes, on info_filter
+//! and dyer_signature for its day and its canonical signature, and on version_publisher, whose
+//! [`Part`](version_publisher::Part) a [`Segment`] is. Contracts see a segment, and a builder, as
+//! its list of games. The layers above use that a segment's games are those that were added, in
+//! order, that [`merge`] gives the games of the one and then those of the other, and that what is
+//! kept beside a tree is the tree's.
+#![tactic(auto)]
+
+mod block;
+mod builder;
+mod finished;
+mod segment;
+
+pub use builder::SegmentBuilder;
+pub use finished::FinishedGame;
+pub use segment::{Segment, merge};
+
+#[cfg(test)]
+mod tests;
