@@ -1,14 +1,18 @@
 // Segments of games from SGF texts. The values were worked out by hand.
+ghost use Rattle.std.specs.Prelude.{◌≡◌, IfOk};
+ghost use Rattle.std.specs.Arc.{arc_value};
+
 use crate::{FinishedGame, Segment, SegmentBuilder, merge};
 use dyer_signature::Signature;
 use game_tree::build;
 use kb_geometry::Outcome;
 use node_position::deltas;
 use sgf_reader::read;
-use std::alloc::Global;
+use std::alloc::{AllocError, Global};
 use std::process::Abort;
-use std::sync::ArcStr;
+use std::sync::{Arc, ArcStr};
 use std::test::Fail;
+use version_publisher::{Part, Version, most_of};
 
 // What the readers tell of a game: file, place, nodes of the tree, nodes with changes, day, class
 // of the result, canonical signature.
@@ -218,5 +222,25 @@ fn a_name_is_kept_once_and_no_game_is_copied(rt: HostRuntime) -> Result<(), Fail
         let found = (sharing_name(&a), sharing_name(&b), sharing_name(&both));
         assert_eq!(rt; found, (Some(70), owners, Some(70)), "{count}");
     }
+    Ok(())
+}
+
+fn shared(alloc: Global, segment: Segment) -> Result<Arc<Segment>, AllocError>
+    ensures { IfOk result (λ part. arc_value part ≡ segment) }
+{
+    Ok(Arc::new(alloc, segment)?)
+}
+
+#[test]
+fn a_segment_is_a_part_of_a_version(rt: HostRuntime) -> Result<(), Fail> {
+    let alloc = rt.alloc();
+    let segment = many(&rt, alloc, 0, 65)?;
+    assert!(rt; segment.game_count() <= most_of::<Segment>());
+    let counted = segment.count();
+    let mut version = Version::empty(alloc);
+    let pushed = version.push(shared(alloc, segment)?).is_ok();
+    let found = (pushed, version.number(), version.parts().len());
+    assert_eq!(rt; (counted, most_of::<Segment>()), (65, 400_000));
+    assert_eq!(rt; found, (true, 1, 1));
     Ok(())
 }
