@@ -15,7 +15,7 @@ use Rattle.kb_geometry.specs.Board.{point_count}
 use Rattle.capture_board.specs.declared.deltas.StoredNode.{StoredNode}
 use Rattle.capture_board.specs.Changes.{AreChangesOf}
 use Rattle.capture_board.specs.Deltas.{Deltas, NodeChanges, AreDeltas, IsNextParent, changes_of, node_at, node_count, parent_of, position_where, with_node}
-use Rattle.capture_board.specs.StoredDeltas.{stored_node, end_of_changes, changes_start, shown_node, shown_nodes, shown_deltas, AreChangeEnds, IsStored}
+use Rattle.capture_board.specs.StoredDeltas.{changes_end, stored_node, end_of_changes, changes_start, shown_node, shown_nodes, shown_deltas, AreChangeEnds, IsStored}
 use Rattle.capture_board.proofs.DeltaGrowth.{parent-there, AreDeltas-more}
 use Rattle.capture_board.proofs.DeltaPaths.{length-position_where}
 use Rattle.capture_board.proofs.MadeChanges.{AreChangesOf-count}
@@ -55,7 +55,7 @@ module _ (shape : Shape) (ts : List StoredNode) (changes : List Change) (deltas 
   pub root_shown : (n : ℕ) → n ≡ 0 → None ≡ parent_of deltas n
   root_shown n e = sym (ap (parent_of deltas) e ∙ root-parent deltas_shown.parents)
 
-  pub changes_shown : (n : ℕ) → n < node_count deltas → between (changes_start ts n) (stored_node ts n).changes_end changes ≡ changes_of deltas n
+  pub changes_shown : (n : ℕ) → n < node_count deltas → between (changes_start ts n) (changes_end (stored_node ts n)) changes ≡ changes_of deltas n
   changes_shown n h = sym (ap (λ (d : NodeChanges). d.changes) (node_shown n h))
 
   pub changes_fit : (n : ℕ) (found : List Change) → n < node_count deltas → found ≡ changes_of deltas n → AreChangesOf (position_where deltas (parent_of deltas n)) found
@@ -63,12 +63,12 @@ module _ (shape : Shape) (ts : List StoredNode) (changes : List Change) (deltas 
 
 -- ---- one node more
 
-module _ (shape : Shape) (ts : List StoredNode) (changes more : List Change) (x : StoredNode) (parent : Option ℕ) (stored : IsStored shape ts changes) (next : IsNextParent (shown_deltas shape ts changes) parent) (same_parent : (m : ℕ) → parent ≡ Some m → x.parent ≡ m) (ending : x.changes_end ≡ length (changes ++ more)) where
+module _ (shape : Shape) (ts : List StoredNode) (changes more : List Change) (x : StoredNode) (parent : Option ℕ) (stored : IsStored shape ts changes) (next : IsNextParent (shown_deltas shape ts changes) parent) (same_parent : (m : ℕ) → parent ≡ Some m → x.parent ≡ m) (ending : changes_end x ≡ length (changes ++ more)) where
   stored_node-before : (n : ℕ) → n < length ts → stored_node (ts ++ x ∷ []) n ≡ stored_node ts n
   stored_node-before n h = get_or_append_left ts (x ∷ []) _ n h
 
   end-before : (n : ℕ) → n < length ts → end_of_changes (ts ++ x ∷ []) n ≡ end_of_changes ts n
-  end-before n h = ap (λ (t : StoredNode). t.changes_end) (stored_node-before n h)
+  end-before n h = ap changes_end (stored_node-before n h)
 
   stored_node-last : stored_node (ts ++ x ∷ []) (length ts) ≡ x
   stored_node-last = get_or_push ts x _ (length ts) refl
@@ -77,22 +77,22 @@ module _ (shape : Shape) (ts : List StoredNode) (changes more : List Change) (x 
   start-before n h =
       part_start-same (end_of_changes (ts ++ x ∷ [])) (end_of_changes ts) n (λ k low. end-before k (omega arith))
 
-  end-last : (stored_node (ts ++ x ∷ []) (length ts)).changes_end ≡ length (changes ++ more)
-  end-last = ap (λ (t : StoredNode). t.changes_end) stored_node-last ∙ ending
+  end-last : changes_end (stored_node (ts ++ x ∷ []) (length ts)) ≡ length (changes ++ more)
+  end-last = ap changes_end stored_node-last ∙ ending
 
   -- the nodes before it keep their changes
-  changes-before : (n : ℕ) → n < length ts → between (changes_start ts n) (stored_node ts n).changes_end (changes ++ more) ≡ between (changes_start ts n) (stored_node ts n).changes_end changes
+  changes-before : (n : ℕ) → n < length ts → between (changes_start ts n) (changes_end (stored_node ts n)) (changes ++ more) ≡ between (changes_start ts n) (changes_end (stored_node ts n)) changes
   changes-before n h =
       let start = stored.ends.parts.starts n h in
       let end = stored.ends.parts.ends n h in
-      ap (take ((stored_node ts n).changes_end - changes_start ts n)) (drop-append-le (changes_start ts n) changes more (omega (arith, start, end)))
-      ∙ take-append-le ((stored_node ts n).changes_end - changes_start ts n) (drop (changes_start ts n) changes) more (omega (arith, length-drop (changes_start ts n) changes, start, end))
+      ap (take (changes_end (stored_node ts n) - changes_start ts n)) (drop-append-le (changes_start ts n) changes more (omega (arith, start, end)))
+      ∙ take-append-le (changes_end (stored_node ts n) - changes_start ts n) (drop (changes_start ts n) changes) more (omega (arith, length-drop (changes_start ts n) changes, start, end))
 
   node-before : (n : ℕ) → n < length ts → shown_node (ts ++ x ∷ []) (changes ++ more) n ≡ shown_node ts changes n
   node-before n h =
-      ap (λ p. record { parent = p; changes = between (changes_start (ts ++ x ∷ []) n) (stored_node (ts ++ x ∷ []) n).changes_end (changes ++ more) }) (stored_parent-same (λ (k : ℕ). (stored_node (ts ++ x ∷ []) k).parent) (λ (k : ℕ). (stored_node ts k).parent) n (ap (λ (t : StoredNode). t.parent) (stored_node-before n h)))
-      ∙ ap (λ s. record { parent = stored_parent (λ (k : ℕ). (stored_node ts k).parent) n; changes = between s (stored_node (ts ++ x ∷ []) n).changes_end (changes ++ more) }) (start-before n (omega arith))
-      ∙ ap (λ (t : StoredNode). record { parent = stored_parent (λ (k : ℕ). (stored_node ts k).parent) n; changes = between (changes_start ts n) t.changes_end (changes ++ more) }) (stored_node-before n h)
+      ap (λ p. record { parent = p; changes = between (changes_start (ts ++ x ∷ []) n) (changes_end (stored_node (ts ++ x ∷ []) n)) (changes ++ more) }) (stored_parent-same (λ (k : ℕ). (stored_node (ts ++ x ∷ []) k).parent) (λ (k : ℕ). (stored_node ts k).parent) n (ap (λ (t : StoredNode). t.parent) (stored_node-before n h)))
+      ∙ ap (λ s. record { parent = stored_parent (λ (k : ℕ). (stored_node ts k).parent) n; changes = between s (changes_end (stored_node (ts ++ x ∷ []) n)) (changes ++ more) }) (start-before n (omega arith))
+      ∙ ap (λ (t : StoredNode). record { parent = stored_parent (λ (k : ℕ). (stored_node ts k).parent) n; changes = between (changes_start ts n) (changes_end t) (changes ++ more) }) (stored_node-before n h)
       ∙ ap (λ cs. record { parent = stored_parent (λ (k : ℕ). (stored_node ts k).parent) n; changes = cs }) (changes-before n h)
 
   count_nodes : length (shown_nodes ts changes) ≡ length ts
@@ -113,17 +113,17 @@ module _ (shape : Shape) (ts : List StoredNode) (changes more : List Change) (x 
       ]
 
   -- its own changes are those that were added
-  changes-last : between (changes_start (ts ++ x ∷ []) (length ts)) (stored_node (ts ++ x ∷ []) (length ts)).changes_end (changes ++ more) ≡ more
+  changes-last : between (changes_start (ts ++ x ∷ []) (length ts)) (changes_end (stored_node (ts ++ x ∷ []) (length ts))) (changes ++ more) ≡ more
   changes-last =
       let start : changes_start (ts ++ x ∷ []) (length ts) ≡ length changes = start-before (length ts) (omega arith) ∙ stored.ends.whole in
-      let end : (stored_node (ts ++ x ∷ []) (length ts)).changes_end ≡ length changes + length more = end-last ∙ length-append changes more in
-      ap (λ s. between s (stored_node (ts ++ x ∷ []) (length ts)).changes_end (changes ++ more)) start
-      ∙ ap (take ((stored_node (ts ++ x ∷ []) (length ts)).changes_end - length changes)) (drop_at changes more (length changes) refl)
-      ∙ take_all ((stored_node (ts ++ x ∷ []) (length ts)).changes_end - length changes) more (omega (arith, end))
+      let end : changes_end (stored_node (ts ++ x ∷ []) (length ts)) ≡ length changes + length more = end-last ∙ length-append changes more in
+      ap (λ s. between s (changes_end (stored_node (ts ++ x ∷ []) (length ts))) (changes ++ more)) start
+      ∙ ap (take (changes_end (stored_node (ts ++ x ∷ []) (length ts)) - length changes)) (drop_at changes more (length changes) refl)
+      ∙ take_all (changes_end (stored_node (ts ++ x ∷ []) (length ts)) - length changes) more (omega (arith, end))
 
   node-last : shown_node (ts ++ x ∷ []) (changes ++ more) (length ts) ≡ record { parent = parent; changes = more }
   node-last =
-      ap (λ p. record { parent = p; changes = between (changes_start (ts ++ x ∷ []) (length ts)) (stored_node (ts ++ x ∷ []) (length ts)).changes_end (changes ++ more) }) parent-last
+      ap (λ p. record { parent = p; changes = between (changes_start (ts ++ x ∷ []) (length ts)) (changes_end (stored_node (ts ++ x ∷ []) (length ts))) (changes ++ more) }) parent-last
       ∙ ap (λ cs. record { parent = parent; changes = cs }) changes-last
 
   nodes-push : shown_nodes (ts ++ x ∷ []) (changes ++ more) ≡ shown_nodes ts changes ++ record { parent = parent; changes = more } ∷ []
@@ -186,11 +186,11 @@ module _ (shape : Shape) (ts : List StoredNode) (changes more : List Change) (de
   parent_fits None e = omega arith
   parent_fits (Some m) e = omega (arith, parent-there deltas parent more (deltas_shown shape ts changes deltas shown stored) next m e)
 
-  module _ (us : List StoredNode) (ds : List Change) (x : StoredNode) (nodes : us ≡ ts ++ x ∷ []) (all : ds ≡ changes ++ more) (its_parent : x.parent ≡ unwrap_or parent 0) (its_end : x.changes_end ≡ length ds) where
+  module _ (us : List StoredNode) (ds : List Change) (x : StoredNode) (nodes : us ≡ ts ++ x ∷ []) (all : ds ≡ changes ++ more) (its_parent : x.parent ≡ unwrap_or parent 0) (its_end : changes_end x ≡ length ds) where
     parent_same : (m : ℕ) → parent ≡ Some m → x.parent ≡ m
     parent_same m e = its_parent ∙ ap (λ o. unwrap_or o 0) e
 
-    end_same : x.changes_end ≡ length (changes ++ more)
+    end_same : changes_end x ≡ length (changes ++ more)
     end_same = its_end ∙ ap length all
 
     pub stored_push : IsStored shape us ds

@@ -1,5 +1,5 @@
 -- How the changes at the nodes are stored: words for the private functions of `NodeDeltas`.
-use Rattle.std.specs.Prelude.{◌≡◌, ℕ, ◌*◌, ◌≤◌, List, length, map, slice_index_or}
+use Rattle.std.specs.Prelude.{◌≡◌, ℕ, ◌+◌, ◌*◌, ◌≤◌, List, length, map, slice_index_or}
 use Rattle.std.specs.List.{range_with_len, between}
 use Rattle.node_paths.specs.StoredNodes.{AreParts, part_start, stored_parent}
 use Rattle.kb_geometry.specs.declared.shape.Shape.{Shape}
@@ -8,13 +8,17 @@ use Rattle.kb_geometry.specs.declared.stone.Change.{Change}
 use Rattle.capture_board.specs.declared.deltas.StoredNode.{StoredNode}
 use Rattle.capture_board.specs.Deltas.{Deltas, NodeChanges, AreDeltas}
 
+-- where the changes of a stored node end, by the two halves of this number
+abbrev pub changes_end : StoredNode → ℕ
+changes_end t = t.end_high * 65536 + t.end_low
+
 -- the stored node with this number
 abbrev pub stored_node : List StoredNode → ℕ → StoredNode
-stored_node ts n = slice_index_or ts n (record { changes_end = 0; parent = 0 })
+stored_node ts n = slice_index_or ts n (record { parent = 0; end_high = 0; end_low = 0 })
 
 -- where the changes of a node end
 abbrev pub end_of_changes : List StoredNode → ℕ → ℕ
-end_of_changes ts n = (stored_node ts n).changes_end
+end_of_changes ts n = changes_end (stored_node ts n)
 
 -- where the changes of a node begin: where those of the node before it end
 abbrev pub changes_start : List StoredNode → ℕ → ℕ

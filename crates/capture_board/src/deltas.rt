@@ -10,14 +10,38 @@ use std::mem::size_of;
 // One node. The number of a node is less than 65,536.
 #[derive(Clone, Copy, Debug)]
 struct StoredNode {
-    // Where the node's changes end in the list of all changes. They begin where those of the node
-    // before it end.
-    changes_end: u32,
     // The parent's number; 0 at the root, too.
     parent: u16,
+    // Where the node's changes end in the list of all changes. They begin where those of the node
+    // before it end. In two halves, since a field of 32 bits would make it eight bytes.
+    end_high: u16,
+    end_low: u16,
 }
 
-const _: () = prove!(size_of::<StoredNode>() == 8);
+const _: () = prove!(size_of::<StoredNode>() == 6);
+
+impl StoredNode {
+    ghost use Rattle.capture_board.specs.StoredDeltas.{changes_end};
+
+    // The node with this parent whose changes end there.
+    fn new(parent: u16, end: u32) -> StoredNode
+        ensures parent { result.parent ≡ parent }
+        ensures end { changes_end result ≡ end }
+    {
+        StoredNode {
+            parent,
+            end_high: (end / 65536) as u16,
+            end_low: (end % 65536) as u16,
+        }
+    }
+
+    // Where the node's changes end.
+    fn changes_end(self) -> u32
+        ensures { result ≡ changes_end self }
+    {
+        u32::from(self.end_high) * 65536 + u32::from(self.end_low)
+    }
+}
 
 const _: () = prove!(size_of::<Change>() == 4);
 
@@ -69,6 +93,27 @@ impl NodeDeltas {
         }
     }
 
+    /// No node yet, on this board, with room for so many nodes that change one point each. The only
+    /// error is `NoMemory`.
+    pub fn with_room(alloc: Global, shape: Shape, nodes: u32) -> Result<Self, NoMemory>
+        ensures { IfOk result (λ deltas. deltas ≡ no_nodes shape) }
+    {
+        Ok(NodeDeltas {
+            shape,
+            nodes: Vec::with_capacity(alloc, nodes as usize)?,
+            changes: Vec::with_capacity(alloc, nodes as usize)?,
+        })
+    }
+
+    /// Gives back the room that the nodes and their changes don't take. Where the allocator refuses
+    /// a smaller block, the room stays.
+    pub fn shrink_to_fit(&mut self)
+        ensures { self.new ≡ self.old }
+    {
+        self.nodes.shrink_to_fit();
+        self.changes.shrink_to_fit();
+    }
+
     /// The next node, with its parent and its changes. After `NoMemory` all is as before.
     pub fn push(&mut self, parent: Option<u32>, changes: &[Change]) -> Result<(), NoMemory>
         requires room { node_count self.old < 65536 }
@@ -79,10 +124,8 @@ impl NodeDeltas {
     {
         self.nodes.reserve(1)?;
         self.changes.extend_from_slice(changes)?;
-        let node = StoredNode {
-            changes_end: self.changes.len() as u32,
-            parent: parent.unwrap_or(0) as u16,
-        };
+        let end = self.changes.len() as u32;
+        let node = StoredNode::new(parent.unwrap_or(0) as u16, end);
         self.nodes.push(node)?;
         Ok(())
     }
@@ -129,7 +172,7 @@ impl NodeDeltas {
     {
         let nodes = self.nodes.as_slice();
         let start = changes_start(nodes, n as usize);
-        let end = nodes[n as usize].changes_end as usize;
+        let end = nodes[n as usize].changes_end() as usize;
         &self.changes[start..end]
     }
 
@@ -156,6 +199,6 @@ fn changes_start(nodes: &[StoredNode], n: usize) -> usize
     if n == 0 {
         0
     } else {
-        nodes[n - 1].changes_end as usize
+        nodes[n - 1].changes_end() as usize
     }
 }

@@ -51,16 +51,16 @@ impl TreeBuilder {
     ghost use Rattle.game_tree.specs.Information.{HasSimpleTexts};
     ghost use Rattle.game_tree.specs.Tree.{IsTree, branchings_to, next_sibling_of, parent_of};
 
-    // Nothing is read yet of a game on this board.
-    pub(crate) fn new(alloc: Global, shape: Shape) -> Self
-        ensures { result ≡ nothing_built shape }
+    // Nothing is read yet of a game on this board. There is room for so many nodes, and no more.
+    pub(crate) fn with_room(alloc: Global, shape: Shape, nodes: usize) -> Result<Self, NoMemory>
+        ensures { IfOk result (λ built. built ≡ nothing_built shape) }
     {
-        TreeBuilder {
+        Ok(TreeBuilder {
             shape,
-            nodes: Vec::new(alloc),
+            nodes: Vec::with_capacity(alloc, nodes)?,
             setups: Vec::new(alloc),
             main_line: 0,
-        }
+        })
     }
 
     // What is known of the nodes so far. It reads nothing.
@@ -100,8 +100,9 @@ impl TreeBuilder {
         }
     }
 
-    // The tree of the nodes so far. Setups behind the last node are dropped.
-    pub(crate) fn finish(self, info: Info) -> GameTree
+    // The tree of the nodes so far. Setups behind the last node are dropped, and so is the room that
+    // isn't used.
+    pub(crate) fn finish(mut self, info: Info) -> GameTree
         requires some { 1 ≤ length self.nodes }
         requires depth { (n : ℕ) → n < length self.nodes →
             branchings_to (tree_of self info) n < 1024 }
@@ -109,6 +110,8 @@ impl TreeBuilder {
         ensures value { result ≡ tree_of self info }
         ensures tree { IsTree result }
     {
+        self.nodes.shrink_to_fit();
+        self.setups.shrink_to_fit();
         GameTree::stored(self.shape, info, self.nodes, self.setups, self.main_line)
     }
 

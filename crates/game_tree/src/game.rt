@@ -85,8 +85,9 @@ fn build_on(
     ensures fault { (f : SgfFault) → result ≡ Err (Fault f) →
         IsFirstGameFault text.now raw.now f.kind f.at }
 {
-    let (root, others) = root_and_others(raw.nodes.as_slice());
-    let mut builder = TreeBuilder::new(alloc, shape);
+    let nodes = raw.nodes.as_slice();
+    let (root, others) = root_and_others(nodes);
+    let mut builder = TreeBuilder::with_room(alloc, shape, nodes.len())?;
     if let Err(error) = read_root(text, shape, root, game, &mut builder) {
         return Err(error);
     }

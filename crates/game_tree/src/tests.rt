@@ -57,10 +57,8 @@ fn finished(rt: &impl Abort, alloc: Global, builder: TreeBuilder) -> GameTree {
 }
 
 fn built(rt: &impl Abort, alloc: Global, side: u8, rows: &[Row]) -> Result<GameTree, Fail> {
-    let mut builder = TreeBuilder::new(
-        alloc,
-        Shape::new(side, side).expect(rt, "a side of a board"),
-    );
+    let shape = Shape::new(side, side).expect(rt, "a side of a board");
+    let mut builder = TreeBuilder::with_room(alloc, shape, rows.len())?;
     for row in rows {
         add_row(rt, &mut builder, *row)?;
     }
@@ -191,10 +189,8 @@ fn readers_of_setups(rt: HostRuntime) -> Result<(), Fail> {
 
 #[test]
 fn one_line_of_65536_nodes(rt: HostRuntime) -> Result<(), Fail> {
-    let mut builder = TreeBuilder::new(
-        rt.alloc(),
-        Shape::new(19, 19).expect(&rt, "a side of a board"),
-    );
+    let shape = Shape::new(19, 19).expect(&rt, "a side of a board");
+    let mut builder = TreeBuilder::with_room(rt.alloc(), shape, 1)?;
     add_row(&rt, &mut builder, (None, None, [None; 2]))?;
     for n in 0..65535 {
         add_row(

@@ -42,7 +42,8 @@ impl Players {
 
     /// Adds a game: its player of the black stones, then that of the white ones. A name gets one
     /// game for each side that it plays, a win where that side won and a loss where the other side
-    /// won. An empty name is skipped. The only error is `NoMemory`, and then nothing is added.
+    /// won. An empty name is skipped. No row may count more than 4,000,000,000 games before. The only
+    /// error is `NoMemory`, and then nothing is added.
     pub fn add(&mut self, alloc: Global, info: &Info) -> Result<(), NoMemory>
         requires { All (λ (row : TableRow). row.games ≤ 4000000000) self.old }
         ensures ok { OnOk result ((games : List Information) →

@@ -19,7 +19,8 @@ use std::alloc::Global;
 
 /// What each node of a tree changes against its parent. The only error is `NoMemory`.
 ///
-/// Each node is played once and taken back at most once.
+/// Each node is played once and taken back at most once. The lists of the answer have no spare room,
+/// unless the allocator refuses a smaller block.
 pub fn deltas(alloc: Global, tree: &GameTree) -> Result<NodeDeltas, NoMemory>
     ensures { IfOk result (AreNodeChanges tree.now) }
 {
@@ -39,7 +40,7 @@ pub fn deltas_with(
     ensures { IfOk result (AreNodeChanges tree.now) }
 {
     let shape = tree.shape();
-    let mut deltas = NodeDeltas::new(alloc, shape);
+    let mut deltas = NodeDeltas::with_room(alloc, shape, tree.node_count())?;
     board.reset(shape);
     let mut here = None;
     for n in 0..tree.node_count() {
@@ -51,6 +52,7 @@ pub fn deltas_with(
         deltas.push(parent, changes.as_slice())?;
         here = Some(n);
     }
+    deltas.shrink_to_fit();
     let _count = deltas.node_count();
     Ok(deltas)
 }

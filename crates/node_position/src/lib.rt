@@ -6,6 +6,8 @@
 
 mod building;
 mod laws;
+#[cfg(test)]
+mod tests;
 
 pub use building::{deltas, deltas_with};
 pub use laws::{

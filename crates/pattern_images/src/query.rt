@@ -56,8 +56,8 @@ impl Query {
         }
     }
 
-    // Whether the query looks on boards of this shape.
-    pub(crate) fn is_for(&self, shape: Shape) -> bool
+    /// Whether the query looks on boards of this shape.
+    pub fn is_for(&self, shape: Shape) -> bool
         ensures { IsTrue result ↔ IsForBoard self.now shape }
     {
         match self.board {

@@ -39,8 +39,8 @@ pub fn print_signature_head(
     cut_back(out, len, done)
 }
 
-/// Appends a line for a game that was found by its signature: `game GAME SIGNATURE`. The only error
-/// is `NoMemory`, and then `out` is as before.
+/// Appends a line for a game that was found by its signature: `game GAME SIGNATURE`. The
+/// signature is a canonical form. The only error is `NoMemory`, and then `out` is as before.
 pub fn print_found_game(game: u32, signature: &Signature, out: &mut Vec<u8>) -> Result<(), NoMemory>
     ensures ok { OnOk result (out.new.items
         ≡ out.old.items ++ found_game_text game signature.now.bytes) }
@@ -141,8 +141,8 @@ pub fn print_doubles_head(
 }
 
 /// Appends a line for a group of double games: `double SIGNATURE` and the numbers of the games,
-/// here the first and the others, each behind a space. The only error is `NoMemory`, and then `out`
-/// is as before.
+/// here the first and the others, each behind a space. The signature is a canonical form. The only
+/// error is `NoMemory`, and then `out` is as before.
 pub fn print_double(
     signature: &Signature,
     first: u32,

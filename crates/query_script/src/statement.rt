@@ -31,7 +31,8 @@ pub enum Statement {
     Signature { pattern: SigPattern },
     /// `players`: the players of the games.
     Players,
-    /// `doubles`: the groups of games with one board and one canonical signature.
+    /// `doubles`: the groups of two games or more that have boards of one shape and one canonical
+    /// signature, in which not every byte is `?`.
     Doubles,
     /// `game N`: a game as SGF text.
     Game { number: u32 },

@@ -244,7 +244,8 @@ fn expect<L: Ledger>(
 {
     let shape = Shape::new(cols, rows).expect(rt, "sides of a board");
     let mut steps = Steps::<L>::new(blank);
-    let deltas = pushed(rt, alloc, shape, nodes, &mut steps)?;
+    let mut deltas = pushed(rt, alloc, shape, nodes, &mut steps)?;
+    deltas.shrink_to_fit();
     let copied = deltas.copy(alloc)?;
     expect_nodes(rt, alloc, &deltas, nodes)?;
     expect_nodes(rt, alloc, &copied, nodes)?;
@@ -348,7 +349,7 @@ fn push_line<L: Ledger>(
     requires parts { blank.parts ≡ L.parts }
     requires some { 0 < blank.parts }
 {
-    let mut deltas = NodeDeltas::new(alloc, Shape::standard());
+    let mut deltas = NodeDeltas::with_room(alloc, Shape::standard(), most)?;
     let mut walker = Walker::new(&deltas);
     let mut steps = Steps::<L>::new(blank);
     let mut old = Cell::Empty;

@@ -7,7 +7,7 @@ use Rattle.node_position.proofs.building.deltas_with.Goals as goal
 
 pub loop-n-init : goal.loop-n-init
 loop-n-init c = record {
-  followed = rw (c.new-deltas.ensures, c.shape-shape.ensures.value) (Followed-start c.args.tree.now c.reset.new.self (rw c.shape-shape.ensures.value at c.reset.ensures.shape) (rw c.shape-shape.ensures.value at c.reset.ensures.position));
+  followed = rw (c.in_ok-deltas.ensures, c.shape-shape.ensures.value) (Followed-start c.args.tree.now c.reset.new.self (rw c.shape-shape.ensures.value at c.reset.ensures.shape) (rw c.shape-shape.ensures.value at c.reset.ensures.position));
   here = refl;
 }
 
@@ -75,4 +75,4 @@ returns c =
     let tree = c.args.tree.now in
     let all : c.loop-n.n ≡ node_count tree = omega (arith, c.node_count-n-end.ensures.value) in
     let end = Followed-end tree c.node_count-n-end.ensures.tree c.loop-n.deltas c.loop-n.board (rw all at c.loop-n.invariant.followed) in
-    record { positions = end.0; are_positions = end.1; net = c.node_count-count.ensures.deltas; lead = end.2 }
+    record { positions = end.0; are_positions = end.1; net = c.node_count-count.ensures.deltas; lead = rw c.shrink_to_fit.ensures end.2 }

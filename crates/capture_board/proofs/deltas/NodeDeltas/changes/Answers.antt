@@ -1,6 +1,6 @@
 use Rattle.std.proofs.Common.{ℕ, length, ◌∙◌, ap, arith}
 use Rattle.std.specs.List.{between}
-use Rattle.capture_board.specs.StoredDeltas.{stored_node, changes_start}
+use Rattle.capture_board.specs.StoredDeltas.{changes_end, stored_node, changes_start}
 use Rattle.capture_board.proofs.StoredDeltas.{count_shown, deltas_shown, within_shown, changes_shown, changes_fit, start_fits}
 use Rattle.capture_board.proofs.deltas.NodeDeltas.changes.Goals as goal
 
@@ -14,20 +14,21 @@ pub slice_bounds-result-count : goal.slice_bounds-result-count
 slice_bounds-result-count c =
     let within = within_shown _ _ _ _ c.self.view_is c.self.invariant c.args.n c.requires in
     let same = c.as_slice-nodes.ensures.value in
-    omega (arith, c.changes_start-start.ensures, ap (λ (ts : _). changes_start ts c.args.n) same, ap (λ (ts : _). (stored_node ts c.args.n).changes_end) same, c.self.invariant.ends.parts.starts c.args.n within)
+    omega (arith, c.changes_start-start.ensures, ap (λ (ts : _). changes_start ts c.args.n) same, ap (λ (ts : _). changes_end (stored_node ts c.args.n)) same, c.self.invariant.ends.parts.starts c.args.n within)
 
 pub slice_bounds-result-start : goal.slice_bounds-result-start
 slice_bounds-result-start c =
     let within = within_shown _ _ _ _ c.self.view_is c.self.invariant c.args.n c.requires in
     let same = c.as_slice-nodes.ensures.value in
-    omega (arith, c.changes_start-start.ensures, ap (λ (ts : _). changes_start ts c.args.n) same, ap (λ (ts : _). (stored_node ts c.args.n).changes_end) same, c.self.invariant.ends.parts.starts c.args.n within, c.self.invariant.ends.parts.ends c.args.n within)
+    omega (arith, c.changes_start-start.ensures, ap (λ (ts : _). changes_start ts c.args.n) same, ap (λ (ts : _). changes_end (stored_node ts c.args.n)) same, c.self.invariant.ends.parts.starts c.args.n within, c.self.invariant.ends.parts.ends c.args.n within)
 
 pub returns-clause-value : goal.returns-clause-value
 returns-clause-value c =
     let same = c.as_slice-nodes.ensures.value in
-    ap (λ (cs : _). between c.changes_start-start.result (stored_node c.as_slice-nodes.result.now c.args.n).changes_end cs) c.deref.ensures.value
-    ∙ ap (λ (n : ℕ). between n (stored_node c.as_slice-nodes.result.now c.args.n).changes_end c.self.inside.changes.items) c.changes_start-start.ensures
-    ∙ ap (λ (ts : _). between (changes_start ts c.args.n) (stored_node ts c.args.n).changes_end c.self.inside.changes.items) same
+    ap (λ (cs : _). between c.changes_start-start.result c.changes_end-end.result cs) c.deref.ensures.value
+    ∙ ap (λ (n : ℕ). between c.changes_start-start.result n c.self.inside.changes.items) c.changes_end-end.ensures
+    ∙ ap (λ (n : ℕ). between n (changes_end (stored_node c.as_slice-nodes.result.now c.args.n)) c.self.inside.changes.items) c.changes_start-start.ensures
+    ∙ ap (λ (ts : _). between (changes_start ts c.args.n) (changes_end (stored_node ts c.args.n)) c.self.inside.changes.items) same
     ∙ changes_shown _ _ _ _ c.self.view_is c.self.invariant c.args.n c.requires
 
 pub returns-clause-changes : goal.returns-clause-changes
