@@ -1,0 +1,138 @@
+-- A stretch that is cut at the runs of a point, the latest run first.
+use Prim.Native.Nat.{min}
+use Rattle.std.proofs.Common.{◌≡◌, ℕ, ◌+◌, ◌<◌, ◌≤◌, ◌⊎◌, ◌↔◌, Bool, List, [], ◌∷◌, length, get_or, drop, refl, sym, ◌∙◌, ap, subst, arith, inl, inr, add-one, drop-cons}
+use Rattle.std.proofs.Math.Nat.{min-le_left, min-le_right, le-min}
+use Rattle.std.proofs.lemmas.Bool.{cases_lt}
+use Rattle.std.proofs.lemmas.List.{drop_all, get_or_default}
+use Rattle.std.specs.Prelude.{IsTrue}
+use Rattle.capture_index.specs.declared.run.Run.{Run}
+use Rattle.capture_index.specs.declared.stretch.Stretch.{Stretch}
+use Rattle.capture_index.specs.declared.stretch.Want.{Want}
+use Rattle.capture_index.specs.Runs.{cell_by}
+use Rattle.capture_index.specs.Lists.{IsInFirst}
+use Rattle.capture_index.specs.Stretches.{IsIn, IsWithin, is_wanted}
+use Rattle.capture_index.proofs.Cells.{cell_by-first, cell_by-rest}
+
+least_of : (next start low n : ℕ) → low ≡ min next start → low ≤ n → n < next → start ≤ n
+least_of next start low n e from to =
+    elim (cases_lt start next) [
+      | inl lt ↦
+          let first : start ≤ next = omega arith in
+          let self : start ≤ start = omega arith in
+          let least : start ≤ min next start = le-min first self in
+          omega (arith, e, least)
+      | inr ge ↦
+          let self : next ≤ next = omega arith in
+          let least : next ≤ min next start = le-min self ge in
+          absurd (omega (arith, e, least))
+    ]
+
+-- A stretch is cut at the first so many runs, which tell of the nodes from next on.
+pub record IsCutTo (runs : List Run) (want : Want) (nodes : ℕ) (stretch : Stretch) (before : List Stretch) (count next : ℕ) (after : List Stretch) : Type 0 where
+  pub most : next ≤ nodes
+  pub nodes_of : (n : ℕ) → n < nodes → IsIn after n ↔ (IsIn before n ⊎ (IsWithin n stretch × (next ≤ n) × IsTrue (is_wanted want (cell_by runs n))))
+  pub rest : (n : ℕ) → n < next → cell_by runs n ≡ cell_by (drop count runs) n
+
+module _ (runs : List Run) (want : Want) (nodes : ℕ) (stretch : Stretch) (before : List Stretch) where
+  pub IsCutTo-none : IsCutTo runs want nodes stretch before 0 nodes before
+  IsCutTo-none = record {
+    most = omega arith;
+    nodes_of = λ n lt. (λ h. inl h, λ h. elim h [ inl there ↦ there | inr behind ↦ absurd (omega (arith, behind.1)) ]);
+    rest = λ n lt. refl;
+  }
+
+  module _ (count next : ℕ) (now : List Stretch) (cut : IsCutTo runs want nodes stretch before count next now) (after : List Stretch) (start : ℕ) (wanted : Bool) (pushed : (n : ℕ) → IsIn after n ↔ (IsIn now n ⊎ (IsWithin n stretch × (start ≤ n) × (n < next) × IsTrue wanted))) (cell : (n : ℕ) → start ≤ n → n < next → is_wanted want (cell_by runs n) ≡ wanted) where
+    -- the nodes from start on are decided
+    pub cut-further : (low : ℕ) → low ≤ next → low ≤ start → ((n : ℕ) → low ≤ n → n < next → start ≤ n) → (n : ℕ) → n < nodes → IsIn after n ↔ (IsIn before n ⊎ (IsWithin n stretch × (low ≤ n) × IsTrue (is_wanted want (cell_by runs n))))
+    cut-further low under below least n lt = (
+      λ h. elim ((pushed n).0 h) [
+        | inl old ↦ elim ((cut.nodes_of n lt).0 old) [
+          | inl first ↦ inl first
+          | inr (within, from, is) ↦ inr (within, omega arith, is)
+        ]
+        | inr (within, from, to, is) ↦ inr (within, omega arith, cell n from to ∙ is)
+      ],
+      λ h. elim h [
+        | inl first ↦ (pushed n).1 (inl ((cut.nodes_of n lt).1 (inl first)))
+        | inr (within, from, is) ↦ elim (cases_lt n next) [
+          | inl to ↦ let from_start = least n from to in (pushed n).1 (inr (within, from_start, to, sym (cell n from_start to) ∙ is))
+          | inr behind ↦ (pushed n).1 (inl ((cut.nodes_of n lt).1 (inr (within, behind, is))))
+        ]
+      ],
+    )
+
+  -- one run more
+  pub IsCutTo-more : (count next : ℕ) (now after : List Stretch) (d : Run) (start low : ℕ) (wanted : Bool) → count < length runs → IsCutTo runs want nodes stretch before count next now →
+      ((n : ℕ) → IsIn after n ↔ (IsIn now n ⊎ (IsWithin n stretch × (start ≤ n) × (n < next) × IsTrue wanted))) →
+      start ≡ (get_or runs count d).first → wanted ≡ is_wanted want (get_or runs count d).cell → low ≡ min next start → IsCutTo runs want nodes stretch before (count + 1) low after
+  IsCutTo-more count next now after d start low wanted lt cut pushed first_is wanted_is low_is =
+      let r = get_or runs count d in
+      let step : drop count runs ≡ r ∷ drop (count + 1) runs = drop-cons runs count d lt ∙ ap (λ (i : ℕ). r ∷ drop i runs) (sym (add-one count)) in
+      let under : low ≤ next = omega (arith, low_is, min-le_left next start) in
+      let below : low ≤ start = omega (arith, low_is, min-le_right next start) in
+      let least : (n : ℕ) → low ≤ n → n < next → start ≤ n = λ n from to. least_of next start low n low_is from to in
+      record {
+        most = omega (arith, cut.most);
+        nodes_of = cut-further count next now cut after start wanted pushed
+            (λ n from to. ap (is_wanted want) (cut.rest n to ∙ ap (λ (rs : List Run). cell_by rs n) step ∙ cell_by-first r (drop (count + 1) runs) n (omega (arith, first_is))) ∙ sym wanted_is)
+            low under below least;
+        rest = λ n l. cut.rest n (omega arith) ∙ ap (λ (rs : List Run). cell_by rs n) step ∙ cell_by-rest r (drop (count + 1) runs) n (omega (arith, first_is));
+      }
+
+  -- before all runs
+  pub IsCutTo-all : (next : ℕ) (now after : List Stretch) (count : ℕ) → length runs ≤ count → IsCutTo runs want nodes stretch before count next now →
+      ((n : ℕ) → IsIn after n ↔ (IsIn now n ⊎ (IsWithin n stretch × (0 ≤ n) × (n < next) × IsTrue want.empty))) →
+      (n : ℕ) → n < nodes → IsIn after n ↔ (IsIn before n ⊎ (IsWithin n stretch × IsTrue (is_wanted want (cell_by runs n))))
+  IsCutTo-all next now after count all cut pushed n lt =
+      let whole = cut-further count next now cut after 0 want.empty pushed
+      (λ m from to. ap (is_wanted want) (cut.rest m to ∙ ap (λ (rs : List Run). cell_by rs m) (drop_all count runs all)))
+      0 (omega arith) (omega arith) (λ m from to. omega arith) n lt in (
+        λ h. elim (whole.0 h) [ inl first ↦ inl first | inr (within, from, is) ↦ inr (within, is) ],
+        λ h. whole.1 (elim h [ inl first ↦ inl first | inr (within, is) ↦ inr (within, omega arith, is) ]),
+      )
+
+-- ---- all stretches of a list
+module _ (stretches : List Stretch) (i : ℕ) (d : Stretch) (n : ℕ) (lt : i < length stretches) where
+  first_more : IsInFirst (i + 1) stretches n → IsInFirst i stretches n ⊎ IsWithin n (get_or stretches i d)
+  first_more (k, e, below, within) =
+      elim (cases_lt k i) [
+        | inl before ↦ inl (k, e, before, within)
+        | inr last ↦
+            let here : k ≡ i = omega arith in
+            inr (subst (IsWithin n) (ap (λ (j : ℕ). get_or stretches j e) here ∙ get_or_default stretches i e d lt) within)
+      ]
+
+  more_first : IsInFirst i stretches n ⊎ IsWithin n (get_or stretches i d) → IsInFirst (i + 1) stretches n
+  more_first (inl (k, e, below, within)) = (k, e, omega arith, within)
+  more_first (inr within) = (i, d, omega arith, within)
+
+  pub each-more : (W A B C : Type 0) → C ↔ (B ⊎ (IsWithin n (get_or stretches i d) × W)) → B ↔ (A ⊎ (IsInFirst i stretches n × W)) → C ↔ (A ⊎ (IsInFirst (i + 1) stretches n × W))
+  each-more W A B C step before = (
+    λ c. elim (step.0 c) [
+      | inl b ↦ elim (before.0 b) [
+        | inl a ↦ inl a
+        | inr (first, w) ↦ inr (more_first (inl first), w)
+      ]
+      | inr (within, w) ↦ inr (more_first (inr within), w)
+    ],
+    λ h. elim h [
+      | inl a ↦ step.1 (inl (before.1 (inl a)))
+      | inr (first, w) ↦ elim (first_more first) [
+        | inl old ↦ step.1 (inl (before.1 (inr (old, w))))
+        | inr within ↦ step.1 (inr (within, w))
+      ]
+    ],
+  )
+
+pub each-none : (stretches : List Stretch) (n : ℕ) (W A : Type 0) → A ↔ (A ⊎ (IsInFirst 0 stretches n × W))
+each-none stretches n W A = (λ a. inl a, λ h. elim h [ inl a ↦ a | inr ((k, e, below, within), w) ↦ absurd (omega (arith, below)) ])
+
+-- a list that was empty, and is exchanged
+pub cut-read : (W : Type 0) (now before after spare : List Stretch) (n : ℕ) → now ≡ [] → after ≡ spare → IsIn spare n ↔ (IsIn now n ⊎ (IsIn before n × W)) → IsIn after n ↔ (IsIn before n × W)
+cut-read W now before after spare n none e cut = (
+  λ h. elim (cut.0 (subst (λ (s : List Stretch). IsIn s n) e h)) [
+    | inl (k, d, below, within) ↦ absurd (omega (arith, below, ap length none))
+    | inr kept ↦ kept
+  ],
+  λ h. subst (λ (s : List Stretch). IsIn s n) (sym e) (cut.1 (inr h)),
+)

@@ -1,0 +1,16 @@
+pub mod Cells
+pub mod Linked
+pub mod OnBoard
+pub mod Made
+pub mod Steps
+pub mod CutRuns
+pub mod Words
+pub mod Narrowing
+pub mod Packed
+pub mod BegunNodes
+pub mod Branchings
+pub mod NextRuns
+pub mod Told
+pub mod NodesFrom
+pub mod Apart
+pub mod NodesTold

@@ -1,0 +1,15 @@
+use Rattle.std.proofs.Common.{ℕ, length, ◌≡◌, arith, subst}
+use Rattle.capture_index.specs.Finding.{IsCutBy}
+use Rattle.capture_index.proofs.Narrowing.{IsCutBy-more}
+use Rattle.capture_index.proofs.packed_runs.PackedRuns.cut_all.Goals as goal
+
+pub loop-want-preserved : goal.loop-want-preserved
+loop-want-preserved c = record {
+  cut = IsCutBy-more c.args.self.now c.args.base c.args.wants.now c.loop-want.want-index c.loop-want-test.true c.args.found.now.items c.loop-want.found.items c.cut_want.new.found.items c.loop-want.invariant.cut c.in_ok-cut_want.ensures.nodes;
+  apart = λ most apart. c.in_ok-cut_want.ensures.apart most (c.loop-want.invariant.apart most apart);
+}
+
+pub returns-clause-nodes : goal.returns-clause-nodes
+returns-clause-nodes c =
+    let all : c.loop-want.want-index ≡ length c.args.wants.now = omega arith in
+    subst (λ (i : ℕ). IsCutBy c.args.self.now c.args.base c.args.wants.now i c.args.found.now.items c.loop-want.found.items) all c.loop-want.invariant.cut

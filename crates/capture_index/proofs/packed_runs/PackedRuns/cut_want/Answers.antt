@@ -1,0 +1,8 @@
+use Rattle.capture_index.proofs.Narrowing.{IsCutAt-list}
+use Rattle.capture_index.proofs.packed_runs.PackedRuns.cut_want.Goals as goal
+
+pub returns-clause-nodes : goal.returns-clause-nodes
+returns-clause-nodes c =
+    IsCutAt-list c.args.self.now c.args.base c.args.want c.time_of-time.result
+    c.time_of-time.ensures
+    c.list-2.result.now c.list.result c.args.found.now.items c.cut.new.found.items (c.is_many.ensures.0 c.if-not-is_many.false) c.list.ensures c.list-2.ensures c.in_ok-cut.ensures.nodes

@@ -1,0 +1,77 @@
+-- The nodes of a game at which wanted cells stand.
+use Rattle.std.specs.Prelude.{◌≡◌, ℕ, ◌+◌, ◌<◌, ◌≤◌, IsTrue, true, false, ◌↔◌, List, length, slice_index_or}
+use Rattle.kb_geometry.specs.declared.stone.Cell.{Cell}
+use Rattle.kb_geometry.specs.Board.{point_count}
+use Rattle.kb_geometry.specs.Capture.{cell_at}
+use Rattle.capture_board.specs.Deltas.{AreDeltas, Deltas, node_count, position_at}
+use Rattle.capture_index.specs.declared.time.Time.{Time}
+use Rattle.capture_index.specs.declared.stretch.Stretch.{Stretch}
+use Rattle.capture_index.specs.declared.stretch.Want.{Want}
+use Rattle.capture_index.specs.declared.finding.Bounds.{Bounds}
+use Rattle.capture_index.specs.declared.packed_runs.PackedRuns.{PackedRuns}
+use Rattle.capture_index.specs.Branches.{AreBranchesTo}
+use Rattle.capture_index.specs.Runs.{cell_by}
+use Rattle.capture_index.specs.Lists.{is_many, runs_of}
+use Rattle.capture_index.specs.Stretches.{IsIn, is_wanted, no_want}
+
+abbrev pub no_time : Time
+no_time = record { word = 0 }
+
+-- the word of a point
+abbrev pub time_at : PackedRuns → ℕ → Time
+time_at index p = slice_index_or index.times.items p no_time
+
+-- the cell of a point at a node
+abbrev pub packed_cell : PackedRuns → ℕ → ℕ → Cell
+packed_cell index p n = cell_by (runs_of index.ends.items index.runs.items (time_at index p)) n
+
+-- the want is met at a node, by the point so far behind base
+abbrev pub IsMet : PackedRuns → ℕ → Want → ℕ → Type 0
+IsMet index base want n = IsTrue (is_wanted want (packed_cell index (base + want.offset) n))
+
+-- each want is met at a node
+abbrev pub AreMet : PackedRuns → ℕ → List Want → ℕ → Type 0
+AreMet index base wants n = (k : ℕ) → k < length wants →
+    IsMet index base (slice_index_or wants k no_want) n
+
+-- the want is met at a node, unless its point has a list of runs
+abbrev pub IsMetByWord : PackedRuns → ℕ → Want → ℕ → Type 0
+IsMetByWord index base want n = is_many (time_at index (base + want.offset)) ≡ false →
+    IsMet index base want n
+
+-- the first so many wants with words are met at a node
+abbrev pub AreMetByWord : PackedRuns → ℕ → List Want → ℕ → ℕ → Type 0
+AreMetByWord index base wants count n = (k : ℕ) → k < count →
+    IsMetByWord index base (slice_index_or wants k no_want) n
+
+-- The nodes of the stretch are those at which the first so many wants with words are met. Some want
+-- has a list if that is told.
+pub record IsBoundTo (index : PackedRuns) (base : ℕ) (wants : List Want) (count : ℕ)
+    (bounds : Bounds) : Type 0 where
+  pub nodes_of : (n : ℕ) → n < index.nodes → ((bounds.from ≤ n) × (n < bounds.to)) ↔
+      AreMetByWord index base wants count n
+  pub most : bounds.to ≤ index.nodes
+  pub words : bounds.from < bounds.to → bounds.many ≡ false → (k : ℕ) → k < count →
+      is_many (time_at index (base + (slice_index_or wants k no_want).offset)) ≡ false
+
+-- the nodes that are left are those at which the first so many wants with lists are met
+abbrev pub IsCutBy : PackedRuns → ℕ → List Want → ℕ → List Stretch → List Stretch → Type 0
+IsCutBy index base wants count before after =
+    (n : ℕ) → n < index.nodes → IsIn after n ↔ (IsIn before n × ((k : ℕ) → k < count →
+    is_many (time_at index (base + (slice_index_or wants k no_want).offset)) ≡ true →
+    IsMet index base (slice_index_or wants k no_want) n))
+
+-- the nodes that are left are those at which the want is met, if its point has a list
+abbrev pub IsCutAt : PackedRuns → ℕ → Want → List Stretch → List Stretch → Type 0
+IsCutAt index base want before after =
+    (n : ℕ) → n < index.nodes → IsIn after n ↔ (IsIn before n ×
+    (is_many (time_at index (base + want.offset)) ≡ true → IsMet index base want n))
+
+-- the index tells the cell of each point at each node of the game
+pub record IsIndexOf (deltas : Deltas) (index : PackedRuns) : Type 0 where
+  pub are : AreDeltas deltas
+  pub shape : index.shape ≡ deltas.shape
+  pub nodes : index.nodes ≡ node_count deltas
+  pub branches : AreBranchesTo deltas (node_count deltas) index.branches.items
+  pub cells : (p n : ℕ) → p < point_count deltas.shape → n < node_count deltas →
+      packed_cell index p n ≡ cell_at (position_at deltas n) p

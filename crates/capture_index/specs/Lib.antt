@@ -1,0 +1,13 @@
+-- Words that contracts of public functions rest on.
+pub mod NodePositions
+pub mod Stretches
+-- Words of private functions.
+pub mod Begins
+pub mod Branches
+pub mod Building
+pub mod Finding
+pub mod Links
+pub mod Lists
+pub mod Packing
+pub mod Runs
+pub mod Seen

@@ -1,0 +1,55 @@
+-- Stretches of nodes, and the nodes at which the cells that are wanted stand.
+use Rattle.std.specs.Prelude.{ℕ, ◌+◌, ◌<◌, ◌≤◌, Bool, IsTrue, false, List, Option, Some, None, length, slice_index_or}
+use Rattle.kb_geometry.specs.declared.stone.Cell.{Cell}
+use Rattle.kb_geometry.specs.declared.stone.Cell.TheVariants as stone
+use Rattle.capture_index.specs.declared.stretch.Stretch.{Stretch}
+use Rattle.capture_index.specs.declared.stretch.Want.{Want}
+use Rattle.capture_index.specs.NodePositions.{NodePositions, cell_in, parent_in}
+
+-- the node is in the stretch
+abbrev pub IsWithin : ℕ → Stretch → Type 0
+IsWithin n s = (s.from ≤ n) × (n < s.to)
+
+-- the node is in one of the stretches
+abbrev pub IsIn : List Stretch → ℕ → Type 0
+IsIn stretches n = (k : ℕ) × (d : Stretch) × (k < length stretches) ×
+    IsWithin n (slice_index_or stretches k d)
+
+-- Each stretch has a node, all are within the nodes from the lowest one up to before the highest,
+-- and each ends before the one that is listed before it begins. So no more are listed than there
+-- are nodes.
+pub record AreApart (lowest highest : ℕ) (stretches : List Stretch) : Type 0 where
+  pub each : (k : ℕ) (d : Stretch) → k < length stretches →
+      (lowest ≤ (slice_index_or stretches k d).from) ×
+      ((slice_index_or stretches k d).from < (slice_index_or stretches k d).to) ×
+      ((slice_index_or stretches k d).to ≤ highest)
+  pub falling : (i j : ℕ) (d e : Stretch) → i < j → j < length stretches →
+      (slice_index_or stretches j e).to ≤ (slice_index_or stretches i d).from
+
+-- the cell is one of those that are wanted
+abbrev pub is_wanted : Want → Cell → Bool
+is_wanted want stone.Empty = want.empty
+is_wanted want stone.Black = want.black
+is_wanted want stone.White = want.white
+
+abbrev pub no_want : Want
+no_want = record { offset = 0; empty = false; black = false; white = false }
+
+-- the want is met at a node, by the point so far behind base
+abbrev pub IsWantedAt : NodePositions → ℕ → Want → ℕ → Type 0
+IsWantedAt seen base want n = IsTrue (is_wanted want (cell_in seen (base + want.offset) n))
+
+-- each want is met at a node
+abbrev pub AreWantedAt : NodePositions → ℕ → List Want → ℕ → Type 0
+AreWantedAt seen base wants n = (k : ℕ) → k < length wants →
+    IsWantedAt seen base (slice_index_or wants k no_want) n
+
+-- there is no parent, or it isn't in the stretches
+abbrev pub IsOutside : List Stretch → Option ℕ → Type 0
+IsOutside stretches None = Unit {0}
+IsOutside stretches (Some m) = ¬ IsIn stretches m
+
+-- the node is in the stretches, and is the root or has a parent that isn't
+pub record BeginsIn (seen : NodePositions) (stretches : List Stretch) (n : ℕ) : Type 0 where
+  pub inside : IsIn stretches n
+  pub first : IsOutside stretches (parent_in seen n)

@@ -1,0 +1,27 @@
+//! For each point of a game the runs of nodes, in order of the text, at which it has one cell.
+//!
+//! Stands on node_paths, kb_geometry, kb_bits and capture_board. A search asks runs in place of
+//! replaying the positions of a game.
+#![tactic(auto)]
+
+mod begins;
+mod branches;
+mod building;
+mod cutting;
+mod finding;
+mod growing;
+mod laws;
+mod node_cells;
+mod nodes_where;
+mod packed_runs;
+mod run;
+mod run_index;
+mod stretch;
+#[cfg(test)]
+mod tests;
+mod time;
+
+pub use laws::nodes_where_the_parent_has_another_cell;
+pub use nodes_where::NodesWhere;
+pub use run_index::RunIndex;
+pub use stretch::{Stretch, Want};

@@ -1,0 +1,79 @@
+// The cell of a point at a node, by its runs.
+ghost use Rattle.std.specs.Prelude.{◌≡◌, ◌<◌, ◌≤◌, ℕ};
+ghost use Rattle.kb_geometry.specs.Board.{point_count};
+ghost use Rattle.capture_index.specs.Finding.{packed_cell};
+ghost use Rattle.capture_index.specs.Lists.{run_of_word};
+ghost use Rattle.capture_index.specs.Runs.{cell_by};
+ghost use Rattle.capture_index.specs.Seen.{StaysTo};
+
+use crate::packed_runs::PackedRuns;
+use crate::run::Run;
+use crate::time::Time;
+use kb_geometry::Cell;
+
+impl PackedRuns {
+    // The cell of a point at a node.
+    pub(crate) fn cell(&self, point: u16, node: u32) -> Cell
+        requires { point < point_count self.now.shape }
+        ensures { result ≡ packed_cell self.now point node }
+    {
+        let time = self.times[usize::from(point)];
+        if time.is_many() {
+            cell_at(self.list(time.list()), node)
+        } else {
+            cell_at(&[run_of(time)], node)
+        }
+    }
+
+    // The next node at which a run of the point begins; the number of nodes, where none does.
+    pub(crate) fn next_run(&self, point: u16, node: u32) -> u32
+        requires point { point < point_count self.now.shape }
+        requires in_range { node < self.now.nodes }
+        ensures { StaysTo (packed_cell self.now point) self.now.nodes node result }
+    {
+        let time = self.times[usize::from(point)];
+        if time.is_many() {
+            next_run(self.list(time.list()), node, self.nodes)
+        } else {
+            next_run(&[run_of(time)], node, self.nodes)
+        }
+    }
+}
+
+// The run that a word tells.
+fn run_of(time: Time) -> Run
+    ensures { result ≡ run_of_word time }
+{
+    Run {
+        first: time.first(),
+        cell: time.stone(),
+    }
+}
+
+// The cell at a node: that of the latest run that begins at or before it.
+fn cell_at(runs: &[Run], node: u32) -> Cell
+    ensures { result ≡ cell_by runs.now node }
+{
+    for run in runs {
+        if u32::from(run.first) <= node {
+            return run.cell;
+        }
+    }
+    Cell::Empty
+}
+
+// The first of the runs that begin behind the node; the number of nodes, where none does.
+fn next_run(runs: &[Run], node: u32, nodes: u32) -> u32
+    requires { node < nodes }
+    ensures { StaysTo (cell_by runs.now) nodes node result }
+{
+    let mut next = nodes;
+    for run in runs {
+        let first = u32::from(run.first);
+        if first <= node {
+            return next;
+        }
+        next = next.min(first);
+    }
+    next
+}

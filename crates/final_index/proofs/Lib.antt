@@ -1,0 +1,2 @@
+pub mod AddedChanges
+pub mod GatheredNodes
