@@ -56,7 +56,7 @@ fn main(rt: HostRuntime) -> ExitCode {
             let folder = RealFolder::new(rt);
             let mut script = RealSource::new(rt.stdin());
             let mut out = RealSink::new(rt.stdout());
-            run_serial(rt.alloc(), &words, folder, &mut script, &mut out).0
+            run_serial(&rt, rt.alloc(), &words, folder, &mut script, &mut out).0
         }
     };
     complain(&rt, status);

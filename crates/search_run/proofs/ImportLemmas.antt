@@ -1,5 +1,5 @@
 -- Reading the files of an import.
-use Rattle.std.proofs.Common.{◌≡◌, ℕ, Bool, true, false, cond, ◌||◌, List, [], ◌∷◌, ◌++◌, Option, Some, None, refl, sym, ◌∙◌, ap, subst, arith, take, map, length, length-append, append_assoc, get_or, ◌<◌, ◌+◌, ◌≤◌, ◌⊎◌, ⊎_elim, inl, inr}
+use Rattle.std.proofs.Common.{◌≡◌, ℕ, suc, Bool, true, false, cond, ◌||◌, List, [], ◌∷◌, ◌++◌, Option, Some, None, refl, sym, ◌∙◌, ap, subst, arith, take, map, length, length-append, append_assoc, get_or, ◌<◌, ◌+◌, ◌≤◌, ◌⊎◌, ⊎_elim, inl, inr}
 use Rattle.std.specs.Prelude.{All, AllPairs, Contains, IsSome, String, Vec, find, string_bytes}
 use Rattle.std.specs.declared.alloc.Global.{Global}
 use Rattle.std.specs.List.{list_any}
@@ -14,19 +14,18 @@ use Rattle.std.proofs.lemmas.List.{append-nil, get_or-map, length-map, map_more,
 use Rattle.std.specs.Cmp.Lexicographic.{slice_cmp}
 use Rattle.std.specs.Ordering.{nat_cmp}
 use Rattle.std.specs.declared.cmp.Ordering.TheVariants.{Less}
-use Rattle.std.proofs.lemmas.List.Elements.{All-append, All-cons, Contains-get_or}
+use Rattle.std.proofs.lemmas.List.Elements.{Contains-get_or}
 use Rattle.kb_edges.specs.Files.{File, HasFile, HasPath, IsListing, content_of}
 use Rattle.kb_edges.specs.Told.{IfTold}
 use Rattle.kb_edges.specs.Faults.{Rose, RoseBy}
 use Rattle.game_tree.specs.Tree.{Tree}
 use Rattle.node_position.specs.Games.{Game}
-use Rattle.session_core.specs.Games.{IsOfItsTree, game_of, games_of}
-use Rattle.session_core.specs.declared.stored.Stored.{Stored}
 use Rattle.search_run.specs.Course.{AreNames, AreRead, FileReport, Files, Finding, ImportCourse, ImportFile, IsContent, IsImported, Unlisted, games_from, games_of_files, import_file, losses_of, nothing_lost, trees_in}
 use Rattle.search_run.specs.Imported.{AreKeptFiles, Tells, file_reports}
-use Rattle.search_run.specs.Reads.{HasReadAll, IsOneMoreRead}
-use Rattle.search_run.specs.declared.import.Imported.TheVariants as imported
-use Rattle.search_run.specs.declared.import.ImportedFile.{ImportedFile}
+use Rattle.search_run.specs.Log.{Segment}
+use Rattle.search_run.specs.Reads.{HasReadAll, HasReadBatches, IsOneMoreRead}
+use Rattle.search_run.specs.declared.imported.Imported.TheVariants as imported
+use Rattle.search_run.specs.declared.imported.ImportedFile.{ImportedFile}
 use Rattle.search_run.specs.declared.outcome.Counts.{Counts}
 use Rattle.search_run.specs.declared.outcome.FileOutcome.{FileOutcome}
 use Rattle.search_run.specs.declared.outcome.FileOutcome.TheVariants as file
@@ -129,25 +128,31 @@ games_from-push name place (first ∷ trees) tree =
     ap (λ gs. record { file = name; place = place; tree = first } ∷ gs)
     (games_from-push name (place + 1) trees tree ∙ ap (λ n. games_from name (place + 1) trees ++ record { file = name; place = n; tree = tree } ∷ []) placed)
 
+-- there are as many games as trees
+pub length-games_from : (name : List ℕ) (place : ℕ) (trees : List Tree) → length (games_from name place trees) ≡ length trees
+length-games_from name place [] = refl
+length-games_from name place (tree ∷ trees) = ap suc (length-games_from name (place + 1) trees)
+
+-- there is room for one game more, as there is for all games of the file
+pub room_for_more : (name : List ℕ) (before so_far : List Game) (trees all : List Tree) → so_far ≡ before ++ games_from name 0 trees → length before + length all ≤ 400000 → length trees < length all → length so_far < 400000
+room_for_more name before so_far trees all added fits below =
+    let counted : length so_far ≡ length before + length trees = ap length added ∙ length-append before (games_from name 0 trees) ∙ ap (λ n. length before + n) (length-games_from name 0 trees) in
+    omega (arith, counted, fits, below)
+
 -- a game by its file's name and its place there
 pub game_named : {name file : List ℕ} {place number : ℕ} (tree : Tree) → file ≡ name → number ≡ place → ◌≡◌ {A = Game} (record { file = file; place = number; tree = tree }) (record { file = name; place = place; tree = tree })
 game_named tree named placed = λ i. record { file = named i; place = placed i; tree = tree }
 
--- one game more is stored
-pub stored_more : (name : List ℕ) (trees : List Tree) (before stored more : List Stored) (s : Stored) (tree : Tree) → games_of stored ≡ games_of before ++ games_from name 0 trees → more ≡ stored ++ s ∷ [] → game_of s ≡ record { file = name; place = length trees; tree = tree } → games_of more ≡ games_of before ++ games_from name 0 (trees ++ tree ∷ [])
-stored_more name trees before stored more s tree so_far pushed is =
+-- one game more is added
+pub added_more : (name : List ℕ) (trees : List Tree) (before so_far more : List Game) (game : Game) (tree : Tree) → so_far ≡ before ++ games_from name 0 trees → more ≡ so_far ++ game ∷ [] → game ≡ record { file = name; place = length trees; tree = tree } → more ≡ before ++ games_from name 0 (trees ++ tree ∷ [])
+added_more name trees before so_far more game tree had pushed is =
     let last : List Game = record { file = name; place = length trees; tree = tree } ∷ [] in
     let from_none : 0 + length trees ≡ length trees = omega arith in
     let pieces : games_from name 0 (trees ++ tree ∷ []) ≡ games_from name 0 trees ++ last = games_from-push name 0 trees tree ∙ ap (λ n. games_from name 0 trees ++ record { file = name; place = n; tree = tree } ∷ []) from_none in
-    ap games_of pushed ∙ map_push game_of stored s
-    ∙ ap (λ gs. gs ++ game_of s ∷ []) so_far
-    ∙ ap (λ g. (games_of before ++ games_from name 0 trees) ++ g ∷ []) is
-    ∙ append_assoc (games_of before) (games_from name 0 trees) last
-    ∙ ap (λ gs. games_of before ++ gs) (sym pieces)
-
--- one game more is stored with what is of its tree
-pub of_tree_more : (stored more : List Stored) (s : Stored) → All IsOfItsTree stored → IsOfItsTree s → more ≡ stored ++ s ∷ [] → All IsOfItsTree more
-of_tree_more stored more s each last pushed = rw pushed (All-append IsOfItsTree stored (s ∷ []) each (All-cons IsOfItsTree s [] last (λ k d below. absurd (omega arith))))
+    pushed ∙ ap (λ gs. gs ++ game ∷ []) had
+    ∙ ap (λ g. (before ++ games_from name 0 trees) ++ g ∷ []) is
+    ∙ append_assoc before (games_from name 0 trees) last
+    ∙ ap (λ gs. before ++ gs) (sym pieces)
 
 -- the name of each place is a file's
 pub name_there : (files : List File) (path : List ℕ) (names : List (String Global)) (i : ℕ) (name : String Global) → All (HasFile files path) (map string_bytes names) → i < length names → name ≡ get_or names i name → HasFile files path (string_bytes name)
@@ -183,9 +188,9 @@ RoseBy-earlier : (n before between now : ℕ) → before ≤ between → RoseBy 
 RoseBy-earlier n before between now later rose = omega arith
 
 -- an import of these names, whose files are read
-pub IsImported-read : (all : List File) (path : List ℕ) (base : Counts) (names : List (String Global)) (before between now : ℕ) (kept_files : Vec ImportedFile Global) (kept_games : Vec Stored Global) → before ≤ between → HasPath all path → AreNames all path (map string_bytes names) → length names ≤ 100000 → HasReadAll all path base (map string_bytes names) between now (file_reports kept_files.items) (games_of kept_games.items) →
-    (entry : ImportCourse) × (finding : Finding) × Tells (imported.Files kept_files kept_games) finding × IsImported all path base entry finding × RoseBy (losses_of (entry ∷ [])) before now
-IsImported-read all path base names before between now kept_files kept_games later there are few h =
+pub IsImported-read : (all : List File) (path : List ℕ) (base : Counts) (names : List (String Global)) (before between now : ℕ) (kept_files : Vec ImportedFile Global) (kept_segments : Vec Segment Global) → before ≤ between → HasPath all path → AreNames all path (map string_bytes names) → length names ≤ 100000 → HasReadBatches all path base (map string_bytes names) between now (file_reports kept_files.items) kept_segments.items →
+    (entry : ImportCourse) × (finding : Finding) × Tells (imported.Files kept_files kept_segments) finding × IsImported all path base entry finding × RoseBy (losses_of (entry ∷ [])) before now
+IsImported-read all path base names before between now kept_files kept_segments later there are few h =
     let counted : length h.files ≡ length names = sym (length-map h.files (λ (f : ImportFile). f.report.name)) ∙ ap length h.named ∙ length-map names string_bytes in (
       record { unlisted = false; unread = h.unread },
       Files h.files,

@@ -1,4 +1,5 @@
 mod BatchLemmas
+mod BatchReads
 mod ImportLemmas
 mod ImportsExist
 mod NamesExist
@@ -6,6 +7,7 @@ mod OneFinding
 mod OneOutput
 mod OutcomesExist
 mod PrintLemmas
+mod PushedSegments
 mod ReadLemmas
 mod RoomLemmas
 mod RunLemmas

@@ -30,7 +30,7 @@ nodes_of-append : (trees more : List Tree) → nodes_of (trees ++ more) ≡ node
 nodes_of-append trees more = sum_by-append node_count trees more
 
 -- the counts with games, and with more games
-with_games-append : (before : Counts) (trees more : List Tree) → with_games (with_games before trees) more ≡ with_games before (trees ++ more)
+pub with_games-append : (before : Counts) (trees more : List Tree) → with_games (with_games before trees) more ≡ with_games before (trees ++ more)
 with_games-append before trees more =
     let games : before.games + length trees + length more ≡ before.games + length (trees ++ more) = rw length-append (omega arith) in
     let nodes : before.nodes + nodes_of trees + nodes_of more ≡ before.nodes + nodes_of (trees ++ more) = rw nodes_of-append (omega arith) in
@@ -47,7 +47,7 @@ with_games-none before =
 pub AreAdded-none : (before : Counts) → AreAdded before before []
 AreAdded-none before = sym (with_games-none before)
 
-trees_in-append : (games more : List Game) → trees_in (games ++ more) ≡ trees_in games ++ trees_in more
+pub trees_in-append : (games more : List Game) → trees_in (games ++ more) ≡ trees_in games ++ trees_in more
 trees_in-append games more = map-append (λ (game : Game). game.tree) games more
 
 -- more games are added
@@ -55,6 +55,16 @@ pub AreAdded-more : (before between after : Counts) (games more : List Game) →
 AreAdded-more before between after games more h adds =
     rw (adds.pushed, trees_in-append games adds.added)
     (adds.counted ∙ ap (λ (c : Counts). with_games c (trees_in adds.added)) h ∙ with_games-append before (trees_in games) (trees_in adds.added))
+
+-- there are as many trees as games
+pub length-trees : (games : List Game) → length (trees_in games) ≡ length games
+length-trees games = length-map games (λ (game : Game). game.tree)
+
+-- the games that were added are among those that are counted
+pub added_counted : (before after : Counts) (games : List Game) → AreAdded before after (trees_in games) → length games ≤ after.games
+added_counted before after games h =
+    let counted : after.games ≡ before.games + length games = ap (λ (c : Counts). c.games) h ∙ ap (λ n. before.games + n) (length-trees games) in
+    omega (arith, counted)
 
 -- the trees of a file's games
 pub trees_in-games_from : (name : List ℕ) (place : ℕ) (trees : List Tree) → trees_in (games_from name place trees) ≡ trees
@@ -79,12 +89,12 @@ HasFewGames-more before (file.Refused of at) trees few h = rw h (omega arith)
 HasFewGames-more before (file.Full games nodes) trees few h = rw h (omega arith)
 HasFewGames-more before file.Unread trees few h = rw h (omega arith)
 
--- a file adds no more games than a base may have
-pub few_added : (before : Counts) (outcome : FileOutcome) (trees : List Tree) → IsAdded before outcome trees → length trees ≤ 400000
-few_added before (file.Accepted games) trees h = omega (arith, h.1.0)
-few_added before (file.Refused of at) trees h = rw h (omega arith)
-few_added before (file.Full games nodes) trees h = rw h (omega arith)
-few_added before file.Unread trees h = rw h (omega arith)
+-- there is room for the games of a file behind others that the base has
+pub room_for : (before : Counts) (outcome : FileOutcome) (trees : List Tree) (others : ℕ) → HasFewGames before → others ≤ before.games → IsAdded before outcome trees → others + length trees ≤ 400000
+room_for before (file.Accepted games) trees others few counted h = omega (arith, counted, h.1.0)
+room_for before (file.Refused of at) trees others few counted h = rw h (omega (arith, few, counted))
+room_for before (file.Full games nodes) trees others few counted h = rw h (omega (arith, few, counted))
+room_for before file.Unread trees others few counted h = rw h (omega (arith, few, counted))
 
 -- an unread file adds nothing
 pub unread_adds_none : (before : Counts) (outcome : FileOutcome) (trees : List Tree) → outcome ≡ file.Unread → IsAdded before outcome trees → trees ≡ []

@@ -1,11 +1,11 @@
 -- What the code keeps of an import, as what was found.
 use Rattle.std.specs.Prelude.{◌≡◌, List, [], map, string_bytes}
 use Rattle.node_position.specs.Games.{Game}
-use Rattle.session_core.specs.Games.{games_of}
 use Rattle.search_run.specs.Course.{FileReport, Files, Finding, ImportFile, TooMany, Unlisted, games_of_files, reports_of}
-use Rattle.search_run.specs.declared.import.Imported.{Imported}
-use Rattle.search_run.specs.declared.import.Imported.TheVariants as imported
-use Rattle.search_run.specs.declared.import.ImportedFile.{ImportedFile}
+use Rattle.search_run.specs.Log.{Segment, games_in, segments_of}
+use Rattle.search_run.specs.declared.imported.Imported.{Imported}
+use Rattle.search_run.specs.declared.imported.Imported.TheVariants as imported
+use Rattle.search_run.specs.declared.imported.ImportedFile.{ImportedFile}
 
 -- what the report says of a file: its name, and what became of it
 abbrev pub file_report : ImportedFile → FileReport
@@ -20,16 +20,27 @@ pub record AreKeptFiles (files : List ImportFile) (reports : List FileReport)
   pub reports_are : reports_of files ≡ reports
   pub games_are : games_of_files files ≡ games
 
+-- files are told by what the report says of each, and by the segments that they make, one for each
+-- batch of 64 files
+pub record AreKeptBatches (files : List ImportFile) (reports : List FileReport)
+    (segments : List Segment) : Type 0 where
+  pub reports_are : reports_of files ≡ reports
+  pub segments_are : segments_of 64 (Files files) ≡ segments
+
 -- what is kept tells what was found
 abbrev pub Tells : Imported → Finding → Type 0
 Tells imported.Unlisted finding = finding ≡ Unlisted
 Tells (imported.TooMany listed) finding = finding ≡ TooMany listed
-Tells (imported.Files files games) finding =
+Tells (imported.Files files segments) finding =
     (found : List ImportFile) × (finding ≡ Files found)
-    × AreKeptFiles found (file_reports files.items) (games_of games.items)
+    × AreKeptBatches found (file_reports files.items) segments.items
+
+-- the segments that are kept of an import
+abbrev pub segments_kept : Imported → List Segment
+segments_kept imported.Unlisted = []
+segments_kept (imported.TooMany listed) = []
+segments_kept (imported.Files files segments) = segments.items
 
 -- the games that are kept of an import
 abbrev pub games_kept : Imported → List Game
-games_kept imported.Unlisted = []
-games_kept (imported.TooMany listed) = []
-games_kept (imported.Files files games) = games_of games.items
+games_kept own = games_in (segments_kept own)

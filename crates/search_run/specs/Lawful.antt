@@ -15,7 +15,8 @@ use Rattle.search_run.specs.Log.{Segment, games_at, games_in, segments_of}
 use Rattle.search_run.specs.Outcome.{counts_of}
 use Rattle.search_run.specs.Texts.{report_text}
 
--- How a run names versions: how many files make one, and whether all work is done on one thread.
+-- How a run names versions: how many files make one, and whether each statement is done before the
+-- next begins.
 pub record Rules : Type 0 where
   pub batch : ℕ
   pub serial : Bool
@@ -66,7 +67,7 @@ after_import rules s line finding =
     }
 
 -- a statement may name the version with this number: one from the floor to the last, and the last
--- alone in a run on one thread
+-- alone in a serial run
 pub record IsNamed (rules : Rules) (s : State) (n : ℕ) : Type 0 where
   pub from : s.floor ≤ n
   pub to : n ≤ last_of s

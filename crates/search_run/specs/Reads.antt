@@ -5,7 +5,8 @@ use Rattle.kb_edges.specs.Files.{File}
 use Rattle.node_position.specs.Games.{Game}
 use Rattle.search_run.specs.Course.{AreRead, FileReport, ImportFile, trees_in}
 use Rattle.search_run.specs.declared.outcome.Counts.{Counts}
-use Rattle.search_run.specs.Imported.{AreKeptFiles}
+use Rattle.search_run.specs.Imported.{AreKeptBatches, AreKeptFiles}
+use Rattle.search_run.specs.Log.{Segment}
 use Rattle.search_run.specs.Outcome.{with_games}
 
 -- the names of files
@@ -39,6 +40,17 @@ pub record HasReadAll (all : List File) (path : List ℕ) (base : Counts) (names
     (before now : ℕ) (reports : List FileReport) (games : List Game) : Type 0 where
   pub files : List ImportFile
   pub kept : AreKeptFiles files reports games
+  pub unread : List (List ℕ)
+  pub read : AreRead all path base files unread
+  pub named : names_of files ≡ names
+  pub lost : RoseBy (length unread) before now
+
+-- the same of files whose games are kept in a segment for each batch
+pub record HasReadBatches (all : List File) (path : List ℕ) (base : Counts)
+    (names : List (List ℕ)) (before now : ℕ) (reports : List FileReport)
+    (segments : List Segment) : Type 0 where
+  pub files : List ImportFile
+  pub kept : AreKeptBatches files reports segments
   pub unread : List (List ℕ)
   pub read : AreRead all path base files unread
   pub named : names_of files ≡ names

@@ -7,7 +7,7 @@ use Rattle.query_script.specs.declared.statement.Placed.{Placed}
 use Rattle.search_run.specs.Course.{ImportCourse, losses_of}
 use Rattle.search_run.specs.Lawful.{IsLawful, Rules}
 
--- how a run on one thread names versions: 64 files make one
+-- how a serial run names versions: 64 files make one
 abbrev pub serial_rules : Rules
 serial_rules = record { batch = 64; serial = true }
 

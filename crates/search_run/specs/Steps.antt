@@ -1,4 +1,4 @@
--- A run on one thread so far, and one statement of it: words of the private functions.
+-- A serial run so far, and one statement of it: words of the private functions.
 use Rattle.std.specs.Prelude.{◌≡◌, ◌⊎◌, ℕ, ◌≤◌, List, [], ◌∷◌, ◌++◌, Option, Some, None}
 use Rattle.std.specs.Option.{option_map_or}
 use mathlib.Core.List.{IsPrefix}

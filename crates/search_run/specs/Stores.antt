@@ -1,22 +1,21 @@
 -- The games of an import as they are stored, for the import's private functions.
-use Rattle.std.specs.Prelude.{◌≤◌, All, length}
-use Rattle.session_core.specs.Games.{IsOfItsTree}
-use Rattle.search_run.specs.declared.import.Imported.{Imported}
-use Rattle.search_run.specs.declared.import.Imported.TheVariants as imported
+use Rattle.std.specs.Prelude.{◌≡◌, ◌+◌, ◌≤◌, ◌++◌, length, List}
+use Rattle.node_position.specs.Games.{Game}
+use Rattle.version_publisher.specs.declared.state.VersionState.{VersionState}
+use Rattle.search_run.specs.Imported.{segments_kept}
+use Rattle.search_run.specs.Log.{Segment}
+use Rattle.search_run.specs.declared.imported.Imported.{Imported}
 use Rattle.search_run.specs.declared.outcome.Counts.{Counts}
 
--- each game that was found is stored with the changes of its tree
-abbrev pub AreOfTheirTrees : Imported → Type 0
-AreOfTheirTrees imported.Unlisted = Unit {0}
-AreOfTheirTrees (imported.TooMany listed) = Unit {0}
-AreOfTheirTrees (imported.Files files games) = All IsOfItsTree games.items
-
--- an import has no more files than it may have
-abbrev pub HasFewFiles : Imported → Type 0
-HasFewFiles imported.Unlisted = Unit {0}
-HasFewFiles (imported.TooMany listed) = Unit {0}
-HasFewFiles (imported.Files files games) = length files.items ≤ 100000
+-- an import adds no more segments than it may
+abbrev pub HasFewSegments : Imported → Type 0
+HasFewSegments own = length (segments_kept own) ≤ 1563
 
 -- there are no more games than a base may have
 abbrev pub HasFewGames : Counts → Type 0
 HasFewGames counts = counts.games ≤ 400000
+
+-- a version has these segments more, in order, and is numbered by as many
+pub record IsPushed (before after : VersionState Game) (segments : List Segment) : Type 0 where
+  pub number : after.number ≡ before.number + length segments
+  pub parts : after.parts ≡ before.parts ++ segments

@@ -50,8 +50,9 @@ pub fn each_script_has_a_lawful_output()
         IsLawful files rules course placed out × (losses_of course ≡ 0) }
 {}
 
-/// On one thread statements by which nothing is lost have one lawful output only.
-pub fn a_run_on_one_thread_without_a_loss_has_one_output()
+/// Where each statement is done before the next begins, statements by which nothing is lost have one
+/// lawful output only.
+pub fn a_serial_run_without_a_loss_has_one_output()
     ensures { (files : List File) (rules : Rules) (placed : List Placed)
         (course other : List ImportCourse) (a b : List ℕ) → IsTrue rules.serial →
         IsLawful files rules course placed a → losses_of course ≡ 0 →

@@ -6,7 +6,7 @@ ghost use Rattle.search_run.specs.Rooms.{IsAdded, IsAddedBy};
 
 use game_tree::{BuildError, GameTree, build};
 use kb_geometry::NoMemory;
-use session_core::MAX_BASE_GAMES;
+use segment_store::MAX_BASE_GAMES;
 use sgf_reader::{FaultKind, ReadError, SgfFault, read};
 use std::alloc::Global;
 

@@ -1,7 +1,8 @@
 // The printed report of an import.
-ghost use Rattle.std.specs.Prelude.{◌≡◌, ◌++◌, OnOk, count_by, length};
+ghost use Rattle.std.specs.Prelude.{◌≡◌, ◌≤◌, ◌++◌, OnOk, count_by, length};
 ghost use Rattle.search_run.specs.Course.{Finding};
-ghost use Rattle.search_run.specs.Imported.{Tells, file_report, file_reports};
+ghost use Rattle.search_run.specs.Imported.{Tells, file_report, file_reports, games_kept};
+ghost use Rattle.search_run.specs.Log.{games_in};
 ghost use Rattle.search_run.specs.Texts.{
   counts_head,
   counts_tail,
@@ -22,9 +23,10 @@ ghost use Rattle.search_run.specs.Texts.{
 };
 ghost use Rattle.std.specs.List.{flat_map};
 
-use crate::import::{Imported, ImportedFile};
+use crate::imported::{Imported, ImportedFile};
 use crate::outcome::FileOutcome;
 use kb_geometry::{NoMemory, append, append_decimal, append_decimal_and};
+use segment_store::Segment;
 use sgf_reader::FaultKind;
 
 fn file_count(files: &[ImportedFile]) -> usize
@@ -240,6 +242,18 @@ fn print_too_many(out: &mut Vec<u8>, line: u32, names: usize) -> Result<(), NoMe
     Ok(())
 }
 
+// How many games segments have.
+fn game_count(segments: &[Segment]) -> usize
+    requires { length (games_in segments.now) ≤ 400000 }
+    ensures { result ≡ length (games_in segments.now) }
+{
+    let mut games = 0;
+    for segment in segments {
+        games += segment.game_count() as usize;
+    }
+    games
+}
+
 // Prints the report of an import: what was found, and the version after it.
 pub(crate) fn print_report(
     out: &mut Vec<u8>,
@@ -247,14 +261,15 @@ pub(crate) fn print_report(
     imported: &Imported,
     version: u64,
 ) -> Result<(), NoMemory>
+    requires { length (games_kept imported.now) ≤ 400000 }
     ensures { OnOk result ((finding : Finding) → Tells imported.now finding →
         out.new.items ≡ out.old.items ++ report_text line finding version) }
 {
     match imported {
         Imported::Unlisted => print_unlisted(out, line)?,
         Imported::TooMany { listed } => print_too_many(out, line, *listed)?,
-        Imported::Files { files, games } => {
-            print_listed(out, line, files, games.len(), version)?;
+        Imported::Files { files, segments } => {
+            print_listed(out, line, files, game_count(segments), version)?;
         }
     }
     Ok(())

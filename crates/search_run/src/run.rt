@@ -1,5 +1,5 @@
 // Running the statements of a script, one after another.
-ghost use Rattle.std.specs.Prelude.{◌≡◌, ◌≤◌, ◌<◌, ◌+◌, ◌^◌, IsErrOf, OnErr, OnOk, length};
+ghost use Rattle.std.specs.Prelude.{◌≡◌, ◌≤◌, ◌<◌, ◌+◌, ◌^◌, IfOk, IsErrOf, OnErr, OnOk, length};
 ghost use Rattle.kb_edges.specs.Faults.{Rose};
 ghost use Rattle.kb_edges.specs.Told.{IfTold};
 ghost use Rattle.search_run.specs.Run.{WritesLawful, WritesPrefix, serial_rules};
@@ -12,6 +12,7 @@ use kb_geometry::NoMemory;
 use query_script::{MAX_SCRIPT, Placed};
 use session_core::Session;
 use std::alloc::Global;
+use std::thread::Threads;
 
 // Why a run stopped.
 #[derive(Clone, Copy, Debug, PartialEq, Eq)]
@@ -46,7 +47,8 @@ impl From<SinkError> for Stopped {
 }
 
 // Runs statements in order, and writes the text of each.
-pub(crate) fn run_statements<F: Folder, K: Sink>(
+pub(crate) fn run_statements<R: Threads + Sync, F: Folder, K: Sink>(
+    rt: &R,
     alloc: Global,
     placed: &[Placed],
     folder: &mut F,
@@ -70,38 +72,38 @@ pub(crate) fn run_statements<F: Folder, K: Sink>(
     let mut session = Session::new();
     let mut standing = Standing::new(alloc);
     for statement in placed {
-        run_statement(alloc, &mut session, &mut standing, statement, folder, out)?;
+        standing = run_statement(rt, alloc, &mut session, standing, statement, folder, out)?;
     }
     write_all(out, standing.report())?;
     Ok(())
 }
 
-// Writes the text of a statement, and goes on to the state after it.
-fn run_statement<F: Folder, K: Sink>(
+// Writes the text of a statement. Hands back the state after it.
+fn run_statement<R: Threads + Sync, F: Folder, K: Sink>(
+    rt: &R,
     alloc: Global,
     session: &mut Session,
-    standing: &mut Standing,
+    standing: Standing,
     placed: &Placed,
     folder: &mut F,
     out: &mut K,
-) -> Result<(), Stopped>
-    requires { standing.old.version + 1563 < 2 ^ 64 }
+) -> Result<Standing, Stopped>
+    requires { standing.version + 1563 < 2 ^ 64 }
     ensures passed { IfTold (F.files folder.old)
-        (λ files. IfTold (K.written out.old) (λ before. OnOk result
-        (PassesStatement files serial_rules standing.old placed.now standing.new before
+        (λ files. IfTold (K.written out.old) (λ before. IfOk result (λ next.
+        PassesStatement files serial_rules standing placed.now next before
         (K.written out.new) (F.faults folder.old) (F.faults folder.new)))) }
     ensures stopped { IfTold (K.written out.old)
-        (λ before. OnErr result (StopsInStatement serial_rules standing.old placed.now before
+        (λ before. OnErr result (StopsInStatement serial_rules standing placed.now before
         (K.written out.new))) }
     ensures sink_fault { IsErrOf result Stopped.SinkFault →
         Rose (K.faults out.old) (K.faults out.new) }
-    ensures version { OnOk result (standing.new.version ≤ standing.old.version + 1563) }
+    ensures version { IfOk result (λ next. next.version ≤ standing.version + 1563) }
     ensures same { F.files folder.new ≡ F.files folder.old }
     ensures later { F.faults folder.old ≤ F.faults folder.new }
     ensures sink_later { K.faults out.old ≤ K.faults out.new }
 {
-    let text = standing.text_of(alloc, session, placed)?;
+    let text = standing.text_of(rt, alloc, session, placed)?;
     write_all(out, &text)?;
-    standing.pass(alloc, folder, placed)?;
-    Ok(())
+    Ok(standing.pass(alloc, folder, placed)?)
 }

@@ -1,4 +1,4 @@
-// The top call on one thread.
+// The top call, which runs one statement after another.
 ghost use Rattle.std.specs.Prelude.{◌≡◌, ◌≢◌, ◌≤◌, ◌+◌, ◌↔◌, ◌⊎◌, ℕ, List, [], Some, drop};
 ghost use Rattle.kb_edges.specs.Faults.{Rose};
 ghost use Rattle.kb_edges.specs.Files.{File};
@@ -13,13 +13,16 @@ use crate::status::Status;
 use kb_edges::{Folder, Sink, Source};
 use query_script::ScriptError;
 use std::alloc::Global;
+use std::thread::Threads;
 
-/// Reads a script, imports its folders, and writes its answers, on one thread. How that ended is
-/// told by the [`Status`].
+/// Reads a script, imports its folders, and writes its answers, one statement after another. How
+/// that ended is told by the [`Status`]. A statement may be answered by several threads; they end
+/// before its text is written.
 ///
 /// The words are those of the command line without the program's name. In this stage the only
 /// lawful list of them is the empty one. The folder is handed back.
-pub fn run_serial<F: Folder, S: Source, K: Sink>(
+pub fn run_serial<R: Threads + Sync, F: Folder, S: Source, K: Sink>(
+    rt: &R,
     alloc: Global,
     words: &[String],
     folder: F,
@@ -107,7 +110,7 @@ pub fn run_serial<F: Folder, S: Source, K: Sink>(
         Err(ScriptError::NoMemory) => return (Status::NoMemory, folder),
     };
     let mut folder = folder;
-    match run_statements(alloc, &placed, &mut folder, out) {
+    match run_statements(rt, alloc, &placed, &mut folder, out) {
         Ok(()) => (Status::Done, folder),
         Err(Stopped::SinkFault) => (Status::SinkFault, folder),
         Err(Stopped::NoMemory) => (Status::NoMemory, folder),

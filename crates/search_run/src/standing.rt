@@ -6,60 +6,60 @@ ghost use Rattle.std.specs.Prelude.{
   ◌+◌,
   ◌^◌,
   ◌++◌,
-  ◌∷◌,
-  [],
   List,
-  None,
   ℕ,
   IfOk,
-  OnErr,
   OnOk,
-  All,
   length,
 };
-ghost use Rattle.search_run.specs.Imported.{games_kept};
-ghost use Rattle.search_run.specs.Stores.{AreOfTheirTrees, HasFewFiles};
-ghost use Rattle.session_core.specs.Games.{IsOfItsTree, games_of};
+ghost use Rattle.search_run.specs.Imported.{games_kept, segments_kept};
+ghost use Rattle.search_run.specs.Log.{games_in};
+ghost use Rattle.search_run.specs.Stores.{IsPushed};
+ghost use Rattle.version_publisher.specs.Contents.{items_in};
 
-use crate::import::{Imported, import};
+use crate::import::import;
+use crate::imported::Imported;
 use crate::outcome::Counts;
 use crate::print::print_report;
 use kb_edges::Folder;
 use kb_geometry::NoMemory;
 use query_script::{Placed, PlacedSearch, Statement, print_import, print_until, print_wait};
-use session_core::{Session, Stored};
+use segment_store::Segment;
+use session_core::Session;
 use std::alloc::Global;
 use std::marker::Model;
+use std::sync::Arc;
+use std::thread::Threads;
+use version_publisher::Version;
 
 // Where a run stands between two statements.
-#[derive(Debug, Drop)]
+#[derive(Drop)]
 pub(crate) struct Standing {
-    version: u64,
-    games: Vec<Stored>,
+    version: Version<Segment>,
     counts: Counts,
     /// The report of an import that isn't joined yet.
     waiting: Option<Vec<u8>>,
 }
 
 impl Model for Standing {
-    ghost use Rattle.std.specs.Prelude.{◌≡◌, All};
+    ghost use Rattle.std.specs.Prelude.{◌≡◌};
     ghost use Rattle.std.specs.Option.{option_map};
     ghost use Rattle.search_run.specs.Course.{trees_in};
     ghost use Rattle.search_run.specs.Outcome.{counts_of};
     ghost use Rattle.search_run.specs.Steps.{Kept};
     ghost use Rattle.search_run.specs.Stores.{HasFewGames};
-    ghost use Rattle.session_core.specs.Games.{IsOfItsTree, games_of};
+    ghost use Rattle.version_publisher.specs.Contents.{items_in};
 
     ghost Value = { Kept };
 
     ghost view = { λ s. record {
-      version = s.version;
-      games = games_of s.games.items;
+      version = s.version.number;
+      games = items_in s.version.parts;
       waiting = option_map (λ report. report.items) s.waiting;
     } };
 
-    ghost invariant = { λ s. (s.counts ≡ counts_of (trees_in (games_of s.games.items)))
-        × HasFewGames s.counts × All IsOfItsTree s.games.items };
+    ghost invariant = { λ s. (s.counts ≡ counts_of (trees_in (items_in s.version.parts)))
+        × HasFewGames s.counts };
 }
 
 impl Standing {
@@ -82,8 +82,7 @@ impl Standing {
         ensures { result ≡ nothing_kept }
     {
         Standing {
-            version: 0,
-            games: Vec::new(alloc),
+            version: Version::empty(alloc),
             counts: Counts { games: 0, nodes: 0 },
             waiting: None,
         }
@@ -100,8 +99,9 @@ impl Standing {
     }
 
     /// The text of a statement.
-    pub fn text_of(
+    pub fn text_of<R: Threads + Sync>(
         &self,
+        rt: &R,
         alloc: Global,
         session: &mut Session,
         placed: &Placed,
@@ -115,9 +115,9 @@ impl Standing {
             Statement::Wait => self.wait_text(alloc, line),
             Statement::Until { number } => self.until_text(alloc, line, *number),
             Statement::Together { searches } => {
-                self.block_text(alloc, session, searches.as_slice())
+                self.block_text(rt, alloc, session, searches.as_slice())
             }
-            answered => self.answer_text(alloc, session, line, answered),
+            answered => self.answer_text(rt, alloc, session, line, answered),
         }
     }
 
@@ -136,7 +136,7 @@ impl Standing {
             text.items ≡ kept_report self.now ++ wait_text line self.now.version) }
     {
         let mut text = self.report().to_vec(alloc)?;
-        print_wait(line, self.version, &mut text)?;
+        print_wait(line, self.version.number(), &mut text)?;
         Ok(text)
     }
 
@@ -144,12 +144,13 @@ impl Standing {
         ensures { IfOk result (λ text. text.items ≡ until_text line number self.now.version) }
     {
         let mut text = Vec::new(alloc);
-        print_until(line, number, self.version, &mut text)?;
+        print_until(line, number, self.version.number(), &mut text)?;
         Ok(text)
     }
 
-    fn answer_text(
+    fn answer_text<R: Threads + Sync>(
         &self,
+        rt: &R,
         alloc: Global,
         session: &mut Session,
         line: u32,
@@ -160,13 +161,14 @@ impl Standing {
             IsAnswer line (view_of self.now) statement.now text.items) }
     {
         let mut text = Vec::new(alloc);
-        session.answer(alloc, line, statement, self.version, &self.games, &mut text)?;
+        session.answer(rt, alloc, line, statement, &self.version, &mut text)?;
         Ok(text)
     }
 
     // The texts of the searches of a block, in order.
-    fn block_text(
+    fn block_text<R: Threads + Sync>(
         &self,
+        rt: &R,
         alloc: Global,
         session: &mut Session,
         searches: &[PlacedSearch],
@@ -179,97 +181,111 @@ impl Standing {
             query,
             filter,
         } in searches {
-            session.answer_search(
-                alloc,
-                *line,
-                query,
-                filter,
-                self.version,
-                &self.games,
-                &mut text,
-            )?;
+            session.answer_search(rt, alloc, *line, query, filter, &self.version, &mut text)?;
         }
         Ok(text)
     }
 
-    /// Goes on to the state after a statement.
+    /// The state after a statement.
     pub fn pass<F: Folder>(
-        &mut self,
+        mut self,
         alloc: Global,
         folder: &mut F,
         placed: &Placed,
-    ) -> Result<(), NoMemory>
-        requires { self.old.version + 1563 < 2 ^ 64 }
-        ensures passed { IfTold (F.files folder.old) (λ files. OnOk result ((text : List ℕ) →
-            LeadsOn files serial_rules self.old placed.now.line placed.now.statement text self.new
+    ) -> Result<Standing, NoMemory>
+        requires { self.version + 1563 < 2 ^ 64 }
+        ensures passed { IfTold (F.files folder.old) (λ files. IfOk result (λ next. (text : List ℕ) →
+            LeadsOn files serial_rules self placed.now.line placed.now.statement text next
             (F.faults folder.old) (F.faults folder.new))) }
-        ensures version { OnOk result (self.new.version ≤ self.old.version + 1563) }
+        ensures version { IfOk result (λ next. next.version ≤ self.version + 1563) }
         ensures same { F.files folder.new ≡ F.files folder.old }
         ensures later { F.faults folder.old ≤ F.faults folder.new }
     {
         match &placed.statement {
             Statement::Import { path } => {
-                self.pass_import(alloc, folder, placed.line, path.as_str())?;
-                Ok(())
+                self.pass_import(alloc, folder, placed.line, path.as_str())
             }
             Statement::Wait => {
                 self.waiting = None;
-                Ok(())
+                Ok(self)
             }
-            Statement::Until { .. } => Ok(()),
-            Statement::Search { .. } => Ok(()),
-            Statement::Signature { .. } => Ok(()),
-            Statement::Players => Ok(()),
-            Statement::Doubles => Ok(()),
-            Statement::Together { .. } => Ok(()),
-            Statement::Game { .. } => Ok(()),
+            Statement::Until { .. } => Ok(self),
+            Statement::Search { .. } => Ok(self),
+            Statement::Signature { .. } => Ok(self),
+            Statement::Players => Ok(self),
+            Statement::Doubles => Ok(self),
+            Statement::Together { .. } => Ok(self),
+            Statement::Game { .. } => Ok(self),
         }
     }
 
     // Imports, and keeps the report until it is joined.
     fn pass_import<F: Folder>(
-        &mut self,
+        self,
         alloc: Global,
         folder: &mut F,
         line: u32,
         path: &str,
-    ) -> Result<(), NoMemory>
-        requires { self.old.version + 1563 < 2 ^ 64 }
-        ensures passed { IfTold (F.files folder.old) (λ files. OnOk result ((text : List ℕ) →
-            LeadsOn files serial_rules self.old line (Statement.Import path.now) text self.new
+    ) -> Result<Standing, NoMemory>
+        requires { self.version + 1563 < 2 ^ 64 }
+        ensures passed { IfTold (F.files folder.old) (λ files. IfOk result (λ next. (text : List ℕ) →
+            LeadsOn files serial_rules self line (Statement.Import path.now) text next
             (F.faults folder.old) (F.faults folder.new))) }
-        ensures version { OnOk result (self.new.version ≤ self.old.version + 1563) }
+        ensures version { IfOk result (λ next. next.version ≤ self.version + 1563) }
         ensures same { F.files folder.new ≡ F.files folder.old }
         ensures later { F.faults folder.old ≤ F.faults folder.new }
     {
         let (imported, counts) = import(alloc, folder, path, self.counts)?;
-        let version = self.version + imported.versions();
+        let mut version = self.version;
+        let number = version.number() + imported.versions();
         let mut report = Vec::new(alloc);
-        print_report(&mut report, line, &imported, version)?;
-        add_games(&mut self.games, imported)?;
-        self.counts = counts;
-        self.version = version;
-        self.waiting = Some(report);
-        Ok(())
+        print_report(&mut report, line, &imported, number)?;
+        push_found(alloc, &mut version, imported)?;
+        Ok(Standing {
+            version,
+            counts,
+            waiting: Some(report),
+        })
     }
 }
 
-// Adds the games that an import found.
-fn add_games(games: &mut Vec<Stored>, imported: Imported) -> Result<(), NoMemory>
-    requires { AreOfTheirTrees imported }
-    ensures added { OnOk result (games_of games.new.items
-        ≡ games_of games.old.items ++ games_kept imported) }
-    ensures of_their_trees { All IsOfItsTree games.old.items →
-        OnOk result (All IsOfItsTree games.new.items) }
-    ensures kept { OnErr result (games.new.items ≡ games.old.items) }
+// Adds the segments that an import found.
+fn push_found(
+    alloc: Global,
+    version: &mut Version<Segment>,
+    imported: Imported,
+) -> Result<(), NoMemory>
+    requires number { version.old.number + length (segments_kept imported) < 2 ^ 64 }
+    requires fits { length (items_in version.old.parts) + length (games_kept imported) ≤ 400000 }
+    ensures { OnOk result (IsPushed version.old version.new (segments_kept imported)) }
 {
     match imported {
         Imported::Unlisted => {}
         Imported::TooMany { listed: _listed } => {}
         Imported::Files {
             files: _files,
-            games: mut found,
-        } => games.append(&mut found)?,
+            segments,
+        } => push_segments(alloc, version, segments)?,
+    }
+    Ok(())
+}
+
+// Adds segments in order.
+fn push_segments(
+    alloc: Global,
+    version: &mut Version<Segment>,
+    segments: Vec<Segment>,
+) -> Result<(), NoMemory>
+    requires number { version.old.number + length segments.items < 2 ^ 64 }
+    requires fits { length (items_in version.old.parts) + length (games_in segments.items)
+        ≤ 400000 }
+    ensures { OnOk result (IsPushed version.old version.new segments.items) }
+{
+    for segment in segments {
+        let part = Arc::new(alloc, segment)?;
+        if let Err((_part, error)) = version.push(part) {
+            return Err(error);
+        }
     }
     Ok(())
 }

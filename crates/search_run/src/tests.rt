@@ -5,6 +5,7 @@ use kb_edges::{FileEntry, MemoryFolder, MemorySink, MemorySource};
 use std::alloc::Global;
 use std::process::Abort;
 use std::test::Fail;
+use std::thread::Threads;
 
 mod damaged;
 mod imports;
@@ -65,6 +66,7 @@ fn entries(alloc: Global, files: &[File]) -> Result<Vec<FileEntry>, Fail> {
 }
 
 fn run_words(
+    rt: &(impl Threads + Sync),
     alloc: Global,
     words: &[String],
     files: Vec<FileEntry>,
@@ -74,7 +76,7 @@ fn run_words(
     let folder = MemoryFolder::new(files, faults.folder.to_vec(alloc)?);
     let mut source = MemorySource::new(script, faults.source.to_vec(alloc)?);
     let mut sink = MemorySink::new(Vec::new(alloc), faults.sink.to_vec(alloc)?);
-    let (status, folder) = run_serial(alloc, words, folder, &mut source, &mut sink);
+    let (status, folder) = run_serial(rt, alloc, words, folder, &mut source, &mut sink);
     Ok(Ended {
         status,
         written: sink.written().to_vec(alloc)?,
@@ -84,9 +86,16 @@ fn run_words(
 }
 
 // A run without words.
-fn run(alloc: Global, files: &[File], script: &str, faults: Faults<'_>) -> Result<Ended, Fail> {
+fn run(
+    rt: &(impl Threads + Sync),
+    alloc: Global,
+    files: &[File],
+    script: &str,
+    faults: Faults<'_>,
+) -> Result<Ended, Fail> {
     let entries = entries(alloc, files)?;
     run_words(
+        rt,
         alloc,
         &[],
         entries,
@@ -96,12 +105,18 @@ fn run(alloc: Global, files: &[File], script: &str, faults: Faults<'_>) -> Resul
 }
 
 // A run of some line, and then of a line that is repeated.
-fn run_repeated(alloc: Global, first: &str, line: &str, count: u32) -> Result<Ended, Fail> {
+fn run_repeated(
+    rt: &(impl Threads + Sync),
+    alloc: Global,
+    first: &str,
+    line: &str,
+    count: u32,
+) -> Result<Ended, Fail> {
     let mut script = first.as_bytes().to_vec(alloc)?;
     for _ in 0..count {
         script.extend_from_slice(line.as_bytes())?;
     }
-    run_words(alloc, &[], Vec::new(alloc), script, NO_FAULTS)
+    run_words(rt, alloc, &[], Vec::new(alloc), script, NO_FAULTS)
 }
 
 fn expect_end(rt: &impl Abort, ended: &Ended, status: Status, written: &str, about: &str) {
@@ -110,13 +125,13 @@ fn expect_end(rt: &impl Abort, ended: &Ended, status: Status, written: &str, abo
 }
 
 fn expect_outputs(
-    rt: &impl Abort,
+    rt: &(impl Abort + Threads + Sync),
     alloc: Global,
     files: &[File],
     cases: &[(&'static str, &'static str)],
 ) -> Result<(), Fail> {
     for (script, written) in cases {
-        let ended = run(alloc, files, script, NO_FAULTS)?;
+        let ended = run(rt, alloc, files, script, NO_FAULTS)?;
         expect_end(rt, &ended, Status::Done, written, script);
         assert_eq!(rt; ended.left, 0, "{script}");
         assert_eq!(rt; ended.files, files.len(), "{script}");
@@ -315,7 +330,7 @@ fn imports_of_many_names(rt: HostRuntime) -> Result<(), Fail> {
     for (count, written) in cases {
         let files = numbered_files(alloc, count)?;
         let script = b"import d\nwait\n".to_vec(alloc)?;
-        let ended = run_words(alloc, &[], files, script, NO_FAULTS)?;
+        let ended = run_words(&rt, alloc, &[], files, script, NO_FAULTS)?;
         expect_end(&rt, &ended, Status::Done, written, written);
     }
     Ok(())
@@ -377,6 +392,7 @@ fn stones_that_are_captured(rt: HostRuntime) -> Result<(), Fail> {
              2 wait version 1\n{found}"
         )?;
         let ended = run(
+            &rt,
             alloc,
             &[("d", "a.sgf", game)],
             "import d\nwait\nsearch same fixed X\n",
@@ -427,7 +443,7 @@ fn faults_of_the_folder(rt: HostRuntime) -> Result<(), Fail> {
             folder,
             ..NO_FAULTS
         };
-        let ended = run(rt.alloc(), &THREE_GAMES, "import d\nwait\n", faults)?;
+        let ended = run(&rt, rt.alloc(), &THREE_GAMES, "import d\nwait\n", faults)?;
         expect_end(&rt, &ended, Status::Done, written, written);
     }
     Ok(())
@@ -460,7 +476,7 @@ fn faults_of_the_script_and_the_sink(rt: HostRuntime) -> Result<(), Fail> {
             ..NO_FAULTS
         };
         let script = "import d\nsearch same fixed X";
-        let ended = run(rt.alloc(), &ONE_GAME, script, faults)?;
+        let ended = run(&rt, rt.alloc(), &ONE_GAME, script, faults)?;
         expect_end(&rt, &ended, status, written, written);
         assert_eq!(rt; ended.left, left);
     }
@@ -489,7 +505,7 @@ fn scripts_that_are_bad(rt: HostRuntime) -> Result<(), Fail> {
         ("wait x\nend\n", 1),
     ];
     for (script, line) in cases {
-        let ended = run(rt.alloc(), &ONE_GAME, script, NO_FAULTS)?;
+        let ended = run(&rt, rt.alloc(), &ONE_GAME, script, NO_FAULTS)?;
         expect_end(&rt, &ended, Status::BadScript { line }, "", script);
         assert_eq!(rt; ended.left, 0, "{script}");
     }
@@ -538,7 +554,7 @@ fn long_scripts(rt: HostRuntime) -> Result<(), Fail> {
         ),
     ];
     for (first, line, count, status, left) in cases {
-        let ended = run_repeated(rt.alloc(), first, line, count)?;
+        let ended = run_repeated(&rt, rt.alloc(), first, line, count)?;
         assert_eq!(rt; ended.status, status, "{count} times {line} after {first}");
         assert_eq!(rt; ended.left, left, "{count} times {line} after {first}");
     }
@@ -548,7 +564,7 @@ fn long_scripts(rt: HostRuntime) -> Result<(), Fail> {
 #[test]
 fn many_statements(rt: HostRuntime) -> Result<(), Fail> {
     // 1,048,576 bytes, in 209,714 statements
-    let ended = run_repeated(rt.alloc(), "import abc\n", "wait\n", 209_713)?;
+    let ended = run_repeated(&rt, rt.alloc(), "import abc\n", "wait\n", 209_713)?;
     assert_eq!(rt; ended.status, Status::Done);
     assert_eq!(rt; ended.left, 0);
     let last = "209714 wait version 0\n";
@@ -567,7 +583,7 @@ fn words_come_first(rt: HostRuntime) -> Result<(), Fail> {
     for word in ["", "--help", "d"] {
         let words = vec![in alloc; String::from_str(alloc, word)?]?;
         let files = entries(alloc, &ONE_GAME)?;
-        let ended = run_words(alloc, &words, files, b"waits\n".to_vec(alloc)?, faults)?;
+        let ended = run_words(&rt, alloc, &words, files, b"waits\n".to_vec(alloc)?, faults)?;
         expect_end(&rt, &ended, Status::BadWords, "", word);
         assert_eq!(rt; ended.left, 6, "{word}");
     }

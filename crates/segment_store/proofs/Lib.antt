@@ -1,1 +1,2 @@
 mod GamesInBlocks
+mod ShapesOfGames

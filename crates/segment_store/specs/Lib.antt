@@ -1,4 +1,4 @@
 -- Words that contracts of public functions rest on.
-pub mod Finished
--- Words of private functions.
 pub mod Blocks
+pub mod BoardShapes
+pub mod Finished

@@ -1,10 +1,11 @@
 // Games in a row that several segments share.
-ghost use Rattle.std.specs.Prelude.{◌≡◌, ◌<◌, ◌≤◌, ◌+◌, ◌++◌, length, map, Some, IfOk};
+ghost use Rattle.std.specs.Prelude.{◌≡◌, ◌<◌, ◌≤◌, ◌+◌, ◌++◌, length, map, Some, IfOk, OnOk};
 ghost use Rattle.std.specs.Arc.{arc_value};
 ghost use Rattle.std.specs.List.{slice_get};
+ghost use Rattle.segment_store.specs.BoardShapes.{AreShapesWith, HaveShapes};
 
 use crate::finished::FinishedGame;
-use kb_geometry::NoMemory;
+use kb_geometry::{NoMemory, Shape};
 use std::alloc::Global;
 use std::marker::Model;
 use std::sync::Arc;
@@ -13,52 +14,57 @@ use std::vec::VecCloneMethods;
 // The most games of a block.
 pub(crate) const MAX_BLOCK: usize = 64;
 
-// From 1 to 64 games in a row. Contracts see the list of them.
+/// From 1 to 64 games in a row, which several segments may share. Contracts see the list of them.
 #[derive(Debug, Drop)]
-pub(crate) struct Block {
+pub struct Block {
     games: Vec<Arc<FinishedGame>>,
+    // The shapes of their boards.
+    shapes: Vec<Shape>,
 }
 
 impl Model for Block {
     ghost use Rattle.std.specs.Prelude.{List, map, length, ◌<◌, ◌≤◌};
     ghost use Rattle.std.specs.Arc.{arc_value};
     ghost use Rattle.node_position.specs.Games.{Game};
+    ghost use Rattle.segment_store.specs.BoardShapes.{HaveShapes};
 
     ghost Value = { List Game };
 
     ghost view = { λ b. map arc_value b.games.items };
 
-    ghost invariant = { λ b. (0 < length b.games.items) × (length b.games.items ≤ 64) };
+    ghost invariant = { λ b. (0 < length b.games.items) × (length b.games.items ≤ 64)
+        × HaveShapes (map arc_value b.games.items) b.shapes.items };
 }
 
-// A block of a segment, and the number that its first game has there.
+/// A block of a segment, and the number that its first game has there, from 0.
 #[derive(Debug, Drop)]
-pub(crate) struct Placed {
+pub struct NumberedBlock {
     pub first: u32,
     pub block: Arc<Block>,
 }
 
 impl Block {
     // These games, from 1 to 64.
-    pub fn of(alloc: Global, games: &[Arc<FinishedGame>]) -> Result<Block, NoMemory>
+    pub(crate) fn of(alloc: Global, games: &[Arc<FinishedGame>]) -> Result<Block, NoMemory>
         requires some { 0 < length games.now }
         requires few { length games.now ≤ 64 }
         ensures { IfOk result (λ block. block ≡ map arc_value games.now) }
     {
-        let games = joined(alloc, games, &[])?;
-        Ok(Block { games })
+        block_of(alloc, joined(alloc, games, &[])?)
     }
 
     // The games of two blocks, together at most 64.
-    pub fn join(alloc: Global, a: &Block, b: &Block) -> Result<Block, NoMemory>
+    pub(crate) fn join(alloc: Global, a: &Block, b: &Block) -> Result<Block, NoMemory>
         requires { length a.now + length b.now ≤ 64 }
         ensures { IfOk result (λ block. block ≡ a.now ++ b.now) }
     {
-        let games = joined(alloc, a.games.as_slice(), b.games.as_slice())?;
-        Ok(Block { games })
+        block_of(
+            alloc,
+            joined(alloc, a.games.as_slice(), b.games.as_slice())?,
+        )
     }
 
-    // How many games it has.
+    /// How many games it has, from 1 to 64.
     pub fn len(&self) -> usize
         ensures value { result ≡ length self.now }
         ensures some { 0 < result }
@@ -67,13 +73,51 @@ impl Block {
         self.games.len()
     }
 
-    // The game at this place, from 0.
+    /// The shapes of the boards of its games.
+    pub fn shapes(&self) -> &[Shape]
+        ensures { HaveShapes self.now result.now }
+    {
+        self.shapes.as_slice()
+    }
+
+    /// The game at this place in the block, from 0.
     pub fn get(&self, at: usize) -> &FinishedGame
         requires { at < length self.now }
         ensures { slice_get self.now at ≡ Some result.now }
     {
         &*self.games[at]
     }
+}
+
+// The block of these games, from 1 to 64.
+fn block_of(alloc: Global, games: Vec<Arc<FinishedGame>>) -> Result<Block, NoMemory>
+    requires some { 0 < length games.items }
+    requires few { length games.items ≤ 64 }
+    ensures { IfOk result (λ block. block ≡ map arc_value games.items) }
+{
+    let shapes = shapes_of(alloc, games.as_slice())?;
+    Ok(Block { games, shapes })
+}
+
+// The shapes of the boards of these games, each once.
+fn shapes_of(alloc: Global, games: &[Arc<FinishedGame>]) -> Result<Vec<Shape>, NoMemory>
+    ensures { IfOk result (λ shapes. HaveShapes (map arc_value games.now) shapes.items) }
+{
+    let mut shapes = Vec::new(alloc);
+    for game in games {
+        add_shape(&mut shapes, game.tree().shape())?;
+    }
+    Ok(shapes)
+}
+
+// Adds a shape, unless it is there.
+fn add_shape(shapes: &mut Vec<Shape>, shape: Shape) -> Result<(), NoMemory>
+    ensures { OnOk result (AreShapesWith shape shapes.old.items shapes.new.items) }
+{
+    if !shapes.contains(&shape) {
+        shapes.push(shape)?;
+    }
+    Ok(())
 }
 
 // The games of both lists, in order. No game is copied.

@@ -11,11 +11,14 @@
 mod block;
 mod builder;
 mod finished;
+mod laws;
 mod segment;
 
+pub use block::{Block, NumberedBlock};
 pub use builder::SegmentBuilder;
 pub use finished::FinishedGame;
-pub use segment::{Segment, merge};
+pub use laws::a_base_has_at_most_400_000_games;
+pub use segment::{MAX_BASE_GAMES, Segment, merge};
 
 #[cfg(test)]
 mod tests;

@@ -1,5 +1,18 @@
 // Segments of finished games.
-ghost use Rattle.std.specs.Prelude.{◌≡◌, ◌<◌, ◌≤◌, ◌+◌, ◌++◌, [], length, map, take, Some, IfOk, OnOk};
+ghost use Rattle.std.specs.Prelude.{
+  ◌≡◌,
+  ◌<◌,
+  ◌≤◌,
+  ◌+◌,
+  ◌++◌,
+  [],
+  length,
+  map,
+  take,
+  Some,
+  IfOk,
+  OnOk,
+};
 ghost use Rattle.std.specs.Arc.{arc_value};
 ghost use Rattle.std.specs.List.{slice_get};
 ghost use Rattle.std.specs.Option.{IsSomeAnd};
@@ -9,7 +22,7 @@ ghost use Rattle.node_position.specs.Games.{AreNodeChanges};
 ghost use Rattle.segment_store.specs.Finished.{IsCanonicalOf};
 ghost use Rattle.segment_store.specs.Blocks.{AreNumbered, games_in, games_of};
 
-use crate::block::{Block, MAX_BLOCK, Placed};
+use crate::block::{Block, MAX_BLOCK, NumberedBlock};
 use crate::finished::FinishedGame;
 use capture_board::NodeDeltas;
 use dyer_signature::Signature;
@@ -21,11 +34,14 @@ use std::marker::Model;
 use std::sync::Arc;
 use version_publisher::Part;
 
+/// The most games of a base, and so of a segment.
+pub const MAX_BASE_GAMES: u32 = 400_000;
+
 /// Games in a row, at most 400,000. Contracts see the list of them.
 // The games stand in blocks, which segments share.
 #[derive(Debug, Drop)]
 pub struct Segment {
-    blocks: Vec<Placed>,
+    blocks: Vec<NumberedBlock>,
     count: u32,
 }
 
@@ -59,13 +75,13 @@ impl Segment {
     {
         let more = block.len() as u32;
         let first = self.count;
-        self.blocks.push(Placed { first, block })?;
+        self.blocks.push(NumberedBlock { first, block })?;
         self.count += more;
         Ok(())
     }
 
     // The games of these blocks behind. The blocks are shared.
-    fn append(&mut self, blocks: &[Placed]) -> Result<(), NoMemory>
+    fn append(&mut self, blocks: &[NumberedBlock]) -> Result<(), NoMemory>
         requires { length self.old + length (games_in blocks.now) ≤ 400000 }
         ensures { OnOk result (self.new ≡ self.old ++ games_in blocks.now) }
     {
@@ -74,6 +90,14 @@ impl Segment {
             self.push(block)?;
         }
         Ok(())
+    }
+
+    /// Its blocks, one behind another. Each has the number of its first game.
+    pub fn blocks(&self) -> &[NumberedBlock]
+        ensures games { games_in result.now ≡ self.now }
+        ensures numbered { AreNumbered result.now }
+    {
+        self.blocks.as_slice()
     }
 
     /// How many games it has.
@@ -90,9 +114,9 @@ impl Segment {
         ensures { slice_get self.now g ≡ Some result.now }
     {
         let blocks = self.blocks.as_slice();
-        let placed = &blocks[block_with(blocks, g)];
-        let block: &Block = &*placed.block;
-        block.get((g - placed.first) as usize)
+        let numbered = &blocks[block_with(blocks, g)];
+        let block: &Block = &*numbered.block;
+        block.get((g - numbered.first) as usize)
     }
 
     /// The tree of a game.
@@ -175,7 +199,7 @@ pub fn merge(alloc: Global, a: &Segment, b: &Segment) -> Result<Segment, NoMemor
 }
 
 // The games of the first blocks, then those of the second.
-fn merge_apart(alloc: Global, a: &[Placed], b: &[Placed]) -> Result<Segment, NoMemory>
+fn merge_apart(alloc: Global, a: &[NumberedBlock], b: &[NumberedBlock]) -> Result<Segment, NoMemory>
     requires { length (games_in a.now) + length (games_in b.now) ≤ 400000 }
     ensures { IfOk result (λ merged. merged ≡ games_in a.now ++ games_in b.now) }
 {
@@ -188,10 +212,10 @@ fn merge_apart(alloc: Global, a: &[Placed], b: &[Placed]) -> Result<Segment, NoM
 // The same, where the last block of the one and the first of the other become one block.
 fn merge_joined(
     alloc: Global,
-    before: &[Placed],
-    last: &Placed,
-    first: &Placed,
-    behind: &[Placed],
+    before: &[NumberedBlock],
+    last: &NumberedBlock,
+    first: &NumberedBlock,
+    behind: &[NumberedBlock],
 ) -> Result<Segment, NoMemory>
     requires few { length (games_of last.now) + length (games_of first.now) ≤ 64 }
     requires fits { length (games_in before.now) + length (games_of last.now)
@@ -224,7 +248,7 @@ pub(crate) fn in_blocks(alloc: Global, games: &[Arc<FinishedGame>]) -> Result<Se
 }
 
 // The place of the block with this game.
-fn block_with(blocks: &[Placed], g: u32) -> usize
+fn block_with(blocks: &[NumberedBlock], g: u32) -> usize
     requires numbered { AreNumbered blocks.now }
     requires in_range { g < length (games_in blocks.now) }
     ensures there { result < length blocks.now }
@@ -253,7 +277,7 @@ impl Part for Segment {
 
     ghost MOST = { 400000 };
 
-    const MOST: u32 = 400_000;
+    const MOST: u32 = MAX_BASE_GAMES;
 
     fn count(&self) -> u32 {
         self.game_count()

@@ -225,6 +225,67 @@ fn a_name_is_kept_once_and_no_game_is_copied(rt: HostRuntime) -> Result<(), Fail
     Ok(())
 }
 
+// The number of the first game of each block, and how many games the block has.
+fn first_numbers(alloc: Global, segment: &Segment) -> Result<Vec<(u32, usize)>, Fail> {
+    let mut numbers = Vec::new(alloc);
+    for numbered in segment.blocks() {
+        numbers.push((numbered.first, numbered.block.len()))?;
+    }
+    Ok(numbers)
+}
+
+#[test]
+fn blocks_have_the_numbers_of_their_first_games(rt: HostRuntime) -> Result<(), Fail> {
+    let alloc = rt.alloc();
+    let cases: [(u32, &[(u32, usize)]); 4] = [
+        (0, &[]),
+        (64, &[(0, 64)]),
+        (65, &[(0, 64), (64, 1)]),
+        (150, &[(0, 64), (64, 64), (128, 22)]),
+    ];
+    for (count, wanted) in cases {
+        let segment = many(&rt, alloc, 0, count)?;
+        let found = first_numbers(alloc, &segment)?;
+        assert_eq!(rt; found.as_slice(), wanted, "{count}");
+    }
+    Ok(())
+}
+
+// Columns and rows of the shapes that each block tells.
+fn told_shapes(alloc: Global, segment: &Segment) -> Result<Vec<(u8, u8)>, Fail> {
+    let mut told = Vec::new(alloc);
+    for numbered in segment.blocks() {
+        for shape in numbered.block.shapes() {
+            told.push((shape.cols(), shape.rows()))?;
+        }
+    }
+    Ok(told)
+}
+
+fn segment_of(rt: &impl Abort, alloc: Global, text: &str) -> Result<Segment, Fail> {
+    let mut builder = SegmentBuilder::new(alloc);
+    add_text(rt, alloc, "a.sgf", 0, text, &mut builder)?;
+    Ok(builder.finish(alloc)?)
+}
+
+#[test]
+fn a_block_tells_each_shape_of_its_boards_once(rt: HostRuntime) -> Result<(), Fail> {
+    let alloc = rt.alloc();
+    let a = segment_of(&rt, alloc, "(;SZ[9])(;SZ[13])(;SZ[9])")?;
+    let b = segment_of(&rt, alloc, "(;SZ[13])(;SZ[19:9])")?;
+    let both = merged(&rt, alloc, &a, &b)?;
+    let cases: [(&Segment, &[(u8, u8)]); 3] = [
+        (&a, &[(9, 9), (13, 13)]),
+        (&b, &[(13, 13), (19, 9)]),
+        (&both, &[(9, 9), (13, 13), (19, 9)]),
+    ];
+    for (segment, wanted) in cases {
+        let told = told_shapes(alloc, segment)?;
+        assert_eq!(rt; told.as_slice(), wanted);
+    }
+    Ok(())
+}
+
 fn shared(alloc: Global, segment: Segment) -> Result<Arc<Segment>, AllocError>
     ensures { IfOk result (λ part. arc_value part ≡ segment) }
 {

@@ -4,7 +4,7 @@ use Rattle.std.specs.List.{flat_map}
 use Rattle.std.specs.Map.Iter.{deref_pair}
 use Rattle.std.proofs.lemmas.Grind.{flat_map-append}
 use Rattle.std.proofs.lemmas.List.Folds.{flat_map-map}
-use Rattle.session_core.specs.declared.doubles.DoubleKey.{DoubleKey as StoredKey}
+use Rattle.session_core.specs.declared.doubles.StoredKey.{StoredKey}
 use Rattle.session_core.specs.declared.doubles.Numbers.{Numbers}
 use Rattle.session_core.specs.Doubles.{Group}
 use Rattle.session_core.specs.Grouping.{Entry, entries_of, entry_of, group_in, is_group}

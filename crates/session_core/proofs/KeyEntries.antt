@@ -6,7 +6,7 @@ use Rattle.std.specs.declared.alloc.Global.{Global}
 use Rattle.std.specs.declared.vec.Vec.{Vec}
 use Rattle.indexmap.specs.IndexMap.{insert_entry}
 use Rattle.indexmap.specs.Layout.{set_value_at}
-use Rattle.session_core.specs.declared.doubles.DoubleKey.{DoubleKey as StoredKey}
+use Rattle.session_core.specs.declared.doubles.StoredKey.{StoredKey}
 use Rattle.session_core.specs.declared.doubles.Numbers.{Numbers}
 use Rattle.session_core.specs.Doubles.{is_same_key}
 use Rattle.session_core.specs.Grouping.{Entry, all_of, entries_of, key_of, with_number}

@@ -1,16 +1,9 @@
-mod AddedHits
 mod AnswerTexts
-mod FoundHits
-mod GameHits
-mod GamesSearched
-pub mod WhereFound
-mod HitParts
-mod HitsExist
-mod OneListOfHits
 pub mod OneAnswer
 mod KeyEntries
 mod Numbered
 mod Groups
+mod KeysOfGames
 mod FoundGames
 mod ListTexts
 mod GroupTexts

@@ -17,9 +17,9 @@ use Rattle.query_script.specs.declared.statement.Statement.{Statement}
 use Rattle.query_script.specs.declared.statement.Statement.TheVariants as statement
 use Rattle.query_script.specs.Texts.{game_head, no_game_text, search_text}
 use Rattle.session_core.specs.Answers.{IsAnswer, IsAnswered, IsGameText, IsSearchText, IsThere, View}
-use Rattle.session_core.proofs.HitsExist.{hits-found}
+use Rattle.search_engine.proofs.HitsExist.{hits-found}
 use Rattle.session_core.proofs.ListAnswers.{doubles-one, doubles-text, players-one, players-text, signature-one, signature-text}
-use Rattle.session_core.proofs.OneListOfHits.{hits-unique}
+use Rattle.search_engine.proofs.OneListOfHits.{hits-unique}
 
 -- the game with a number
 nth : (games : List Game) (n : ℕ) → n < length games → (game : Game) × IsThere games n game

@@ -13,7 +13,7 @@ use Rattle.info_filter.specs.declared.filter.Filter.{Filter}
 use Rattle.info_filter.specs.Players.{IsPlayersTable, TableRow}
 use Rattle.node_position.specs.Games.{Game}
 use Rattle.session_core.specs.Doubles.{AreKeysOf, DoubleKey, Group, groups_of}
-use Rattle.session_core.specs.Hits.{AreHits}
+use Rattle.search_engine.specs.Hits.{AreHits}
 use Rattle.session_core.specs.Signed.{AreGamesFound, FoundGame}
 
 -- What a statement is answered from: the number of a version, and its games.

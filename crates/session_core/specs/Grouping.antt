@@ -1,10 +1,12 @@
 -- Words of the private functions that group double games.
-use Rattle.std.specs.Prelude.{◌&&◌, ◌++◌, ℕ, Bool, true, false, List, [], ◌∷◌, map, if◌then◌else◌}
+use Rattle.std.specs.Prelude.{◌&&◌, ◌++◌, ℕ, Bool, true, false, List, [], ◌∷◌, map, zip, if◌then◌else◌}
+use Rattle.std.specs.Borrow.{Bor}
 use Rattle.std.specs.List.{flat_map}
+use Rattle.dyer_signature.specs.declared.bytes.Signature.{Signature}
+use Rattle.node_position.specs.Games.{Game}
 use Rattle.query_script.specs.Texts.{double_text}
-use Rattle.session_core.specs.declared.doubles.DoubleKey.{DoubleKey as StoredKey}
 use Rattle.session_core.specs.declared.doubles.Numbers.{Numbers}
-use Rattle.session_core.specs.declared.stored.Stored.{Stored}
+use Rattle.session_core.specs.declared.doubles.StoredKey.{StoredKey}
 use Rattle.session_core.specs.Doubles.{DoubleKey, Group, is_same_key, tells_a_point}
 
 -- the key that is stored
@@ -15,9 +17,13 @@ key_of key = record { shape = key.shape; form = key.form.bytes }
 abbrev pub all_of : Numbers → List ℕ
 all_of numbers = numbers.first ∷ numbers.others.items
 
--- the key of a game that is stored
-abbrev pub stored_key : Stored → DoubleKey
-stored_key game = record { shape = game.tree.shape; form = game.canonical.bytes }
+-- the key of a game with the canonical form of its signature
+abbrev pub key_with : Game → Signature → DoubleKey
+key_with game form = record { shape = game.tree.shape; form = form.bytes }
+
+-- the keys of games with these canonical forms, in order
+abbrev pub keys_with : List (Bor Game) → List Signature → List DoubleKey
+keys_with games forms = map (λ (p : Bor Game × Signature). key_with p.0.now p.1) (zip games forms)
 
 -- a key and the numbers of the games with it
 pub record Entry : Type 0 where

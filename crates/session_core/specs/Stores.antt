@@ -1,9 +1,9 @@
--- What the code keeps of games, as games.
-use Rattle.std.specs.Prelude.{ℕ, List}
-use Rattle.session_core.specs.declared.stored.Stored.{Stored}
+-- What is seen of a version that is kept.
+use Rattle.node_position.specs.Games.{Game}
+use Rattle.version_publisher.specs.Contents.{items_in}
+use Rattle.version_publisher.specs.declared.state.VersionState.{VersionState}
 use Rattle.session_core.specs.Answers.{View}
-use Rattle.session_core.specs.Games.{games_of}
 
--- what is seen of a base with these games, in the version with this number
-abbrev pub view_of : ℕ → List Stored → View
-view_of version stored = record { version = version; games = games_of stored }
+-- the number of a version, and the games of its parts, one part behind another
+abbrev pub view_of : VersionState Game → View
+view_of version = record { version = version.number; games = items_in version.parts }

@@ -1,5 +1,5 @@
 // The groups of double games. indexmap keeps their keys in the order of first sight.
-ghost use Rattle.std.specs.Prelude.{◌≡◌, ◌≤◌, IfOk, OnOk, length, map};
+ghost use Rattle.std.specs.Prelude.{◌≡◌, ◌≤◌, IfOk, OnOk, length};
 ghost use Rattle.std.specs.List.{flat_map};
 ghost use Rattle.session_core.specs.Doubles.{groups_of, tells_a_point};
 ghost use Rattle.session_core.specs.Grouping.{
@@ -8,31 +8,32 @@ ghost use Rattle.session_core.specs.Grouping.{
   group_in,
   is_group,
   key_of,
-  stored_key,
+  key_with,
+  keys_with,
   with_number,
 };
 
-use crate::stored::Stored;
 use dyer_signature::Signature;
 use indexmap::IndexMap;
 use kb_geometry::{NoMemory, Shape};
+use segment_store::FinishedGame;
 use std::alloc::Global;
 
 // What double games have in common: the board, and the canonical form of the signature.
 #[derive(Clone, Copy, Debug, PartialEq, Eq, Hash)]
-pub(crate) struct DoubleKey {
+pub(crate) struct StoredKey {
     pub(crate) shape: Shape,
     pub(crate) form: Signature,
 }
 
-impl DoubleKey {
-    // The key of a game.
-    fn of(game: &Stored) -> DoubleKey
-        ensures { key_of result ≡ stored_key game.now }
+impl StoredKey {
+    // The key of a game with this canonical form.
+    fn of(game: &FinishedGame, form: &Signature) -> StoredKey
+        ensures { key_of result ≡ key_with game.now form.now }
     {
-        DoubleKey {
-            shape: game.tree.shape(),
-            form: game.canonical,
+        StoredKey {
+            shape: game.tree().shape(),
+            form: *form,
         }
     }
 
@@ -52,22 +53,23 @@ pub(crate) struct Numbers {
 }
 
 // The games with each key, in the order in which the keys are seen first.
-pub(crate) type GamesByKey = IndexMap<DoubleKey, Numbers>;
+pub(crate) type GamesByKey = IndexMap<StoredKey, Numbers>;
 
-// The games with each key. The only error is `NoMemory`.
-pub(crate) fn games_by_key(alloc: Global, games: &[Stored]) -> Result<GamesByKey, NoMemory>
-    requires { length games.now ≤ 400000 }
+// The games with each key, from the games and their canonical forms. The only error is `NoMemory`.
+pub(crate) fn games_by_key(
+    alloc: Global,
+    games: &[&FinishedGame],
+    forms: &[Signature],
+) -> Result<GamesByKey, NoMemory>
+    requires most { length games.now ≤ 400000 }
+    requires as_many { length forms.now ≡ length games.now }
     ensures { IfOk result (λ by_key. flat_map group_in (entries_of by_key.entries)
-        ≡ groups_of (map stored_key games.now)) }
+        ≡ groups_of (keys_with games.now forms.now)) }
 {
     let mut by_key = IndexMap::new(alloc);
     for number in 0..games.len() {
-        add_game(
-            alloc,
-            &mut by_key,
-            DoubleKey::of(&games[number]),
-            number as u32,
-        )?;
+        let key = StoredKey::of(games[number], &forms[number]);
+        add_game(alloc, &mut by_key, key, number as u32)?;
     }
     Ok(by_key)
 }
@@ -76,7 +78,7 @@ pub(crate) fn games_by_key(alloc: Global, games: &[Stored]) -> Result<GamesByKey
 fn add_game(
     alloc: Global,
     by_key: &mut GamesByKey,
-    key: DoubleKey,
+    key: StoredKey,
     number: u32,
 ) -> Result<(), NoMemory>
     ensures { OnOk result (entries_of by_key.new.entries
@@ -97,7 +99,7 @@ fn add_game(
 
 // Whether the games with a key are a group of double games: there are two or more, and the
 // signature tells a point.
-pub(crate) fn are_group(key: &DoubleKey, numbers: &Numbers) -> bool
+pub(crate) fn are_group(key: &StoredKey, numbers: &Numbers) -> bool
     ensures { result ≡ is_group (entry_of (key.now, numbers.now)) }
 {
     !numbers.others.is_empty() && key.tells_a_point()

@@ -17,71 +17,80 @@ ghost use Rattle.std.specs.List.{flat_map};
 ghost use mathlib.Core.List.{IsPrefix};
 ghost use Rattle.info_filter.specs.Players.{IsPlayersTable};
 ghost use Rattle.session_core.specs.Answers.{IsDoublesText, IsPlayersText, IsSignatureText};
-ghost use Rattle.session_core.specs.Games.{IsOfItsTree, games_of};
 ghost use Rattle.session_core.specs.Grouping.{entries_of, entry_of, group_in, group_text};
-ghost use Rattle.session_core.specs.Listing.{found_at, infos_of, signed_text};
+ghost use Rattle.session_core.specs.Listing.{AreFormsOf, found_at, found_text, games_of, infos_of};
 ghost use Rattle.session_core.specs.Signed.{AreGamesFound};
 ghost use Rattle.session_core.specs.Stores.{view_of};
 
-use crate::doubles::{DoubleKey, GamesByKey, Numbers, are_group, games_by_key};
-use crate::stored::Stored;
-use dyer_signature::{SigPattern, matches};
+use crate::doubles::{GamesByKey, Numbers, StoredKey, are_group, games_by_key};
+use crate::forms::canonical_forms;
+use dyer_signature::{SigPattern, Signature, matches};
 use info_filter::Players;
 use kb_geometry::NoMemory;
 use query_script::{
     print_double, print_doubles_head, print_found_game, print_players, print_signature_head,
 };
+use search_engine::{game_count, games};
+use segment_store::{FinishedGame, Segment};
 use std::alloc::Global;
+use std::thread::Threads;
+use version_publisher::Version;
 
 // Appends the text of the games whose signature matches a pattern.
-pub(crate) fn append_signature(
+pub(crate) fn append_signature<R: Threads + Sync>(
+    rt: &R,
     alloc: Global,
     line: u32,
     pattern: &SigPattern,
-    number: u64,
-    games: &[Stored],
+    version: &Version<Segment>,
     out: &mut Vec<u8>,
 ) -> Result<(), NoMemory>
-    requires most { length games.now ≤ 400000 }
-    requires stored { All IsOfItsTree games.now }
     ensures ok { OnOk result ((text : List ℕ)
-        × IsSignatureText line (view_of number games.now) pattern.now.bytes text
+        × IsSignatureText line (view_of version.now) pattern.now.bytes text
         × (out.new.items ≡ out.old.items ++ text)) }
     ensures refused { OnErr result (IsPrefix out.old.items out.new.items) }
 {
-    let found = found_by(alloc, pattern, games)?;
-    print_signature_head(line, number, games.len() as u32, found.len(), out)?;
-    append_found(games, found.as_slice(), out)
+    let count = game_count(version);
+    let games = games(alloc, version)?;
+    let forms = canonical_forms(rt, alloc, games.as_slice())?;
+    let found = found_by(alloc, pattern, games.as_slice(), forms.as_slice())?;
+    print_signature_head(line, version.number(), count, found.len(), out)?;
+    append_found(forms.as_slice(), found.as_slice(), out)
 }
 
-// Appends a line for each game with one of these numbers.
-fn append_found(games: &[Stored], found: &[u32], out: &mut Vec<u8>) -> Result<(), NoMemory>
-    requires { All (λ (number : ℕ). number < length games.now) found.now }
+// Appends a line for each game with one of these numbers, with its canonical form.
+fn append_found(forms: &[Signature], found: &[u32], out: &mut Vec<u8>) -> Result<(), NoMemory>
+    requires { All (λ (number : ℕ). number < length forms.now) found.now }
     ensures ok { OnOk result (out.new.items
-        ≡ out.old.items ++ flat_map (signed_text games.now) found.now) }
+        ≡ out.old.items ++ flat_map (found_text forms.now) found.now) }
     ensures refused { OnErr result (IsPrefix out.old.items out.new.items) }
 {
     for number in found {
-        let game = &games[*number as usize];
-        print_found_game(*number, &game.canonical, out)?;
+        let form = &forms[*number as usize];
+        print_found_game(*number, form, out)?;
     }
     Ok(())
 }
 
-// The numbers of the games whose signature matches a pattern, ascending. The only error is
-// `NoMemory`.
-fn found_by(alloc: Global, pattern: &SigPattern, games: &[Stored]) -> Result<Vec<u32>, NoMemory>
+// The numbers of the games whose signature matches a pattern, ascending, from the games and their
+// canonical forms. The only error is `NoMemory`.
+fn found_by(
+    alloc: Global,
+    pattern: &SigPattern,
+    games: &[&FinishedGame],
+    forms: &[Signature],
+) -> Result<Vec<u32>, NoMemory>
     requires most { length games.now ≤ 400000 }
-    requires stored { All IsOfItsTree games.now }
+    requires forms { AreFormsOf games.now forms.now }
     ensures found { IfOk result (λ found. AreGamesFound pattern.now.bytes (games_of games.now)
-        (map (found_at games.now) found.items)) }
+        (map (found_at forms.now) found.items)) }
     ensures in_range { IfOk result (λ found.
-        All (λ (number : ℕ). number < length games.now) found.items) }
+        All (λ (number : ℕ). number < length forms.now) found.items) }
 {
     let mut found = Vec::new(alloc);
     for number in 0..games.len() {
-        let game = &games[number];
-        if matches(&game.canonical, game.tree.shape(), pattern) {
+        let (game, form) = (games[number], &forms[number]);
+        if matches(form, game.tree().shape(), pattern) {
             found.push(number as u32)?;
         }
     }
@@ -92,50 +101,51 @@ fn found_by(alloc: Global, pattern: &SigPattern, games: &[Stored]) -> Result<Vec
 pub(crate) fn append_players(
     alloc: Global,
     line: u32,
-    number: u64,
-    games: &[Stored],
+    version: &Version<Segment>,
     out: &mut Vec<u8>,
 ) -> Result<(), NoMemory>
-    requires most { length games.now ≤ 400000 }
     ensures ok { OnOk result ((text : List ℕ)
-        × IsPlayersText line (view_of number games.now) text
+        × IsPlayersText line (view_of version.now) text
         × (out.new.items ≡ out.old.items ++ text)) }
     ensures refused { OnErr result (IsPrefix out.old.items out.new.items) }
 {
-    let players = players_of(alloc, games)?;
-    print_players(line, number, games.len() as u32, &players, out)
+    let count = game_count(version);
+    let games = games(alloc, version)?;
+    let players = players_of(alloc, games.as_slice())?;
+    print_players(line, version.number(), count, &players, out)
 }
 
 // The table of the players. The only error is `NoMemory`.
-fn players_of(alloc: Global, games: &[Stored]) -> Result<Players, NoMemory>
+fn players_of(alloc: Global, games: &[&FinishedGame]) -> Result<Players, NoMemory>
     requires { length games.now ≤ 400000 }
     ensures { IfOk result (λ players. IsPlayersTable (infos_of games.now) players) }
 {
     let mut players = Players::new(alloc);
     for game in games {
-        players.add(alloc, game.tree.info())?;
+        players.add(alloc, game.tree().info())?;
     }
     Ok(players)
 }
 
 // Appends the text of the groups of double games.
-pub(crate) fn append_doubles(
+pub(crate) fn append_doubles<R: Threads + Sync>(
+    rt: &R,
     alloc: Global,
     line: u32,
-    number: u64,
-    games: &[Stored],
+    version: &Version<Segment>,
     out: &mut Vec<u8>,
 ) -> Result<(), NoMemory>
-    requires most { length games.now ≤ 400000 }
-    requires stored { All IsOfItsTree games.now }
     ensures ok { OnOk result ((text : List ℕ)
-        × IsDoublesText line (view_of number games.now) text
+        × IsDoublesText line (view_of version.now) text
         × (out.new.items ≡ out.old.items ++ text)) }
     ensures refused { OnErr result (IsPrefix out.old.items out.new.items) }
 {
-    let by_key = games_by_key(alloc, games)?;
+    let count = game_count(version);
+    let games = games(alloc, version)?;
+    let forms = canonical_forms(rt, alloc, games.as_slice())?;
+    let by_key = games_by_key(alloc, games.as_slice(), forms.as_slice())?;
     let groups = count_groups(&by_key);
-    print_doubles_head(line, number, games.len() as u32, groups, out)?;
+    print_doubles_head(line, version.number(), count, groups, out)?;
     for (key, numbers) in by_key.iter() {
         append_group(key, numbers, out)?;
     }
@@ -143,7 +153,7 @@ pub(crate) fn append_doubles(
 }
 
 // Appends the line of the games with a key, if they are a group of double games.
-fn append_group(key: &DoubleKey, numbers: &Numbers, out: &mut Vec<u8>) -> Result<(), NoMemory>
+fn append_group(key: &StoredKey, numbers: &Numbers, out: &mut Vec<u8>) -> Result<(), NoMemory>
     ensures ok { OnOk result (out.new.items
         ≡ out.old.items ++ group_text (entry_of (key.now, numbers.now))) }
     ensures refused { OnErr result (out.new.items ≡ out.old.items) }

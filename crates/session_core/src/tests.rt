@@ -7,6 +7,7 @@ use made::{Asked, Files, game_text, search_text, two_texts};
 use std::alloc::Global;
 use std::process::Abort;
 use std::test::Fail;
+use std::thread::Threads;
 
 const ANY: Asked = Asked {
     same: false,
@@ -66,7 +67,11 @@ const VARIATION: Files = &[("a.sgf", "(;SZ[3];B[aa];W[bb](;B[cc])(;B[ca]))")];
 const NONE: &str = "3 search version 1 games 1 hits 0\ntotal 0 0 0 0 0 0\n";
 
 // Each search over the games of its files has the wanted text.
-fn have_texts(rt: &impl Abort, alloc: Global, cases: &[(Files, Asked, &str)]) -> Result<(), Fail> {
+fn have_texts<R: Threads + Sync + Abort>(
+    rt: &R,
+    alloc: Global,
+    cases: &[(Files, Asked, &str)],
+) -> Result<(), Fail> {
     for (files, asked, wanted) in cases {
         let text = search_text(rt, alloc, *files, *asked)?;
         assert_eq!(rt; text.as_str(), *wanted);

@@ -1,14 +1,15 @@
 // Imports of whole texts: what becomes of a file by its bytes. The offsets were counted by hand.
-use super::{Ended, File, NO_FAULTS, expect_end, expect_outputs, run, run_words};
+use super::{Ended, File, NO_FAULTS, expect_end, expect_outputs, numbered_files, run, run_words};
 use crate::import::import;
 use crate::print::print_report;
 use crate::{Counts, FileOutcome, MAX_BASE_GAMES, MAX_BASE_NODES, Status, import_one};
 use kb_edges::{FileEntry, MemoryFolder};
 use std::alloc::Global;
 use std::test::Fail;
+use std::thread::Threads;
 
 // The import of one file `a.sgf` of this text, and what its report says.
-fn import_text(alloc: Global, text: Vec<u8>) -> Result<Ended, Fail> {
+fn import_text(rt: &(impl Threads + Sync), alloc: Global, text: Vec<u8>) -> Result<Ended, Fail> {
     let mut files = Vec::new(alloc);
     files.push(FileEntry {
         path: String::from_str(alloc, "d")?,
@@ -16,6 +17,7 @@ fn import_text(alloc: Global, text: Vec<u8>) -> Result<Ended, Fail> {
         bytes: text,
     })?;
     run_words(
+        rt,
         alloc,
         &[],
         files,
@@ -51,7 +53,7 @@ fn refused_texts(rt: HostRuntime) -> Result<(), Fail> {
     ];
     for (text, fault) in cases {
         let report = refused_report(alloc, fault)?;
-        let ended = import_text(alloc, text.as_bytes().to_vec(alloc)?)?;
+        let ended = import_text(&rt, alloc, text.as_bytes().to_vec(alloc)?)?;
         expect_end(&rt, &ended, Status::Done, report.as_str(), text);
     }
     Ok(())
@@ -84,7 +86,7 @@ fn texts_past_the_limits(rt: HostRuntime) -> Result<(), Fail> {
     ];
     for (before, piece, count, after, fault) in cases {
         let report = refused_report(alloc, fault)?;
-        let ended = import_text(alloc, repeated(alloc, before, piece, count, after)?)?;
+        let ended = import_text(&rt, alloc, repeated(alloc, before, piece, count, after)?)?;
         expect_end(&rt, &ended, Status::Done, report.as_str(), fault);
     }
     Ok(())
@@ -126,7 +128,7 @@ fn accepted_texts(rt: HostRuntime) -> Result<(), Fail> {
              1 imported files 1 accepted 1 refused 0 full 0 unread 0 games {games} version 1\n\
              2 wait version 1\n"
         )?;
-        let ended = import_text(alloc, text.as_bytes().to_vec(alloc)?)?;
+        let ended = import_text(&rt, alloc, text.as_bytes().to_vec(alloc)?)?;
         expect_end(&rt, &ended, Status::Done, report.as_str(), text);
     }
     Ok(())
@@ -215,7 +217,7 @@ fn folders_without_games(rt: HostRuntime) -> Result<(), Fail> {
     ];
     for (name, written) in cases {
         let files: [File; 1] = [("d", name, "hello")];
-        let ended = run(rt.alloc(), &files, "import d\nwait\n", NO_FAULTS)?;
+        let ended = run(&rt, rt.alloc(), &files, "import d\nwait\n", NO_FAULTS)?;
         expect_end(&rt, &ended, Status::Done, written, name);
     }
     Ok(())
@@ -261,5 +263,24 @@ fn room_in_the_base(rt: HostRuntime) -> Result<(), Fail> {
         assert_eq!(rt; found, outcome, "{games} games and {nodes} nodes");
         assert_eq!(rt; trees.len(), count, "{games} games and {nodes} nodes");
     }
+    Ok(())
+}
+
+#[test]
+fn games_behind_the_first_batch(rt: HostRuntime) -> Result<(), Fail> {
+    let alloc = rt.alloc();
+    // 63 games of the first 64 files, and one of the last file
+    let written = "1 import d\n\
+        2 game 62 version 2 place 0 file 100062.sgf\n\
+        (;GM[1]FF[4]SZ[5];B[cc];W[bc];B[cb])\n\
+        3 game 63 version 2 place 0 file 100064.sgf\n\
+        (;GM[1]FF[4]SZ[5];B[cc];W[bc];B[cb])\n\
+        4 game 64 version 2 none\n\
+        1 imported files 65 accepted 64 refused 1 full 0 unread 0 games 64 version 2\n\
+        refused NoGame 5 100063.sgf\n";
+    let files = numbered_files(alloc, 65)?;
+    let script = b"import d\ngame 62\ngame 63\ngame 64\n".to_vec(alloc)?;
+    let ended = run_words(&rt, alloc, &[], files, script, NO_FAULTS)?;
+    expect_end(&rt, &ended, Status::Done, written, written);
     Ok(())
 }

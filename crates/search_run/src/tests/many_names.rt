@@ -55,7 +55,7 @@ fn as_many_names_as_an_import_may_have(rt: HostRuntime) -> Result<(), Fail> {
     let script = b"import d\nwait\n".to_vec(alloc)?;
     let mut source = MemorySource::new(script, Vec::new(alloc));
     let mut sink = MemorySink::new(Vec::new(alloc), Vec::new(alloc));
-    let (status, _folder) = run_serial(alloc, &[], folder, &mut source, &mut sink);
+    let (status, _folder) = run_serial(&rt, alloc, &[], folder, &mut source, &mut sink);
     let written = "1 import d\n\
          1 imported files 100000 accepted 100000 refused 0 full 0 unread 0 games 100000 version 1563\n\
          2 wait version 1563\n";

@@ -238,6 +238,7 @@ fn searches(rt: HostRuntime) -> Result<(), Fail> {
         let script = format!(in alloc; "import d\nwait\n{statements}")?;
         let files = files_of(alloc, texts)?;
         let ended = run_words(
+            &rt,
             alloc,
             &[],
             files,
@@ -272,6 +273,7 @@ fn statements_over_no_games(rt: HostRuntime) -> Result<(), Fail> {
     ];
     for (script, written) in cases {
         let ended = run_words(
+            &rt,
             alloc,
             &[],
             Vec::new(alloc),

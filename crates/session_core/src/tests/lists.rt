@@ -1,42 +1,9 @@
 // The texts of the statements that list games and players. They were worked out by hand. In the
 // texts of files `~` stands for 19 passes, so that the moves behind are those of a signature.
-ghost use Rattle.std.specs.Prelude.{All, IfOk};
-ghost use Rattle.session_core.specs.Games.{IsOfItsTree};
-
-use super::made::{Files, add_file, statement_text};
-use crate::Stored;
+use super::made::{Files, statement_text};
 use dyer_signature::SigPattern;
 use query_script::Statement;
-use std::alloc::Global;
 use std::test::Fail;
-
-const NINETEEN_PASSES: &[u8] =
-    b";B[];W[];B[];W[];B[];W[];B[];W[];B[];W[];B[];W[];B[];W[];B[];W[];B[];W[];B[]";
-
-// The text with all its passes.
-fn with_passes(alloc: Global, text: &str) -> Result<Vec<u8>, Fail> {
-    let mut whole = Vec::new(alloc);
-    for byte in text.as_bytes() {
-        if *byte == b'~' {
-            whole.extend_from_slice(NINETEEN_PASSES)?;
-        } else {
-            whole.push(*byte)?;
-        }
-    }
-    Ok(whole)
-}
-
-// The games of files.
-fn games_with_passes(alloc: Global, files: Files) -> Result<Vec<Stored>, Fail>
-    ensures { IfOk result (λ games. All IsOfItsTree games.items) }
-{
-    let mut games = Vec::new(alloc);
-    for (file, text) in files {
-        let whole = with_passes(alloc, text)?;
-        add_file(alloc, file, whole.as_slice(), &mut games)?;
-    }
-    Ok(games)
-}
 
 // Two games on the standard board, of which one is turned.
 const TURNED: Files = &[
@@ -70,8 +37,7 @@ const PLAYERS: [(Files, &str); 5] = [
 #[test]
 fn the_players_of_games(rt: HostRuntime) -> Result<(), Fail> {
     for (files, wanted) in PLAYERS {
-        let games = games_with_passes(rt.alloc(), files)?;
-        let text = statement_text(&rt, rt.alloc(), &games, &Statement::Players)?;
+        let text = statement_text(&rt, rt.alloc(), files, &Statement::Players)?;
         assert_eq!(rt; text.as_str(), wanted);
     }
     Ok(())
@@ -149,11 +115,10 @@ const SIGNATURES: [(Files, &[u8; 12], &str); 16] = [
 #[test]
 fn games_found_by_their_signatures(rt: HostRuntime) -> Result<(), Fail> {
     for (files, pattern, wanted) in SIGNATURES {
-        let games = games_with_passes(rt.alloc(), files)?;
         let statement = Statement::Signature {
             pattern: SigPattern { bytes: *pattern },
         };
-        let text = statement_text(&rt, rt.alloc(), &games, &statement)?;
+        let text = statement_text(&rt, rt.alloc(), files, &statement)?;
         assert_eq!(rt; text.as_str(), wanted);
     }
     Ok(())
@@ -211,8 +176,7 @@ const DOUBLES: [(Files, &str); 10] = [
 #[test]
 fn groups_of_double_games(rt: HostRuntime) -> Result<(), Fail> {
     for (files, wanted) in DOUBLES {
-        let games = games_with_passes(rt.alloc(), files)?;
-        let text = statement_text(&rt, rt.alloc(), &games, &Statement::Doubles)?;
+        let text = statement_text(&rt, rt.alloc(), files, &Statement::Doubles)?;
         assert_eq!(rt; text.as_str(), wanted);
     }
     Ok(())

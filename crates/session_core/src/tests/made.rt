@@ -1,22 +1,24 @@
-// Games, queries and answers for the tests, from texts.
-ghost use Rattle.std.specs.Prelude.{All, IfOk, OnOk};
+// Versions, queries and answers for the tests, from texts.
 ghost use Rattle.session_core.specs.Answers.{IsAnswered};
-ghost use Rattle.session_core.specs.Games.{IsOfItsTree};
 
-use crate::{MAX_BASE_GAMES, Session, Stored};
-use game_tree::{Bytes, GameTree, build};
+use crate::Session;
+use game_tree::{Bytes, build};
 use info_filter::{Condition, ConditionList, Filter};
 use kb_geometry::{NoMemory, Outcome, Point, Rect, Shape};
-use node_position::deltas;
 use pattern_images::Query;
 use pattern_syntax::read_pattern;
 use query_script::Statement;
+use search_engine::game_count;
+use segment_store::{MAX_BASE_GAMES, Segment, SegmentBuilder};
 use sgf_reader::read;
 use std::alloc::Global;
 use std::process::Abort;
+use std::sync::Arc;
 use std::test::Fail;
+use std::thread::Threads;
+use version_publisher::Version;
 
-// Files: the name of each, and its text.
+// Files: the name of each, and its text. There `~` stands for 19 passes.
 pub(crate) type Files = &'static [(&'static str, &'static str)];
 
 // A condition on the information of games. Days are numbers.
@@ -46,10 +48,11 @@ pub(crate) struct Asked {
     pub only: &'static [Only],
 }
 
-// The line and the version that the answers tell.
+// The line that the answers tell.
 const LINE: u32 = 3;
 
-const VERSION: u64 = 1;
+const NINETEEN_PASSES: &[u8] =
+    b";B[];W[];B[];W[];B[];W[];B[];W[];B[];W[];B[];W[];B[];W[];B[];W[];B[];W[];B[]";
 
 fn query_of(alloc: Global, asked: Asked) -> Result<Query, Fail> {
     let (from_move, to_move) = asked.moves;
@@ -92,81 +95,135 @@ fn filter_of(alloc: Global, asked: Asked) -> Result<Filter, NoMemory> {
     })
 }
 
-// The game with what is kept beside its tree.
-fn stored(alloc: Global, file: &str, place: u32, tree: GameTree) -> Result<Stored, Fail>
-    ensures { IfOk result (λ stored. IsOfItsTree stored) }
-{
-    let deltas = deltas(alloc, &tree)?;
-    let file = String::from_str(alloc, file)?;
-    Ok(Stored::new(file, place, tree, deltas))
+// The text with all its passes.
+fn with_passes(alloc: Global, text: &str) -> Result<Vec<u8>, NoMemory> {
+    let mut whole = Vec::new(alloc);
+    for byte in text.as_bytes() {
+        if *byte == b'~' {
+            whole.extend_from_slice(NINETEEN_PASSES)?;
+        } else {
+            whole.push(*byte)?;
+        }
+    }
+    Ok(whole)
 }
 
 // Adds the games of a file.
-pub(crate) fn add_file(
+fn add_file(
+    rt: &impl Abort,
     alloc: Global,
     file: &str,
-    text: &[u8],
-    games: &mut Vec<Stored>,
-) -> Result<(), Fail>
-    requires { All IsOfItsTree games.old.items }
-    ensures { OnOk result (All IsOfItsTree games.new.items) }
-{
-    let collection = read(alloc, text)?;
+    text: &str,
+    builder: &mut SegmentBuilder,
+) -> Result<(), Fail> {
+    let whole = with_passes(alloc, text)?;
+    let collection = read(alloc, whole.as_slice())?;
     let mut place = 0;
-    for tree in build(alloc, text, &collection)? {
-        games.push(stored(alloc, file, place, tree)?)?;
+    for tree in build(alloc, whole.as_slice(), &collection)? {
+        assert!(rt; builder.game_count() < MAX_BASE_GAMES);
+        builder.add(alloc, file, place, tree)?;
         place = place.saturating_add(1);
     }
     Ok(())
 }
 
-// The games of files.
-fn games_of(alloc: Global, files: Files) -> Result<Vec<Stored>, Fail>
-    ensures { IfOk result (λ games. All IsOfItsTree games.items) }
-{
-    let mut games = Vec::new(alloc);
+// Adds a part to a version.
+fn push(
+    rt: &impl Abort,
+    alloc: Global,
+    part: Segment,
+    version: &mut Version<Segment>,
+) -> Result<(), Fail> {
+    assert!(rt; game_count(version) + part.game_count() <= MAX_BASE_GAMES);
+    assert!(rt; version.number() < 100);
+    let part = Arc::new(alloc, part)?;
+    let pushed = version.push(part).is_ok();
+    assert!(rt; pushed);
+    Ok(())
+}
+
+// The version of the games of files as one part.
+fn one_part(rt: &impl Abort, alloc: Global, files: Files) -> Result<Version<Segment>, Fail> {
+    let mut builder = SegmentBuilder::new(alloc);
     for (file, text) in files {
-        add_file(alloc, file, text.as_bytes(), &mut games)?;
+        add_file(rt, alloc, file, text, &mut builder)?;
     }
-    Ok(games)
+    let mut version = Version::empty(alloc);
+    push(rt, alloc, builder.finish(alloc)?, &mut version)?;
+    Ok(version)
+}
+
+// The version of the games of files with a part for each file.
+fn a_part_for_each(rt: &impl Abort, alloc: Global, files: Files) -> Result<Version<Segment>, Fail> {
+    let mut version = Version::empty(alloc);
+    for (file, text) in files {
+        let mut builder = SegmentBuilder::new(alloc);
+        add_file(rt, alloc, file, text, &mut builder)?;
+        push(rt, alloc, builder.finish(alloc)?, &mut version)?;
+    }
+    Ok(version)
+}
+
+// The text of a statement over a version.
+fn answer_over<R: Threads + Sync>(
+    rt: &R,
+    alloc: Global,
+    version: &Version<Segment>,
+    statement: &Statement,
+) -> Result<String, Fail>
+    requires { IsAnswered statement.now }
+{
+    let mut out = Vec::new(alloc);
+    Session::new().answer(rt, alloc, LINE, statement, version, &mut out)?;
+    Ok(String::from_utf8(out)?)
+}
+
+// The text of a statement over the games of files as one part. Over a part for each file it is the
+// same but for the number of the version, which is how many parts there are.
+pub(crate) fn statement_text<R: Threads + Sync + Abort>(
+    rt: &R,
+    alloc: Global,
+    files: Files,
+    statement: &Statement,
+) -> Result<String, Fail>
+    requires { IsAnswered statement.now }
+{
+    let text = answer_over(rt, alloc, &one_part(rt, alloc, files)?, statement)?;
+    let parts = answer_over(rt, alloc, &a_part_for_each(rt, alloc, files)?, statement)?;
+    let number = format!(in alloc; " version {} ", files.len())?;
+    let renumbered = parts
+        .as_str()
+        .replace(alloc, number.as_str(), " version 1 ")?;
+    assert_eq!(rt; renumbered.as_str(), text.as_str());
+    Ok(text)
 }
 
 // The text of a search over the games of files.
-pub(crate) fn search_text(
-    rt: &impl Abort,
+pub(crate) fn search_text<R: Threads + Sync + Abort>(
+    rt: &R,
     alloc: Global,
     files: Files,
     asked: Asked,
 ) -> Result<String, Fail> {
     let query = query_of(alloc, asked)?;
     let filter = filter_of(alloc, asked)?;
-    let games = games_of(alloc, files)?;
-    assert!(rt; games.len() <= MAX_BASE_GAMES as usize);
-    let mut out = Vec::new(alloc);
-    let statement = Statement::Search { query, filter };
-    Session::new().answer(alloc, LINE, &statement, VERSION, &games, &mut out)?;
-    Ok(String::from_utf8(out)?)
+    statement_text(rt, alloc, files, &Statement::Search { query, filter })
 }
 
 // The text of the game with a number among the games of files.
-pub(crate) fn game_text(
-    rt: &impl Abort,
+pub(crate) fn game_text<R: Threads + Sync + Abort>(
+    rt: &R,
     alloc: Global,
     files: Files,
     number: u32,
 ) -> Result<String, Fail> {
-    let games = games_of(alloc, files)?;
-    assert!(rt; games.len() <= MAX_BASE_GAMES as usize);
-    let mut out = Vec::new(alloc);
-    let statement = Statement::Game { number };
-    Session::new().answer(alloc, LINE, &statement, VERSION, &games, &mut out)?;
-    Ok(String::from_utf8(out)?)
+    statement_text(rt, alloc, files, &Statement::Game { number })
 }
 
 // The text of the game with a number, and behind it that of a search in a block, over the games of
 // files.
-pub(crate) fn two_texts(
-    rt: &impl Abort,
+pub(crate) fn two_texts<R: Threads + Sync + Abort>(
+    rt: &R,
     alloc: Global,
     files: Files,
     number: u32,
@@ -174,28 +231,11 @@ pub(crate) fn two_texts(
 ) -> Result<String, Fail> {
     let query = query_of(alloc, asked)?;
     let filter = filter_of(alloc, asked)?;
-    let games = games_of(alloc, files)?;
-    assert!(rt; games.len() <= MAX_BASE_GAMES as usize);
+    let version = one_part(rt, alloc, files)?;
     let mut out = Vec::new(alloc);
     let mut session = Session::new();
     let statement = Statement::Game { number };
-    session.answer(alloc, LINE, &statement, VERSION, &games, &mut out)?;
-    session.answer_search(alloc, LINE, &query, &filter, VERSION, &games, &mut out)?;
-    Ok(String::from_utf8(out)?)
-}
-
-// The text of a statement over games.
-pub(crate) fn statement_text(
-    rt: &impl Abort,
-    alloc: Global,
-    games: &[Stored],
-    statement: &Statement,
-) -> Result<String, Fail>
-    requires answered { IsAnswered statement.now }
-    requires stored { All IsOfItsTree games.now }
-{
-    assert!(rt; games.len() <= MAX_BASE_GAMES as usize);
-    let mut out = Vec::new(alloc);
-    Session::new().answer(alloc, LINE, statement, VERSION, games, &mut out)?;
+    session.answer(rt, alloc, LINE, &statement, &version, &mut out)?;
+    session.answer_search(rt, alloc, LINE, &query, &filter, &version, &mut out)?;
     Ok(String::from_utf8(out)?)
 }

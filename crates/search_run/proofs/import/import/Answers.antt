@@ -44,4 +44,4 @@ returns-clause-found g c = λ files told.
     let there = AreNames-there files _ _ are in
     let read = c.in_ok-files.ensures.found files (c.list.ensures.same ∙ told) (rw c.deref-2.ensures.value there) in
     let few : length names ≤ 100000 = no_more_names c.are_too_many.result names (rw c.deref.ensures.value at c.are_too_many.ensures.1) c.if-are_too_many.false in
-    IsImported-read files c.args.path.now c.args.before names _ _ _ c.in_ok-files.files c.in_ok-files.games c.list.ensures.later (c.in-Ok.ensures.there files told) are few (rw c.deref-2.ensures.value at read)
+    IsImported-read files c.args.path.now c.args.before names _ _ _ c.in_ok-files.files c.in_ok-files.segments c.list.ensures.later (c.in-Ok.ensures.there files told) are few (rw c.deref-2.ensures.value at read)

@@ -4,14 +4,14 @@ use Rattle.search_run.proofs.RunLemmas.{HasRun-more, HasRun-start, WritesPrefix-
 use Rattle.search_run.proofs.StatementLemmas.{waiting_is}
 use Rattle.search_run.proofs.run.run_statements.Goals as goal
 
-pub returns-in_err-run_statement-clause-prefix : goal.returns-in_err-run_statement-clause-prefix
-returns-in_err-run_statement-clause-prefix g c = λ files told before written.
+pub returns-in_err-standing-clause-prefix : goal.returns-in_err-standing-clause-prefix
+returns-in_err-standing-clause-prefix g c = λ files told before written.
     let i = c.loop-statement.statement-index in
     let placed = c.args.placed.now in
     let p = c.statement-item.result in
     let h = c.loop-statement.invariant.run files told before written in
-    let stop = c.in_err-run_statement.ensures.stopped (before ++ h.text) h.written_is in
-    after_error _ _ (WritesPrefix-stopped files placed (take i placed) (p ∷ drop (suc i) placed) c.loop-statement.standing before stop.more _ _ _ _ _ h (split_here placed i p c.loop-statement-test.true c.statement-item.is) (next_prefix files h.state c.loop-statement.standing p (drop (suc i) placed) stop.more h.is_kept stop.prefix) stop.written_is c.in_err-run_statement.ensures.later)
+    let stop = c.in_err-standing.ensures.stopped (before ++ h.text) h.written_is in
+    after_error _ _ (WritesPrefix-stopped files placed (take i placed) (p ∷ drop (suc i) placed) c.loop-statement.standing before stop.more _ _ _ _ _ h (split_here placed i p c.loop-statement-test.true c.statement-item.is) (next_prefix files h.state c.loop-statement.standing p (drop (suc i) placed) stop.more h.is_kept stop.prefix) stop.written_is c.in_err-standing.ensures.later)
 
 pub loop-statement-init : goal.loop-statement-init
 loop-statement-init g c = record {
@@ -24,17 +24,17 @@ loop-statement-init g c = record {
 
 pub loop-statement-preserved : goal.loop-statement-preserved
 loop-statement-preserved g c = record {
-  same = c.in_ok-run_statement.ensures.same ∙ c.loop-statement.invariant.same;
-  later = omega (arith, c.loop-statement.invariant.later, c.in_ok-run_statement.ensures.later);
-  sink_later = omega (arith, c.loop-statement.invariant.sink_later, c.in_ok-run_statement.ensures.sink_later);
-  version = omega (arith, c.loop-statement.invariant.version, c.in_ok-run_statement.ensures.version);
+  same = c.in_ok-standing.ensures.same ∙ c.loop-statement.invariant.same;
+  later = omega (arith, c.loop-statement.invariant.later, c.in_ok-standing.ensures.later);
+  sink_later = omega (arith, c.loop-statement.invariant.sink_later, c.in_ok-standing.ensures.sink_later);
+  version = omega (arith, c.loop-statement.invariant.version, c.in_ok-standing.ensures.version);
   run = λ files told before written.
       let i = c.loop-statement.statement-index in
       let placed = c.args.placed.now in
       let p = c.statement-item.result in
       let h = c.loop-statement.invariant.run files told before written in
       rw (taken_more placed i p c.loop-statement-test.true c.statement-item.is)
-      (HasRun-more files (take i placed) p c.loop-statement.standing c.run_statement.new.standing before _ _ _ _ _ h (c.in_ok-run_statement.ensures.passed files (c.loop-statement.invariant.same ∙ told) (before ++ h.text) h.written_is));
+      (HasRun-more files (take i placed) p c.loop-statement.standing c.in_ok-standing.standing before _ _ _ _ _ h (c.in_ok-standing.ensures.passed files (c.loop-statement.invariant.same ∙ told) (before ++ h.text) h.written_is));
 }
 
 pub returns-in_err-write_all-clause-prefix : goal.returns-in_err-write_all-clause-prefix

@@ -15,8 +15,8 @@ returns-in-Err-BadLine-clause-complete g c = λ bytes told none good source sink
     let bad = IsBad-read bytes c.deref.result.now c.in-Err-BadLine.line (c.deref.ensures.value ∙ c.in-Ok.ensures.text bytes told) (c.in-Err-BadLine.ensures.bad_line c.in-Err-BadLine.line (ap Err c.in-Err-BadLine.field-0-is)) in
     absurd (good_not_bad bytes c.in-Err-BadLine.line good bad)
 
-pub run_statements-requires : goal.run_statements-requires
-run_statements-requires g c = rw c.deref-2.ensures.value (IsScript-few c.deref.result.now c.in-Ok-read_whole.placed.items c.in-Ok-read_whole.ensures.script)
+pub run_statements-requires-after_bounds : goal.run_statements-requires-after_bounds
+run_statements-requires-after_bounds g c κs within = rw c.deref-2.ensures.value (IsScript-few c.deref.result.now c.in-Ok-read_whole.placed.items c.in-Ok-read_whole.ensures.script)
 
 pub returns-in-Ok-run_statements-clause-in_grammar : goal.returns-in-Ok-run_statements-clause-in_grammar
 returns-in-Ok-run_statements-clause-in_grammar g c = λ bytes told ends.

@@ -1,15 +1,33 @@
-use Rattle.std.proofs.Common.{◌≡◌, ◌∙◌, ◌++◌, List, ℕ, ap, arith, length, subst}
-use Rattle.std.specs.List.{flat_map}
-use Rattle.std.specs.Prelude.{OnOk}
-use Rattle.query_script.specs.Texts.{signature_head}
-use Rattle.session_core.specs.Listing.{signed_text}
+use Rattle.std.proofs.Common.{◌∙◌, ◌<◌, All, List, ℕ, ap, arith, length, map, subst, sym}
+use Rattle.std.specs.Borrow.{Bor}
+use Rattle.dyer_signature.specs.declared.bytes.Signature.{Signature}
+use Rattle.node_position.specs.Games.{Game}
+use Rattle.session_core.specs.Listing.{AreFormsOf, found_at, games_of}
+use Rattle.session_core.specs.Signed.{AreGamesFound}
+use Rattle.session_core.specs.Stores.{view_of}
+use Rattle.session_core.proofs.FoundGames.{few_games}
 use Rattle.session_core.proofs.ListTexts.{IsSignatureText-printed}
 use Rattle.session_core.proofs.lists.append_signature.Goals as goal
 
+pub found_by-requires-clause-most : goal.found_by-requires-clause-most
+found_by-requires-clause-most g c = few_games c.as_slice-2.result.now c.in_ok-games.games.items (view_of c.args.version.now).games c.game_count-count.result c.as_slice-2.ensures.value c.in_ok-games.ensures c.game_count-count.ensures.value c.game_count-count.ensures.most
+
+pub found_by-requires-clause-forms : goal.found_by-requires-clause-forms
+found_by-requires-clause-forms g c =
+    subst (λ (gs : List (Bor Game)). AreFormsOf gs c.as_slice-3.result.now) (c.as_slice.ensures.value ∙ sym c.as_slice-2.ensures.value)
+    (subst (λ (fs : List Signature). AreFormsOf c.as_slice.result.now fs) (sym c.as_slice-3.ensures.value) c.in_ok-forms.ensures)
+
+pub append_found-requires : goal.append_found-requires
+append_found-requires g c =
+    subst (λ (fs : List Signature). All (λ (k : ℕ). k < length fs) c.as_slice-5.result.now) (c.as_slice-3.ensures.value ∙ sym c.as_slice-4.ensures.value)
+    (subst (λ (ns : List ℕ). All (λ (k : ℕ). k < length c.as_slice-3.result.now) ns) (sym c.as_slice-5.ensures.value) c.in_ok-found.ensures.in_range)
+
 pub returns-clause-ok : goal.returns-clause-ok
-returns-clause-ok c =
-    let long : c.len.result ≡ length c.in_ok-found.found.items = omega (arith, c.len.ensures, c.in_ok-found.found.ok) in
-    IsSignatureText-printed c.append_found.result c.args.line c.args.number c.args.games.now c.args.pattern.now.bytes c.in_ok-found.found.items c.args.out.now.items c.print_signature_head.new.out.items c.append_found.new.out.items
-    c.in_ok-found.ensures.found
-    (c.in_ok-print_signature_head.ensures.ok ∙ ap (λ n. c.args.out.now.items ++ signature_head c.args.line c.args.number (length c.args.games.now) n) long)
-    (subst (λ (ns : List ℕ). OnOk c.append_found.result (c.append_found.new.out.items ≡ c.print_signature_head.new.out.items ++ flat_map (signed_text c.args.games.now) ns)) c.as_slice.ensures.value c.append_found.ensures.ok)
+returns-clause-ok g c =
+    let forms = c.as_slice-3.ensures.value ∙ sym c.as_slice-4.ensures.value in
+    let numbers = sym c.as_slice-5.ensures.value in
+    IsSignatureText-printed c.append_found.result c.args.line (view_of c.args.version.now) c.number.result c.game_count-count.result c.len.result c.as_slice-2.result.now c.as_slice-4.result.now c.args.pattern.now.bytes c.as_slice-5.result.now c.args.out.now.items c.print_signature_head.new.out.items c.append_found.new.out.items
+    c.number.ensures c.game_count-count.ensures.value (omega (arith, c.len.ensures, c.in_ok-found.found.ok, ap length numbers)) (ap games_of c.as_slice-2.ensures.value ∙ c.in_ok-games.ensures)
+    (subst (λ (fs : List Signature). AreGamesFound c.args.pattern.now.bytes (games_of c.as_slice-2.result.now) (map (found_at fs) c.as_slice-5.result.now)) forms
+    (subst (λ (ns : List ℕ). AreGamesFound c.args.pattern.now.bytes (games_of c.as_slice-2.result.now) (map (found_at c.as_slice-3.result.now) ns)) numbers c.in_ok-found.ensures.found))
+    c.in_ok-print_signature_head.ensures.ok c.append_found.ensures.ok

@@ -4,10 +4,10 @@ use Rattle.search_run.proofs.StatementLemmas.{BlockTexts-more}
 use Rattle.search_run.proofs.standing.Standing.block_text.Goals as goal
 
 pub loop-line-preserved : goal.loop-line-preserved
-loop-line-preserved c =
+loop-line-preserved g c =
     let searches = c.args.searches.now in
     let i = c.loop-line.line-index in
     let p = c.loop-line-item.result in
     let found = c.in_ok-answer_search.ensures.ok in
     rw (taken_more searches i p c.loop-line-test.true c.loop-line-item.is, found.2)
-    (BlockTexts-more c.args.self.now (take i searches) p c.loop-line.text.items found.0 c.loop-line.invariant (rw (← c.self.view_is) (rw c.deref.ensures.value at found.1)))
+    (BlockTexts-more c.args.self.now (take i searches) p c.loop-line.text.items found.0 c.loop-line.invariant (rw (← c.self.view_is) found.1))

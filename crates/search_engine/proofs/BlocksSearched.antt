@@ -1,0 +1,95 @@
+-- Searching one block after another.
+use Rattle.std.proofs.Common.{◌≡◌, ℕ, Some, ◌+◌, ◌*◌, ◌<◌, ◌≤◌, List, [], ◌++◌, drop, get_or, length, length-append, take, sym, ap, ◌∙◌, subst, arith}
+use Rattle.std.proofs.Math.Nat.{mul-le-mul_left}
+use Rattle.std.proofs.lemmas.List.{get_or-append-add, take-append-drop, take_all}
+use Rattle.std.proofs.lemmas.List.Sums.{sum_by-append, sum_by-take-le, sum_by_more}
+use Rattle.std.proofs.lemmas.Option.{get_or_from_slice_get}
+use Rattle.kb_geometry.proofs.Lists.{All-before}
+use Rattle.game_tree.specs.Tree.{node_count}
+use Rattle.search_engine.specs.Nodes.{nodes_of}
+use Rattle.std.proofs.lemmas.List.Concat.{flat_map-append, get_or-flat_map}
+use Rattle.std.proofs.lemmas.List.Folds.{length-flat_map-take}
+use Rattle.std.specs.List.{flat_map, slice_get}
+use Rattle.std.specs.Prelude.{All}
+use Rattle.kb_geometry.specs.declared.shape.Shape.{Shape}
+use Rattle.node_position.specs.Games.{Game}
+use Rattle.pattern_images.specs.declared.hit.Hit.{Hit}
+use Rattle.pattern_images.specs.declared.query.Query.{Query}
+use Rattle.info_filter.specs.declared.filter.Filter.{Filter}
+use Rattle.search_engine.specs.declared.item.Item.{Item}
+use Rattle.search_engine.specs.Hits.{AreHitsFrom}
+use Rattle.search_engine.specs.Items.{AreItems, AreNumberedFrom, games_of}
+use Rattle.search_engine.specs.Searching.{AreCovered, AreHitsAdded, AreItemHitsAdded, IsCovered}
+use Rattle.search_engine.proofs.GamesSearched.{AreHitsAdded-parts, AreHitsFrom-none}
+use Rattle.search_engine.proofs.ItemLists.{games_to_next, games_to_piece}
+
+-- so many pieces of this size are enough
+pub enough : (items pieces size : ℕ) → items ≤ size * pieces → pieces ≤ 8 → items ≤ 8 * size
+enough items pieces size all few = let most = mul-le-mul_left size few in omega (arith, all, most)
+
+-- what holds of all elements holds of those of each part
+pub All-of_part : {X Y : Type 0} (P : Y → Type 0) (f : X → List Y) (xs : List X) (k : ℕ) (x : X) → k < length xs → x ≡ get_or xs k x → All P (flat_map f xs) → All P (f x)
+All-of_part P f xs k x lt at all =
+    subst (λ y. All P (f y)) (sym at)
+    (λ j d below. subst P (get_or-flat_map f xs k j x d lt below) (all (length (flat_map f (take k xs)) + j) d (omega (arith, below, length-flat_map-take f xs k x lt))))
+
+-- what holds of all holds of the last ones
+All-behind : {X : Type 0} (P : X → Type 0) (xs ys : List X) → All P (xs ++ ys) → All P ys
+All-behind P xs ys all k d lt = subst P (get_or-append-add xs ys k d) (all (length xs + k) d (omega (arith, lt, length-append xs ys)))
+
+-- what holds of the games of all blocks holds of those of some in a row
+pub All-of_sublist : (P : Game → Type 0) (items : List Item) (from count : ℕ) → All P (games_of items) → All P (games_of (take count (drop from items)))
+All-of_sublist P items from count all =
+    let games = games_of items in
+    let cut : games ≡ games_of (take (from + count) items) ++ games_of (drop (from + count) items) = ap games_of (sym (take-append-drop (from + count) items)) ∙ flat_map-append (λ (i : Item). i.block.now) (take (from + count) items) (drop (from + count) items) in
+    let front = All-before P (games_of (take (from + count) items)) (games_of (drop (from + count) items)) (subst (All P) cut all) in
+    All-behind P (games_of (take from items)) (games_of (take count (drop from items))) (subst (All P) (games_to_piece items from count) front)
+
+-- ---- the nodes of games
+
+-- the nodes of one game more
+pub nodes_more : (games : List Game) (k : ℕ) (game : Game) → k < length games → slice_get games k ≡ Some game → nodes_of (take (k + 1) games) ≡ nodes_of (take k games) + node_count game.tree
+nodes_more games k game lt at = sum_by_more (λ (g : Game). node_count g.tree) games k game lt ∙ ap (λ (g : Game). nodes_of (take k games) + node_count g.tree) (get_or_from_slice_get games k game game at)
+
+pub nodes_most : (games : List Game) (k : ℕ) → nodes_of (take k games) ≤ nodes_of games
+nodes_most games k = sum_by-take-le (λ (g : Game). node_count g.tree) games k
+
+-- the nodes of one block more
+pub block_nodes_more : (items : List Item) (k : ℕ) (i : Item) → k < length items → i ≡ get_or items k i → nodes_of (games_of (take (k + 1) items)) ≡ nodes_of (games_of (take k items)) + nodes_of i.block.now
+block_nodes_more items k i lt at = ap nodes_of (games_to_next items k i lt at) ∙ sum_by-append (λ (g : Game). node_count g.tree) (games_of (take k items)) i.block.now
+
+pub block_nodes_most : (items : List Item) (k : ℕ) → nodes_of (games_of (take k items)) ≤ nodes_of (games_of items)
+block_nodes_most items k =
+    let cut : games_of items ≡ games_of (take k items) ++ games_of (drop k items) = ap games_of (sym (take-append-drop k items)) ∙ flat_map-append (λ (i : Item). i.block.now) (take k items) (drop k items) in
+    let all = ap nodes_of cut ∙ sum_by-append (λ (g : Game). node_count g.tree) (games_of (take k items)) (games_of (drop k items)) in
+    omega (arith, all)
+
+module _ (query : Query) (filter : Filter) (shapes : List Shape) (items : List Item) where
+  -- ---- one block after another
+
+  -- the hits of the first so many blocks are added
+  abbrev pub so_far : ℕ → List Hit → List Hit → Type 0
+  so_far k old new = (first : ℕ) → AreNumberedFrom first items → AreCovered query shapes (games_of items) → AreHitsAdded (AreHitsFrom first query filter (games_of (take k items))) old new
+
+  pub so_far-none : (hits : List Hit) → so_far 0 hits hits
+  so_far-none hits first numbered covered = AreHitsFrom-none first query filter hits
+
+  pub so_far-more : (k : ℕ) (i : Item) (old mid new : List Hit) → k < length items → i ≡ get_or items k i → so_far k old mid → (AreCovered query shapes i.block.now → AreHitsAdded (AreHitsFrom i.first query filter i.block.now) mid new) → so_far (k + 1) old new
+  so_far-more k i old mid new lt at before added first numbered covered =
+      let number : i.first ≡ first + length (games_of (take k items)) = ap (λ (j : Item). j.first) at ∙ numbered k i lt in
+      let here = added (All-of_part (λ (g : Game). IsCovered query shapes g.tree.shape) (λ (j : Item). j.block.now) items k i lt at covered) in
+      subst (λ gs. AreHitsAdded (AreHitsFrom first query filter gs) old new) (sym (games_to_next items k i lt at))
+      (AreHitsAdded-parts first query filter old (games_of (take k items)) i.block.now mid new i.first number (before first numbered covered) here)
+
+  pub so_far-all : (k : ℕ) (old new : List Hit) → length items ≤ k → so_far k old new → AreItemHitsAdded query filter shapes items old new
+  so_far-all k old new all before first numbered covered = subst (λ is. AreHitsAdded (AreHitsFrom first query filter (games_of is)) old new) (take_all k items all) (before first numbered covered)
+
+  -- what is added to nothing
+  pub hits_alone : (hits : List Hit) (first : ℕ) → AreItemHitsAdded query filter shapes items [] hits → AreNumberedFrom first items → AreCovered query shapes (games_of items) → AreHitsFrom first query filter (games_of items) hits
+  hits_alone hits first are numbered covered = let added = are first numbered covered in subst (λ hs. AreHitsFrom first query filter (games_of items) hs) (sym added.added) added.are_hits
+
+-- the hits of the games that blocks have
+pub hits_of_items : (query : Query) (filter : Filter) (shapes : List Shape) (items : List Item) (first : ℕ) (games : List Game) (old new : List Hit) → AreItems first games items → AreCovered query shapes (games_of items) → old ≡ [] → AreItemHitsAdded query filter shapes items old new → AreHitsFrom first query filter games new
+hits_of_items query filter shapes items first games old new are covered none added =
+    subst (λ gs. AreHitsFrom first query filter gs new) are.has_games
+    (hits_alone query filter shapes items new first (subst (λ hs. AreItemHitsAdded query filter shapes items hs new) none added) are.numbered covered)

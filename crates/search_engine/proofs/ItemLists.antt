@@ -1,0 +1,83 @@
+-- Blocks of games in a row: one block more, and a piece of them.
+use Rattle.std.proofs.Common.{◌≡◌, ℕ, ◌+◌, ◌<◌, ◌≤◌, inl, inr, List, [], ◌∷◌, ◌++◌, append_assoc, drop, get_or, length, length-append, refl, take, sym, ap, ◌∙◌, subst, arith}
+use Rattle.std.proofs.Math.Seq.{get_or-append_seam, take-add, take-append_seam}
+use Rattle.std.proofs.lemmas.Bool.{cases_lt}
+use Rattle.std.proofs.lemmas.List.{append-nil, get_or-drop, get_or-take, get_or_append_left, length-drop, length-take, take-append-le, take-take, take_more}
+use Rattle.std.proofs.lemmas.List.Concat.{flat_map-append}
+use Rattle.std.proofs.lemmas.List.Folds.{length-flat_map-take}
+use Rattle.node_position.specs.Games.{Game}
+use Rattle.segment_store.specs.declared.block.NumberedBlock.{NumberedBlock}
+use Rattle.segment_store.specs.Blocks as segment
+use Rattle.search_engine.specs.declared.item.Item.{Item}
+use Rattle.search_engine.specs.Items.{AreItems, AreNumberedFrom, games_of}
+
+abbrev games_in : Item → List Game
+games_in i = i.block.now
+
+-- the games of one block more
+games_more : (items : List Item) (i : Item) → games_of (items ++ i ∷ []) ≡ games_of items ++ i.block.now
+games_more items i = flat_map-append games_in items (i ∷ []) ∙ ap (λ gs. games_of items ++ gs) (append-nil i.block.now)
+
+-- the games up to the next block
+pub games_to_next : (items : List Item) (k : ℕ) (i : Item) → k < length items → i ≡ get_or items k i → games_of (take (k + 1) items) ≡ games_of (take k items) ++ i.block.now
+games_to_next items k i lt at = ap games_of (take_more items k i lt) ∙ games_more (take k items) (get_or items k i) ∙ ap (λ (j : Item). games_of (take k items) ++ j.block.now) (sym at)
+
+-- no block
+pub AreItems-none : (first : ℕ) → AreItems first [] []
+AreItems-none first = record { has_games = refl; numbered = λ k d below. absurd (omega (arith, below)) }
+
+-- one block more
+pub AreItems-more : (first : ℕ) (games : List Game) (items : List Item) (i : Item) → AreItems first games items → i.first ≡ first + length games → AreItems first (games ++ i.block.now) (items ++ i ∷ [])
+AreItems-more first games items i are number = record {
+  has_games = games_more items i ∙ ap (λ gs. gs ++ i.block.now) are.has_games;
+  numbered = λ k d below. elim (cases_lt k (length items)) [
+    | inl lower ↦ ap (λ (j : Item). j.first) (get_or_append_left items (i ∷ []) d k lower) ∙ (are.numbered k d lower ∙ ap (λ (is : List Item). first + length (games_of is)) (sym (take-append-le k items (i ∷ []) (omega (arith, lower)))))
+    | inr upper ↦
+        let last : k ≡ length items = omega (arith, upper, below, length-append items (i ∷ [])) in
+        subst (λ n. (get_or (items ++ i ∷ []) n d).first ≡ first + length (games_of (take n (items ++ i ∷ [])))) (sym last)
+        (ap (λ (j : Item). j.first) (get_or-append_seam items i [] d) ∙ (number ∙ ap (λ gs. first + length gs) (sym are.has_games) ∙ ap (λ (is : List Item). first + length (games_of is)) (sym (take-append_seam items (i ∷ [])))))
+  ];
+}
+
+-- ---- the blocks of a segment
+
+module _ (blocks : List NumberedBlock) (n : ℕ) (p : NumberedBlock) (numbered : segment.AreNumbered blocks) (lt : n < length blocks) (at : p ≡ get_or blocks n p) where
+  number_before : p.first ≡ length (segment.games_in (take n blocks))
+  number_before = ap (λ (q : NumberedBlock). q.first) at ∙ numbered n p lt
+
+  -- a block lies within its segment
+  pub block_within : p.first + length (segment.games_of p) ≤ length (segment.games_in blocks)
+  block_within =
+      let long = length-flat_map-take segment.games_of blocks n p lt in
+      let same = ap (λ (q : NumberedBlock). length (segment.games_of q)) at in
+      omega (arith, number_before, long, same)
+
+  -- the next block behind other games
+  pub AreItems-block : (base first : ℕ) (games : List Game) (items : List Item) (i : Item) → first ≡ base + length games → AreItems base (games ++ segment.games_in (take n blocks)) items → i.first ≡ first + p.first → i.block.now ≡ segment.games_of p → AreItems base (games ++ segment.games_in (take (n + 1) blocks)) (items ++ i ∷ [])
+  AreItems-block base first games items i is so_far number same =
+      let before = segment.games_in (take n blocks) in
+      let next : segment.games_in (take (n + 1) blocks) ≡ before ++ i.block.now =
+      ap segment.games_in (take_more blocks n p lt) ∙ flat_map-append segment.games_of (take n blocks) (get_or blocks n p ∷ []) ∙ ap (λ gs. before ++ gs) (append-nil (segment.games_of (get_or blocks n p)))
+      ∙ ap (λ (q : NumberedBlock). before ++ segment.games_of q) (sym at) ∙ ap (λ gs. before ++ gs) (sym same) in
+      let all : games ++ segment.games_in (take (n + 1) blocks) ≡ (games ++ before) ++ i.block.now = ap (λ gs. games ++ gs) next ∙ sym (append_assoc games before i.block.now) in
+      subst (λ gs. AreItems base gs (items ++ i ∷ [])) (sym all)
+      (AreItems-more base (games ++ before) items i so_far (omega (arith, number, is, number_before, length-append games before)))
+
+  pub AreItems-pushed : (base first : ℕ) (games : List Game) (items new : List Item) (i : Item) → new ≡ items ++ i ∷ [] → first ≡ base + length games → AreItems base (games ++ segment.games_in (take n blocks)) items → i.first ≡ first + p.first → i.block.now ≡ segment.games_of p → AreItems base (games ++ segment.games_in (take (n + 1) blocks)) new
+  AreItems-pushed base first games items new i pushed is so_far number same = subst (λ (xs : List Item). AreItems base (games ++ segment.games_in (take (n + 1) blocks)) xs) (sym pushed) (AreItems-block base first games items i is so_far number same)
+
+-- ---- pieces of a list of blocks
+
+-- the games up to the end of a piece
+pub games_to_piece : (items : List Item) (n size : ℕ) → games_of (take (n + size) items) ≡ games_of (take n items) ++ games_of (take size (drop n items))
+games_to_piece items n size = ap games_of (take-add n size items) ∙ flat_map-append games_in (take n items) (take size (drop n items))
+
+-- a piece is numbered from the number of its first game on
+pub AreNumberedFrom-piece : (first : ℕ) (items : List Item) (n size : ℕ) → AreNumberedFrom first items → AreNumberedFrom (first + length (games_of (take n items))) (take size (drop n items))
+AreNumberedFrom-piece first items n size numbered k d below =
+    let short : k < size = omega (arith, below, length-take size (drop n items)) in
+    let inside : n + k < length items = omega (arith, below, length-take size (drop n items), length-drop n items) in
+    let here : get_or (take size (drop n items)) k d ≡ get_or items (n + k) d = get_or-take size (drop n items) k d short ∙ get_or-drop n items k d in
+    let parts : games_of (take (n + k) items) ≡ games_of (take n items) ++ games_of (take k (take size (drop n items))) = games_to_piece items n k ∙ ap (λ is. games_of (take n items) ++ games_of is) (sym (take-take k size (drop n items) (omega (arith, short)))) in
+    let long = ap length parts ∙ length-append (games_of (take n items)) (games_of (take k (take size (drop n items)))) in
+    ap (λ (i : Item). i.first) here ∙ (numbered (n + k) d inside ∙ omega (arith, long))

@@ -1,0 +1,8 @@
+-- Words that contracts of public functions rest on.
+pub mod Hits
+pub mod Nodes
+-- Words of private functions.
+pub mod ImagesMade
+pub mod Items
+pub mod Searching
+pub mod ShapePlaces

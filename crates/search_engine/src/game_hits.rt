@@ -1,0 +1,159 @@
+// The hits of a query in one game.
+ghost use Rattle.std.specs.Prelude.{◌≡◌, ◌↔◌, ◌+◌, ◌<◌, ◌≤◌, IsTrue, OnOk, length};
+ghost use Rattle.game_tree.specs.Tree.{node_count};
+ghost use Rattle.capture_board.specs.Deltas.{Deltas};
+ghost use Rattle.node_position.specs.Games.{AreNodeChanges};
+ghost use Rattle.pattern_images.specs.Placements.{ArePlacements};
+ghost use Rattle.pattern_images.specs.ImageList.{placement_at};
+ghost use Rattle.continuation_table.specs.Continuation.{HoldsAt};
+ghost use Rattle.line_matcher.specs.Occurrences.{occurrences_in};
+ghost use Rattle.pattern_images.specs.Query.{IsForBoard};
+ghost use Rattle.info_filter.specs.Filter.{Accepts};
+ghost use Rattle.search_engine.specs.Hits.{
+  AreGameHits,
+  AreHitsIn,
+  AreHitsOf,
+  IsHit,
+  LooksAt,
+};
+ghost use Rattle.search_engine.specs.Searching.{AreHitsAdded};
+
+use capture_board::{NodeDeltas, Steps, Walker};
+use continuation_table::next_below;
+use game_tree::GameTree;
+use info_filter::{Filter, accepts_known};
+use kb_geometry::NoMemory;
+use line_matcher::{Matcher, Occurrence, match_along};
+use pattern_images::{Hit, Images, Query};
+use segment_store::FinishedGame;
+use std::alloc::Global;
+use std::sync::ledger::Ledger;
+
+// Adds the hits of the game with this number, if the filter accepts it. The matcher is that of the
+// query's images on the game's board, on which the query looks.
+pub(crate) fn add_game<L: Ledger>(
+    alloc: Global,
+    query: &Query,
+    filter: &Filter,
+    number: u32,
+    game: &FinishedGame,
+    matcher: &Matcher,
+    walker: &mut Walker,
+    hits: &mut Vec<Hit>,
+    steps: &mut Steps<L>,
+) -> Result<(), NoMemory>
+    requires board { IsForBoard query.now game.now.tree.shape }
+    requires shape { matcher.now.images.now.shape ≡ game.now.tree.shape }
+    requires placements { ArePlacements query.now game.now.tree.shape
+        matcher.now.images.now.placements }
+    ensures hits { OnOk result (AreHitsAdded
+        (AreGameHits query.now filter.now number game.now.tree) hits.old.items hits.new.items) }
+    ensures ticks { steps.new ≤ steps.old + node_count game.now.tree }
+    ensures grows { steps.old ≤ steps.new }
+{
+    if !is_accepted(filter, game) {
+        return Ok(());
+    }
+    add_hits_in(alloc, query, number, game, matcher, walker, hits, steps)
+}
+
+// Whether a filter accepts a game, by what is kept beside its tree.
+fn is_accepted(filter: &Filter, game: &FinishedGame) -> bool
+    ensures { IsTrue result ↔ Accepts filter.now game.now.tree.info }
+{
+    accepts_known(filter, game.tree().info(), game.day(), game.outcome())
+}
+
+// Adds the hits in the game with this number, which is asked for.
+fn add_hits_in<L: Ledger>(
+    alloc: Global,
+    query: &Query,
+    number: u32,
+    game: &FinishedGame,
+    matcher: &Matcher,
+    walker: &mut Walker,
+    hits: &mut Vec<Hit>,
+    steps: &mut Steps<L>,
+) -> Result<(), NoMemory>
+    requires shape { matcher.now.images.now.shape ≡ game.now.tree.shape }
+    requires placements { ArePlacements query.now game.now.tree.shape
+        matcher.now.images.now.placements }
+    ensures hits { OnOk result (AreHitsAdded (AreHitsIn query.now number game.now.tree)
+        hits.old.items hits.new.items) }
+    ensures ticks { steps.new ≤ steps.old + node_count game.now.tree }
+    ensures grows { steps.old ≤ steps.new }
+{
+    if matcher.images.is_empty() {
+        let _changes = game.deltas();
+        return Ok(());
+    }
+    let deltas = game.deltas();
+    let found = match_along(alloc, deltas, matcher, walker, steps)?;
+    add_hits(query, number, game, deltas, matcher.images, &found, hits)
+}
+
+// Adds the hits of the occurrences in a game with these changes.
+fn add_hits(
+    query: &Query,
+    number: u32,
+    game: &FinishedGame,
+    deltas: &NodeDeltas,
+    images: &Images,
+    occurrences: &[Occurrence],
+    hits: &mut Vec<Hit>,
+) -> Result<(), NoMemory>
+    requires changes { AreNodeChanges game.now.tree deltas.now }
+    requires shape { images.now.shape ≡ game.now.tree.shape }
+    requires occurrences { occurrences.now ≡ occurrences_in deltas.now images.now.placements }
+    ensures { OnOk result (AreHitsAdded
+        (AreHitsOf query.now number game.now.tree deltas.now images.now.placements
+        occurrences.now)
+        hits.old.items hits.new.items) }
+{
+    for occurrence in occurrences {
+        if looks_at(query, game.tree(), occurrence.node) {
+            hits.push(hit_of(number, game, deltas, images, *occurrence))?;
+        }
+    }
+    Ok(())
+}
+
+// Whether the query looks at a node.
+fn looks_at(query: &Query, tree: &GameTree, node: u32) -> bool
+    requires { node < node_count tree.now }
+    ensures { IsTrue result ↔ LooksAt query.now tree.now node }
+{
+    if query.main && !tree.is_main(node) {
+        return false;
+    }
+    let moves = tree.move_number(node);
+    query.from_move <= moves && moves <= query.to_move
+}
+
+// The hit of an occurrence in the game with this number and these changes.
+fn hit_of(
+    number: u32,
+    game: &FinishedGame,
+    deltas: &NodeDeltas,
+    images: &Images,
+    occurrence: Occurrence,
+) -> Hit
+    requires changes { AreNodeChanges game.now.tree deltas.now }
+    requires shape { images.now.shape ≡ game.now.tree.shape }
+    requires node { occurrence.node < node_count game.now.tree }
+    requires placement { occurrence.placement < length images.now.placements }
+    requires holds { HoldsAt deltas.now
+        (placement_at images.now.placements occurrence.placement) occurrence.node }
+    ensures { IsHit number game.now.tree deltas.now images.now.placements occurrence result }
+{
+    let Occurrence { node, placement } = occurrence;
+    let placement = placement as usize;
+    Hit {
+        game: number,
+        node,
+        place: images.place(placement),
+        moves: game.tree().move_number(node),
+        outcome: game.outcome(),
+        next: next_below(game.tree(), deltas, images, placement, node),
+    }
+}

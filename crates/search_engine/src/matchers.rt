@@ -1,0 +1,142 @@
+// What is looked for on each board: the images of a query are made once for each shape of a board,
+// and read by all pieces of a search.
+ghost use Rattle.std.specs.Prelude.{
+  ◌≡◌,
+  ◌<◌,
+  ◌≤◌,
+  [],
+  ◌∷◌,
+  All,
+  Contains,
+  IfNone,
+  IfOk,
+  IfSome,
+  OnOk,
+  length,
+  map,
+};
+ghost use Rattle.pattern_images.specs.Placements.{ArePlacements};
+ghost use Rattle.pattern_images.specs.Query.{IsForBoard};
+ghost use Rattle.search_engine.specs.ImagesMade.{AreImagesOf};
+
+use crate::shape_list::ShapeList;
+use kb_geometry::{NoMemory, Shape};
+use line_matcher::Matcher;
+use pattern_images::{Images, Query, images};
+use std::alloc::Global;
+use std::marker::Model;
+
+// The images of a query on boards of several shapes, on which it looks.
+#[derive(Debug, Drop)]
+pub(crate) struct QueryImages<'a> {
+    query: &'a Query,
+    shapes: ShapeList,
+    images: Vec<Images>,
+}
+
+impl<'a> Model for QueryImages<'a> {
+    ghost use Rattle.search_engine.specs.ImagesMade.{AreImagesOf, QueryOnShapes};
+
+    ghost Value = { QueryOnShapes };
+
+    ghost view = { λ q. record { query = q.query.now; shapes = q.shapes } };
+
+    ghost invariant = { λ q. AreImagesOf q.query.now q.shapes q.images.items };
+}
+
+impl<'a> QueryImages<'a> {
+    // The images on boards of each of these shapes.
+    pub(crate) fn of(
+        alloc: Global,
+        query: &'a Query,
+        shapes: ShapeList,
+    ) -> Result<QueryImages<'a>, NoMemory>
+        requires { All (IsForBoard query.now) shapes }
+        ensures { IfOk result (λ made. made ≡ record { query = query.now; shapes = shapes }) }
+    {
+        let images = images_on(alloc, query, shapes.as_slice())?;
+        Ok(QueryImages {
+            query,
+            shapes,
+            images,
+        })
+    }
+}
+
+// The images of a query on boards of each of these shapes, in their order.
+fn images_on(alloc: Global, query: &Query, shapes: &[Shape]) -> Result<Vec<Images>, NoMemory>
+    requires { All (IsForBoard query.now) shapes.now }
+    ensures { IfOk result (λ made. AreImagesOf query.now shapes.now made.items) }
+{
+    let mut made = Vec::new(alloc);
+    for shape in shapes {
+        made.push(images(alloc, query, *shape)?)?;
+    }
+    Ok(made)
+}
+
+// The same, made ready to be looked for.
+#[derive(Debug, Drop)]
+pub(crate) struct Matchers<'a> {
+    query: &'a Query,
+    shapes: &'a ShapeList,
+    matchers: Vec<Matcher<'a>>,
+}
+
+impl<'a> Model for Matchers<'a> {
+    ghost use Rattle.std.specs.Prelude.{map};
+    ghost use Rattle.search_engine.specs.ImagesMade.{AreImagesOf, QueryOnShapes};
+
+    ghost Value = { QueryOnShapes };
+
+    ghost view = { λ q. record { query = q.query.now; shapes = q.shapes.now } };
+
+    ghost invariant = { λ q. AreImagesOf q.query.now q.shapes.now
+        (map (λ m. m.images.now) q.matchers.items) };
+}
+
+impl<'a> Matchers<'a> {
+    // Makes images ready.
+    pub(crate) fn of(alloc: Global, images: &'a QueryImages<'a>) -> Result<Matchers<'a>, NoMemory>
+        ensures { IfOk result (λ made. made ≡ images.now) }
+    {
+        let matchers = matchers_of(alloc, images.images.as_slice())?;
+        Ok(Matchers {
+            query: images.query,
+            shapes: &images.shapes,
+            matchers,
+        })
+    }
+
+    // The query.
+    pub(crate) fn query(&self) -> &Query
+        ensures { result.now ≡ self.now.query }
+    {
+        self.query
+    }
+
+    // The matcher for boards of this shape, if there is one.
+    pub(crate) fn find(&self, shape: Shape) -> Option<&Matcher<'a>>
+        ensures shape { IfSome result (λ found. found.now.images.now.shape ≡ shape) }
+        ensures asked { IfSome result (λ found. IsForBoard self.now.query shape) }
+        ensures placements { IfSome result (λ found.
+            ArePlacements self.now.query shape found.now.images.now.placements) }
+        ensures none { IfNone result (¬ Contains self.now.shapes shape) }
+    {
+        match self.shapes.find(shape) {
+            Some(place) => Some(&self.matchers[place]),
+            None => None,
+        }
+    }
+}
+
+// The images made ready, in their order.
+fn matchers_of<'a>(alloc: Global, images: &'a [Images]) -> Result<Vec<Matcher<'a>>, NoMemory>
+    ensures { IfOk result (λ made. map (λ m. m.images.now) made.items ≡ images.now) }
+{
+    let mut made = Vec::new(alloc);
+    for on_shape in images {
+        made.push(Matcher::new(alloc, on_shape)?)?;
+    }
+    Ok(made)
+}

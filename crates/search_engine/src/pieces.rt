@@ -1,0 +1,138 @@
+// A search in pieces, side by side.
+ghost use Rattle.std.specs.Prelude.{◌≡◌, ◌≤◌, ◌<◌, ◌*◌, ◌++◌, [], IfOk, OnOk, length};
+ghost use Rattle.search_engine.specs.Hits.{AreHits};
+ghost use Rattle.search_engine.specs.Items.{AreNumberedFrom, games_of};
+ghost use Rattle.search_engine.specs.Searching.{
+  AreAllPieces,
+  AreCovered,
+  AreItemHitsAdded,
+  IsPieceAdded,
+};
+
+use crate::item::Item;
+use crate::matchers::Matchers;
+use crate::search_items::add_items_hits;
+use capture_board::Steps;
+use info_filter::Filter;
+use kb_geometry::NoMemory;
+use pattern_images::Hit;
+use std::alloc::Global;
+use std::cmp::{max, min};
+use std::marker::Brand;
+use std::sync::ledger::{Blank, Ledger};
+use std::thread;
+use std::thread::Threads;
+
+// A search works in at most so many pieces, and in one piece for each so many games.
+const MAX_PIECES: usize = 8;
+
+const GAMES_OF_A_PIECE: usize = 128;
+
+// The hits of the games of blocks that a filter accepts. The games are numbered from 0. Where they
+// are few, no thread is started.
+pub(crate) fn hits_of<R: Threads + Sync>(
+    rt: &R,
+    alloc: Global,
+    matchers: &Matchers,
+    filter: &Filter,
+    items: &[Item],
+    games: usize,
+) -> Result<Vec<Hit>, NoMemory>
+    requires numbered { AreNumberedFrom 0 items.now }
+    requires covered { AreCovered matchers.now.query matchers.now.shapes
+        (games_of items.now) }
+    ensures { IfOk result (λ hits. AreHits matchers.now.query filter.now (games_of items.now)
+        hits.items) }
+{
+    let size = piece_size(items.len(), games);
+    if items.len() <= size {
+        return piece_hits(alloc, matchers, filter, items);
+    }
+    let pieces = thread::map_chunks(
+        rt,
+        alloc,
+        items,
+        size,
+        &|_, chunk| { piece_hits(alloc, matchers, filter, chunk) },
+    )?;
+    joined(alloc, matchers, filter, items, size, pieces)
+}
+
+// How many blocks a piece has, for a search over so many blocks and games.
+pub(crate) fn piece_size(items: usize, games: usize) -> usize
+    ensures some { 0 < result }
+    ensures few_pieces { items ≤ 8 * result }
+{
+    let pieces = max(1, min(games.div_ceil(GAMES_OF_A_PIECE), MAX_PIECES));
+    max(1, items.div_ceil(pieces))
+}
+
+// The hits of the games of some blocks, with a count of steps of its own.
+fn piece_hits(
+    alloc: Global,
+    matchers: &Matchers,
+    filter: &Filter,
+    items: &[Item],
+) -> Result<Vec<Hit>, NoMemory>
+    ensures { IfOk result (λ hits. AreItemHitsAdded matchers.now.query filter.now
+        matchers.now.shapes items.now [] hits.items) }
+{
+    counted_hits::<Brand>(alloc, matchers, filter, items, Blank::new(1))
+}
+
+// The same, where the count begins with this blank.
+fn counted_hits<L: Ledger>(
+    alloc: Global,
+    matchers: &Matchers,
+    filter: &Filter,
+    items: &[Item],
+    blank: Blank,
+) -> Result<Vec<Hit>, NoMemory>
+    requires name { blank.name ≡ L.name }
+    requires parts { blank.parts ≡ L.parts }
+    requires some { 0 < blank.parts }
+    ensures { IfOk result (λ hits. AreItemHitsAdded matchers.now.query filter.now
+        matchers.now.shapes items.now [] hits.items) }
+{
+    let mut steps = Steps::<L>::new(blank);
+    let mut hits = Vec::new(alloc);
+    add_items_hits(alloc, matchers, filter, items, &mut hits, &mut steps)?;
+    Ok(hits)
+}
+
+// The hits of all pieces in one list. The pieces are those of chunks of so many blocks.
+fn joined(
+    alloc: Global,
+    matchers: &Matchers,
+    filter: &Filter,
+    items: &[Item],
+    size: usize,
+    pieces: Vec<Result<Vec<Hit>, NoMemory>>,
+) -> Result<Vec<Hit>, NoMemory>
+    requires numbered { AreNumberedFrom 0 items.now }
+    requires covered { AreCovered matchers.now.query matchers.now.shapes
+        (games_of items.now) }
+    requires pieces { AreAllPieces matchers.now.query filter.now matchers.now.shapes
+        items.now size pieces.items }
+    ensures { IfOk result (λ hits. AreHits matchers.now.query filter.now (games_of items.now)
+        hits.items) }
+{
+    let mut hits = Vec::new(alloc);
+    for piece in pieces {
+        add_piece(piece, &mut hits)?;
+    }
+    Ok(hits)
+}
+
+// Moves the hits of a piece behind others, unless memory ran out at the piece.
+fn add_piece(piece: Result<Vec<Hit>, NoMemory>, hits: &mut Vec<Hit>) -> Result<(), NoMemory>
+    ensures { OnOk result (IsPieceAdded piece hits.old.items hits.new.items) }
+{
+    match piece {
+        Ok(mut more) => {
+            hits.append(&mut more)?;
+            Ok(())
+        }
+        Err(error) => Err(error),
+    }
+}

@@ -1,0 +1,78 @@
+// A search over a version, and over one part of it.
+ghost use Rattle.std.specs.Prelude.{◌≡◌, ◌≤◌, ◌+◌, ◌*◌, ◌<◌, IfOk, length};
+ghost use Rattle.version_publisher.specs.Contents.{items_in};
+ghost use Rattle.continuation_table.specs.Table.{IsTable};
+ghost use Rattle.search_engine.specs.Hits.{AreHits, AreHitsFrom};
+ghost use Rattle.search_engine.specs.Nodes.{nodes_of};
+
+use crate::answer::Answer;
+use crate::items::{items_of_part, items_of_version};
+use crate::matchers::{Matchers, QueryImages};
+use crate::pieces::hits_of;
+use crate::search_items::add_items_hits;
+use crate::shapes::shapes_of;
+use crate::version_games::game_count;
+use capture_board::Steps;
+use continuation_table::Table;
+use info_filter::Filter;
+use kb_geometry::NoMemory;
+use pattern_images::{Hit, Query};
+use segment_store::Segment;
+use std::alloc::Global;
+use std::sync::ledger::Ledger;
+use std::thread::Threads;
+use version_publisher::Version;
+
+/// The hits of a query in the games of a version that a filter accepts, and their table. The games
+/// are numbered from 0. Hits stand by game, then by node, then in the order of the placements.
+///
+/// The games are searched in at most eight pieces, side by side where threads can be had. The only
+/// error is `NoMemory`.
+pub fn search<R: Threads + Sync>(
+    rt: &R,
+    alloc: Global,
+    version: &Version<Segment>,
+    query: &Query,
+    filter: &Filter,
+) -> Result<Answer, NoMemory>
+    ensures hits { IfOk result (λ answer.
+        AreHits query.now filter.now (items_in version.now.parts) answer.hits.items) }
+    ensures table { IfOk result (λ answer. IsTable answer.hits.items answer.table) }
+{
+    let items = items_of_version(alloc, version)?;
+    let shapes = shapes_of(alloc, query, &items)?;
+    let images = QueryImages::of(alloc, query, shapes)?;
+    let matchers = Matchers::of(alloc, &images)?;
+    let games = game_count(version) as usize;
+    let hits = hits_of(rt, alloc, &matchers, filter, &items, games)?;
+    let table = Table::of(alloc, &hits)?;
+    Ok(Answer { hits, table })
+}
+
+/// The hits of a query in the games of one part that a filter accepts. The games are numbered from
+/// `first`.
+///
+/// Together at most 400,000 games are numbered. The count of steps only grows, by at most the
+/// number of all nodes of these games. The only error is `NoMemory`.
+pub fn search_segment<L: Ledger>(
+    alloc: Global,
+    part: &Segment,
+    first: u32,
+    query: &Query,
+    filter: &Filter,
+    steps: &mut Steps<L>,
+) -> Result<Vec<Hit>, NoMemory>
+    requires { first + length part.now ≤ 400000 }
+    ensures hits { IfOk result (λ hits.
+        AreHitsFrom first query.now filter.now part.now hits.items) }
+    ensures ticks { steps.new ≤ steps.old + nodes_of part.now }
+    ensures grows { steps.old ≤ steps.new }
+{
+    let items = items_of_part(alloc, part, first)?;
+    let shapes = shapes_of(alloc, query, &items)?;
+    let images = QueryImages::of(alloc, query, shapes)?;
+    let matchers = Matchers::of(alloc, &images)?;
+    let mut hits = Vec::new(alloc);
+    add_items_hits(alloc, &matchers, filter, &items, &mut hits, steps)?;
+    Ok(hits)
+}

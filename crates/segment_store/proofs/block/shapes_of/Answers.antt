@@ -1,0 +1,15 @@
+use Rattle.std.proofs.Common.{ap, map, subst, ◌∙◌, arith}
+use Rattle.std.proofs.lemmas.List.{take_all}
+use Rattle.std.specs.Arc.{arc_value}
+use Rattle.segment_store.specs.BoardShapes.{HaveShapes}
+use Rattle.segment_store.proofs.ShapesOfGames.{HaveShapes-more}
+use Rattle.segment_store.proofs.block.shapes_of.Goals as goal
+
+pub loop-game-preserved : goal.loop-game-preserved
+loop-game-preserved c =
+    HaveShapes-more arc_value c.args.games.now c.loop-game.game-index c.game-item.result c.shape.result c.loop-game.shapes.items c.add_shape.new.shapes.items c.loop-game-test.true c.game-item.is
+    (c.shape.ensures.value ∙ ap (λ t. t.shape) c.tree.ensures ∙ ap (λ g. g.tree.shape) c.deref.ensures) c.loop-game.invariant c.in_ok-add_shape.ensures
+
+pub returns : goal.returns
+returns c =
+    subst (λ games. HaveShapes (map arc_value games) c.loop-game.shapes.items) (take_all c.loop-game.game-index c.args.games.now (omega (arith, c.loop-game-test.false))) c.loop-game.invariant
