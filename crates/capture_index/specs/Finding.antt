@@ -14,6 +14,7 @@ use Rattle.capture_index.specs.Runs.{cell_by}
 use Rattle.capture_index.specs.Lists.{is_many, runs_of}
 use Rattle.capture_index.specs.Stretches.{IsIn, is_wanted, no_want}
 
+-- the word past the last point
 abbrev pub no_time : Time
 no_time = record { word = 0 }
 

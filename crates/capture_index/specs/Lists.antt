@@ -19,6 +19,7 @@ IsInFirst count stretches n = (k : ℕ) × (d : Stretch) × (k < count) ×
 abbrev pub list_start : List ℕ → ℕ → ℕ
 list_start ends k = if k == 0 then 0 else slice_index_or ends (k - 1) 0
 
+-- the list with a number
 abbrev pub list_in : List ℕ → List Run → ℕ → List Run
 list_in ends runs k = slice_range runs (list_start ends k) (slice_index_or ends k 0)
 

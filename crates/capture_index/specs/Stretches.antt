@@ -32,6 +32,7 @@ is_wanted want stone.Empty = want.empty
 is_wanted want stone.Black = want.black
 is_wanted want stone.White = want.white
 
+-- a want of no cell
 abbrev pub no_want : Want
 no_want = record { offset = 0; empty = false; black = false; white = false }
 

@@ -1,6 +1,6 @@
 //! For each point of a game the runs of nodes, in order of the text, at which it has one cell.
 //!
-//! Stands on node_paths, kb_geometry, kb_bits and capture_board. A search asks runs in place of
+//! Stands on node_paths, kb_geometry and capture_board. A search asks runs in place of
 //! replaying the positions of a game.
 #![tactic(auto)]
 

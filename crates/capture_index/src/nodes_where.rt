@@ -33,9 +33,8 @@ impl<'a> Model for NodesWhere<'a> {
 }
 
 impl RunIndex {
-    /// The nodes, ascending, at which a point has a cell, and which are the root or whose parent
-    /// has
-    /// another cell there.
+    /// The nodes, ascending, at which a point has a cell, and which are the root or have a parent
+    /// with another cell there.
     pub fn nodes_where(&self, point: u16, cell: Cell) -> NodesWhere<'_>
         requires { point < point_count self.now.shape }
         ensures { result ≡ nodes_where self.now point cell 0 }

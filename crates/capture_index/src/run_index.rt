@@ -94,8 +94,9 @@ impl RunIndex {
         next_branch(self.packed.branches(), node, self.packed.node_count())
     }
 
-    /// Finds the nodes at which each wanted cell is there, as stretches, the latest first. `spare`
-    /// is room for work; what was in both lists before is gone. The only error is `NoMemory`.
+    /// Finds the nodes at which each wanted cell is there, as stretches, the latest first. What was
+    /// in `found` before is gone. `spare` is room for work, and holds nothing that counts. The only
+    /// error is `NoMemory`.
     pub fn find(
         &self,
         base: u16,
@@ -114,7 +115,8 @@ impl RunIndex {
     }
 
     /// Adds the nodes of the stretches that are the root, or whose parent isn't in them; some
-    /// perhaps twice, in no order. The only error is `NoMemory`.
+    /// perhaps twice, in no order. The stretches end within the nodes. The only error is
+    /// `NoMemory`.
     pub fn push_begins(&self, stretches: &[Stretch], nodes: &mut Vec<u32>) -> Result<(), NoMemory>
         requires { All (λ (s : Stretch). s.to ≤ count_in self.now) stretches.now }
         ensures { OnOk result ((x : ℕ) → Contains nodes.new.items x ↔

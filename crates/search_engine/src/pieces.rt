@@ -23,9 +23,11 @@ use std::sync::ledger::{Blank, Ledger};
 use std::thread;
 use std::thread::Threads;
 
-// A search works in at most so many pieces, and in one piece for each so many games.
+// The most pieces of a search.
 const MAX_PIECES: usize = 8;
 
+// A version of at most so many games is searched in one piece, one of at most twice as many in two,
+// and so on.
 const GAMES_OF_A_PIECE: usize = 128;
 
 // The hits of the games of blocks that a filter accepts. The games are numbered from 0. Where they

@@ -143,8 +143,15 @@ fn one_base_in_many_parts_has_equal_hits(rt: HostRuntime) -> Result<(), Fail> {
 #[test]
 fn eight_pieces(rt: HostRuntime) -> Result<(), Fail> {
     let alloc = rt.alloc();
-    let version = version_of(&rt, alloc, &[700, 701, 1200])?;
-    expect_turns(&rt, alloc, &version, 1200)
+    let version = version_of(&rt, alloc, &[1_024])?;
+    expect_turns(&rt, alloc, &version, 1_024)
+}
+
+#[test]
+fn seven_pieces_of_three_parts(rt: HostRuntime) -> Result<(), Fail> {
+    let alloc = rt.alloc();
+    let version = version_of(&rt, alloc, &[700, 701, 1_200])?;
+    expect_turns(&rt, alloc, &version, 1_200)
 }
 
 #[test]

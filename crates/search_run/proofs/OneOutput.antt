@@ -1,4 +1,4 @@
--- On one thread statements by which nothing is lost have one lawful output alone.
+-- In a serial run statements by which nothing is lost have one lawful output alone.
 use Rattle.std.proofs.Common.{◌≡◌, ℕ, ◌+◌, Bool, true, false, cond, List, [], ◌∷◌, ◌++◌, length, refl, sym, ap, ◌∙◌, subst, arith}
 use Rattle.std.specs.Prelude.{IsTrue, max}
 use Rattle.kb_edges.specs.Files.{File}

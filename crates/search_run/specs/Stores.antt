@@ -1,4 +1,4 @@
--- The games of an import as they are stored, for the import's private functions.
+-- What an import adds to a version, and how much it may add: words of the private functions.
 use Rattle.std.specs.Prelude.{◌≡◌, ◌+◌, ◌≤◌, ◌++◌, length, List}
 use Rattle.node_position.specs.Games.{Game}
 use Rattle.version_publisher.specs.declared.state.VersionState.{VersionState}

@@ -39,7 +39,9 @@ impl Model for Block {
 /// A block of a segment, and the number that its first game has there, from 0.
 #[derive(Debug, Drop)]
 pub struct NumberedBlock {
+    /// The number of its first game.
     pub first: u32,
+    /// Its games.
     pub block: Arc<Block>,
 }
 

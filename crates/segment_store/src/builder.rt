@@ -102,7 +102,7 @@ impl SegmentBuilder {
         Ok(())
     }
 
-    /// The segment of these games.
+    /// The segment of these games. The only error is `NoMemory`, and then nothing comes back.
     pub fn finish(self, alloc: Global) -> Result<Segment, NoMemory>
         ensures { IfOk result (λ segment. segment ≡ self) }
     {

@@ -80,6 +80,7 @@ impl FinishedGame {
         self.place
     }
 
+    /// Its tree.
     pub fn tree(&self) -> &GameTree
         ensures { result.now ≡ self.now.tree }
     {

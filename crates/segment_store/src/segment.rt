@@ -181,6 +181,7 @@ impl Segment {
 }
 
 /// The games of the first, then those of the second: together at most 400,000. No game is copied.
+/// The only error is `NoMemory`.
 pub fn merge(alloc: Global, a: &Segment, b: &Segment) -> Result<Segment, NoMemory>
     requires { length a.now + length b.now ≤ 400000 }
     ensures { IfOk result (λ merged. merged ≡ a.now ++ b.now) }

@@ -10,8 +10,8 @@ use segment_store::FinishedGame;
 use std::alloc::Global;
 use std::thread::Threads;
 
-// The canonical forms of the signatures of games, in their order, from as many threads as there are
-// processors. The only error is `NoMemory`.
+// The canonical forms of the signatures of games, in their order, by several threads. The only error
+// is `NoMemory`.
 pub(crate) fn canonical_forms<R: Threads + Sync>(
     rt: &R,
     alloc: Global,
