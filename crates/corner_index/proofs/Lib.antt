@@ -1,0 +1,5 @@
+pub mod CornerNumbers
+pub mod KeyParts
+pub mod NodeNumbers
+pub mod Sums
+pub mod ToldKeys
