@@ -1,6 +1,6 @@
 //! The exact numbers that the corners of a board had in a game.
 //!
-//! Stands on node_paths, kb_geometry, kb_bits and capture_board. The layer above uses that
+//! Stands on node_paths, kb_geometry and capture_board. The layer above uses that
 //! [`CornerKeys::has`] is exact over all nodes, so that a game in which a wanted corner never
 //! stands need not be searched.
 #![tactic(auto)]
