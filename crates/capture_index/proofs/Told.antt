@@ -147,9 +147,9 @@ module _ (packed : PackedRuns) (seen : NodePositions) (is : seen_by packed ≡ s
   pub apart-seen : (found : List Stretch) → AreApart 0 packed.nodes found → AreApart 0 (count_in seen) found
   apart-seen found apart = subst (λ (n : ℕ). AreApart 0 n found) nodes-seen apart
 
-  pub begun-seen : (stretches : List Stretch) (before after : List ℕ) → All (λ (s : Stretch). s.to ≤ count_in seen) stretches → HasBegun packed.branches.items stretches before after → (x : ℕ) → Contains after x ↔ (Contains before x ⊎ BeginsIn seen stretches x)
-  begun-seen stretches before after within begun x =
-      let same = begins-packed packed stretches x (λ k d lt. omega (arith, within k d lt, nodes-seen)) in
+  pub begun-seen : (stretches : List Stretch) (before after : List ℕ) → AreApart 0 (count_in seen) stretches → HasBegun packed.branches.items stretches before after → (x : ℕ) → Contains after x ↔ (Contains before x ⊎ BeginsIn seen stretches x)
+  begun-seen stretches before after apart begun x =
+      let same = begins-packed packed stretches x (λ k d lt. let each = apart.each k d lt in omega (arith, each.2, nodes-seen)) in
       subst (λ (s : NodePositions). Contains after x ↔ (Contains before x ⊎ BeginsIn s stretches x)) is (
         λ h. elim ((begun x).0 h) [ inl old ↦ inl old | inr b ↦ inr (same.0 b) ],
         λ h. (begun x).1 (elim h [ inl old ↦ inl old | inr b ↦ inr (same.1 b) ]),

@@ -1,6 +1,7 @@
 -- Words that contracts of public functions rest on.
 pub mod NodePositions
 pub mod Stretches
+pub mod Wants
 -- Words of private functions.
 pub mod Begins
 pub mod Branches
@@ -11,3 +12,4 @@ pub mod Lists
 pub mod Packing
 pub mod Runs
 pub mod Seen
+pub mod StoredWants

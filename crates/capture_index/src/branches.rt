@@ -42,7 +42,7 @@ pub(crate) fn next_branch(branches: &[Branch], node: u32, nodes: u32) -> u32
 }
 
 // How many branches are at nodes before this one.
-fn first_at(branches: &[Branch], node: u32) -> usize
+pub(crate) fn first_at(branches: &[Branch], node: u32) -> usize
     requires { AreAscending branches.now }
     ensures { IsFirstAt branches.now node result }
 {

@@ -2,7 +2,7 @@
 ghost use Rattle.std.specs.Prelude.{◌≡◌, ◌+◌, ◌<◌, ◌≤◌, ◌↔◌, ◌⊎◌, ℕ, All, IsTrue, OnOk, length};
 ghost use Rattle.capture_index.specs.declared.stretch.Want.{Want};
 ghost use Rattle.kb_geometry.specs.Board.{point_count};
-ghost use Rattle.capture_index.specs.Begins.{HasBegun};
+ghost use Rattle.capture_index.specs.Begins.{AreFalling, HasBegun};
 ghost use Rattle.capture_index.specs.Finding.{AreMet, IsBoundTo, IsCutAt, IsCutBy, time_at};
 ghost use Rattle.capture_index.specs.Lists.{IsNarrowed};
 ghost use Rattle.capture_index.specs.Stretches.{AreApart, IsIn};
@@ -44,13 +44,13 @@ impl PackedRuns {
         Ok(())
     }
 
-    // Adds the nodes of the stretches that are the root, or whose parent isn't in them; some
-    // perhaps twice.
+    // Adds the nodes of the stretches that are the root, or whose parent isn't in them.
     pub(crate) fn push_begins(
         &self,
         stretches: &[Stretch],
         nodes: &mut Vec<u32>,
     ) -> Result<(), NoMemory>
+        requires { AreFalling stretches.now }
         ensures { OnOk result (HasBegun self.now.branches.items stretches.now nodes.old.items
             nodes.new.items) }
     {

@@ -1,5 +1,5 @@
 // The runs of a game as they are kept.
-ghost use Rattle.std.specs.Prelude.{◌≡◌, ◌<◌, All, length};
+ghost use Rattle.std.specs.Prelude.{◌≡◌, ◌<◌, ◌≤◌, All, length};
 ghost use Rattle.kb_geometry.specs.Board.{point_count};
 ghost use Rattle.capture_index.specs.declared.run.Branch.{Branch};
 ghost use Rattle.capture_index.specs.Branches.{AreAscending};
@@ -22,10 +22,12 @@ pub(crate) struct PackedRuns {
     pub(crate) runs: Vec<Run>,
     // By node ascending.
     pub(crate) branches: Vec<Branch>,
+    ghost few: { nodes ≤ 65536 },
     ghost points: { length times.items ≡ point_count shape },
     ghost lists: { AreLists ends.items runs.items },
     ghost ascending: { AreAscending branches.items },
     ghost above: { All (λ (b : Branch). b.parent < b.node) branches.items },
+    ghost within: { All (λ (b : Branch). b.node < nodes) branches.items },
     ghost words: { All (IsWord ends.items) times.items },
 }
 
@@ -37,7 +39,8 @@ impl PackedRuns {
     }
 
     pub(crate) fn node_count(&self) -> u32
-        ensures { result ≡ self.now.nodes }
+        ensures value { result ≡ self.now.nodes }
+        ensures most { result ≤ 65536 }
     {
         self.nodes
     }

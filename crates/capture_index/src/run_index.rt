@@ -53,9 +53,17 @@ impl RunIndex {
 
     /// How many nodes there are.
     pub fn node_count(&self) -> u32
-        ensures { result ≡ count_in self.now }
+        ensures value { result ≡ count_in self.now }
+        ensures most { result ≤ 65536 }
     {
         self.packed.node_count()
+    }
+
+    /// How many nodes don't follow the node before them in the text, but an earlier one.
+    pub fn branch_count(&self) -> usize
+        ensures { result ≤ count_in self.now }
+    {
+        self.packed.branches().len()
     }
 
     /// The cell of a point at a node.
@@ -115,10 +123,10 @@ impl RunIndex {
     }
 
     /// Adds the nodes of the stretches that are the root, or whose parent isn't in them; some
-    /// perhaps twice, in no order. The stretches end within the nodes. The only error is
-    /// `NoMemory`.
+    /// perhaps twice, in no order. The stretches stand apart, as those of [`Self::find`] do. The
+    /// only error is `NoMemory`.
     pub fn push_begins(&self, stretches: &[Stretch], nodes: &mut Vec<u32>) -> Result<(), NoMemory>
-        requires { All (λ (s : Stretch). s.to ≤ count_in self.now) stretches.now }
+        requires { AreApart 0 (count_in self.now) stretches.now }
         ensures { OnOk result ((x : ℕ) → Contains nodes.new.items x ↔
             (Contains nodes.old.items x ⊎ BeginsIn self.now stretches.now x)) }
     {

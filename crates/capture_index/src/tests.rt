@@ -2,6 +2,7 @@
 ghost use Rattle.std.specs.Prelude.{◌≡◌, ◌<◌};
 
 mod made;
+mod wanted;
 
 use crate::{RunIndex, Stretch, Want};
 use kb_geometry::Cell;
@@ -177,6 +178,7 @@ fn variations(rt: HostRuntime) -> Result<(), Fail> {
         &index,
         &[None, Some(0), Some(1), Some(1), Some(0), Some(0), Some(5)],
     );
+    assert_eq!(rt; index.branch_count(), 3);
     expect_cells(
         &rt,
         &index,

@@ -1,6 +1,6 @@
 -- The corners of a board, and the number that tells the cells of a corner.
 use Prim.Native.Nat.{zero}
-use Rattle.std.specs.Prelude.{◌≡◌, ℕ, suc, ◌+◌, ◌*◌, ◌^◌, ◌<◌, ◌≤◌, List, [], slice_index_or}
+use Rattle.std.specs.Prelude.{◌≡◌, ℕ, suc, ◌+◌, ◌*◌, ◌^◌, ◌<◌, ◌≤◌, ◌↔◌, List, [], slice_index_or, Contains}
 use Rattle.kb_geometry.specs.declared.shape.Shape.{Shape}
 use Rattle.kb_geometry.specs.declared.stone.Cell.{Cell}
 use Rattle.kb_geometry.specs.declared.stone.Cell.TheVariants as cell
@@ -49,3 +49,8 @@ keys_of keys corner = slice_index_or keys corner []
 abbrev pub HadNumber : Deltas → ℕ → ℕ → Type 0
 HadNumber deltas corner key = HasCorners deltas.shape × ((n : ℕ) × (n < node_count deltas)
     × (corner_number corner deltas.shape (position_at deltas n) ≡ key))
+
+-- the numbers are exactly those that each corner had
+abbrev pub AreNumbersOfGame : Deltas → List (List ℕ) → Type 0
+AreNumbersOfGame deltas keys = (corner : ℕ) → corner < 4 → (key : ℕ) →
+    Contains (keys_of keys corner) key ↔ HadNumber deltas corner key

@@ -2,7 +2,7 @@
 ghost use Rattle.std.specs.Prelude.{◌≡◌, ◌<◌, ◌↔◌, ℕ, Contains, IfOk, IsTrue, length};
 ghost use Rattle.std.specs.List.Sorted.{IsStrictlyIncreasing};
 ghost use Rattle.node_paths.specs.StoredNodes.{part_start};
-ghost use Rattle.corner_index.specs.Corners.{HadNumber, keys_of};
+ghost use Rattle.corner_index.specs.Corners.{AreNumbersOfGame, keys_of};
 ghost use Rattle.corner_index.specs.Keys.{end_of};
 
 use crate::numbers::numbers_of;
@@ -43,8 +43,7 @@ impl Model for CornerKeys {
 impl CornerKeys {
     /// The numbers of a game with these changes. The only error is `NoMemory`.
     pub fn of(alloc: Global, deltas: &NodeDeltas) -> Result<CornerKeys, NoMemory>
-        ensures { IfOk result (λ keys. (corner : ℕ) → corner < 4 → (key : ℕ) →
-            Contains (keys_of keys corner) key ↔ HadNumber deltas.now corner key) }
+        ensures { IfOk result (AreNumbersOfGame deltas.now) }
     {
         let mut keys = Vec::new(alloc);
         let mut ends = [0u32; 4];

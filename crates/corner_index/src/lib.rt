@@ -5,10 +5,13 @@
 //! stands need not be searched.
 #![tactic(auto)]
 
+mod corner_games;
+mod corner_index;
 mod corner_keys;
 mod laws;
 mod numbers;
 
+pub use corner_index::CornerIndex;
 pub use corner_keys::CornerKeys;
 pub use laws::{a_corner_is_known_by_its_number, a_corner_number_has_at_most_36_digits};
 

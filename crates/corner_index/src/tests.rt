@@ -1,4 +1,5 @@
 // Numbers of games that are made by hand, with values worked out by hand.
+mod index;
 mod made;
 
 use crate::CornerKeys;

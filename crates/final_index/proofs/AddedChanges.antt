@@ -8,7 +8,8 @@ use Rattle.kb_geometry.specs.declared.stone.Cell.TheVariants as cell
 use Rattle.kb_geometry.specs.declared.stone.Change.{Change}
 use Rattle.capture_board.proofs.Cells.{cases_cell}
 use Rattle.final_index.specs.declared.ever_sets.EverSets.{EverSets}
-use Rattle.final_index.specs.Gathering.{AreAdded, AreUntouched, set_of}
+use Rattle.final_index.specs.Ever.{set_of}
+use Rattle.final_index.specs.Gathering.{AreAdded, AreUntouched}
 
 -- ---- one point more
 

@@ -17,7 +17,8 @@ use Rattle.capture_board.specs.Deltas.{Deltas, AreDeltas, changes_of, node_count
 use Rattle.capture_board.proofs.DeltaPaths.{length-position_where, position_at-step}
 use Rattle.capture_board.proofs.NetChanges.{AreChangesOf-apart, at_change, changed_or_not, with_changes-new, with_changes-unchanged}
 use Rattle.final_index.specs.declared.ever_sets.EverSets.{EverSets}
-use Rattle.final_index.specs.Gathering.{AreAdded, AreGathered, AreUntouched, HasMade, set_of}
+use Rattle.final_index.specs.Ever.{set_of}
+use Rattle.final_index.specs.Gathering.{AreAdded, AreGathered, AreUntouched, HasMade}
 
 none_there : (ns : List ℕ) → ns ≡ [] → (p : ℕ) → Contains ns p → ⊥
 none_there ns e p there = omega (arith, there.1, ap length e)

@@ -1,18 +1,12 @@
 -- How the sets of a game are gathered node by node: words for private functions.
 use Rattle.std.specs.Prelude.{◌≡◌, ◌≢◌, ℕ, ◌<◌, ◌⊎◌, ◌↔◌, List, All, Any, Contains}
 use Rattle.kb_geometry.specs.declared.stone.Cell.{Cell}
-use Rattle.kb_geometry.specs.declared.stone.Cell.TheVariants as cell
 use Rattle.kb_geometry.specs.declared.stone.Change.{Change}
 use Rattle.kb_geometry.specs.Board.{point_count}
 use Rattle.kb_geometry.specs.Capture.{cell_at}
 use Rattle.capture_board.specs.Deltas.{Deltas, position_at}
 use Rattle.final_index.specs.declared.ever_sets.EverSets.{EverSets}
-
--- the set of a cell
-abbrev pub set_of : EverSets → Cell → List ℕ
-set_of sets cell.Empty = sets.empty
-set_of sets cell.Black = sets.black
-set_of sets cell.White = sets.white
+use Rattle.final_index.specs.Ever.{set_of}
 
 -- some change makes the point this cell
 abbrev pub HasMade : List Change → ℕ → Cell → Type 0

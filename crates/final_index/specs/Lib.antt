@@ -1,4 +1,6 @@
 -- Words that contracts of public functions rest on.
 pub mod Ever
+pub mod Planes
 -- Words of private functions.
 pub mod Gathering
+pub mod PlaneWords

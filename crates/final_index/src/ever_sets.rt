@@ -1,12 +1,11 @@
 // The points that had each cell at some node, gathered in one pass over the changes.
 ghost use Rattle.std.specs.Prelude.{◌≡◌, ◌≢◌, ℕ, ◌<◌, ◌≤◌, ◌⊎◌, ◌↔◌, All, Contains};
 ghost use Rattle.kb_geometry.specs.declared.stone.Cell.{Cell};
-ghost use Rattle.kb_geometry.specs.declared.stone.Cell.TheVariants as cell;
 ghost use Rattle.kb_geometry.specs.declared.stone.Change.{Change};
 ghost use Rattle.kb_geometry.specs.Board.{point_count};
 ghost use Rattle.capture_board.specs.Deltas.{node_count};
-ghost use Rattle.final_index.specs.Ever.{WasAt};
-ghost use Rattle.final_index.specs.Gathering.{AreAdded, AreGathered, AreUntouched, set_of};
+ghost use Rattle.final_index.specs.Ever.{AreSetsOf, set_of};
+ghost use Rattle.final_index.specs.Gathering.{AreAdded, AreGathered, AreUntouched};
 
 use capture_board::NodeDeltas;
 use kb_bits::{BOUND, BitBoard};
@@ -33,12 +32,7 @@ impl EverSets {
     /// The sets of a game with these changes. A game without a node has no position, so they are
     /// empty. Nothing is allocated.
     pub fn of(deltas: &NodeDeltas) -> EverSets
-        ensures black { (p : ℕ) → Contains result.black p
-            ↔ ((p < point_count deltas.now.shape) × WasAt deltas.now p cell.Black) }
-        ensures white { (p : ℕ) → Contains result.white p
-            ↔ ((p < point_count deltas.now.shape) × WasAt deltas.now p cell.White) }
-        ensures empty { (p : ℕ) → Contains result.empty p
-            ↔ ((p < point_count deltas.now.shape) × WasAt deltas.now p cell.Empty) }
+        ensures { AreSetsOf deltas.now result }
     {
         gathered(deltas)
     }

@@ -1,5 +1,6 @@
 // Sets of games that are made by hand, with members worked out by hand.
 mod made;
+mod planes;
 
 use crate::EverSets;
 use kb_bits::BitBoard;

@@ -1,21 +1,19 @@
-use Rattle.std.proofs.Common.{sym, arith, subst, ℕ, ◌+◌, ◌≡◌, ◌↔◌, ◌⊎◌}
+-- One stretch more.
+use Rattle.std.proofs.Common.{get_or, arith}
 use Rattle.std.specs.Prelude.{Contains}
-use Rattle.capture_index.specs.Begins.{BeginsFor}
-use Rattle.capture_index.proofs.BegunNodes.{IsFirstBranch, IsFirstFrom, all-begun, branch-more, first-more, grown-more}
+use Rattle.std.proofs.lemmas.List.{get_or_default}
+use Rattle.capture_index.specs.declared.stretch.Stretch.{Stretch}
+use Rattle.capture_index.proofs.BegunNodes.{begun-end, begun-more}
 use Rattle.capture_index.proofs.begins.push_begins.Goals as goal
+
+abbrev no_stretch : Stretch
+no_stretch = record { from = 0; to = 0 }
 
 pub loop-stretch-preserved : goal.loop-stretch-preserved
 loop-stretch-preserved c x =
-    grown-more (BeginsFor c.args.branches.now c.args.stretches.now) (Contains c.args.nodes.now.items x) (Contains c.loop-stretch.nodes.items x) (Contains c.push_begun.new.nodes.items x) (IsFirstFrom c.args.stretches.now c.loop-stretch.stretch-index x) (IsFirstFrom c.args.stretches.now (c.loop-stretch.stretch-index + 1) x) x _
-    (c.in_ok-push_begun.ensures x) (c.loop-stretch.invariant x) (first-more c.args.stretches.now c.loop-stretch.stretch-index _ x c.loop-stretch-test.true)
-
-pub loop-branch-preserved : goal.loop-branch-preserved
-loop-branch-preserved c x =
-    grown-more (BeginsFor c.args.branches.now c.args.stretches.now) (Contains c.loop-stretch.nodes.items x) (Contains c.loop-branch.nodes.items x) (Contains c.push_begun-in-loop-branch.new.nodes.items x) (IsFirstBranch c.args.branches.now c.loop-branch.branch-index x) (IsFirstBranch c.args.branches.now (c.loop-branch.branch-index + 1) x) x c.from.result
-    (c.in_ok-push_begun-2.ensures x) (c.loop-branch.invariant x)
-    (subst (λ (y : ℕ). IsFirstBranch c.args.branches.now (c.loop-branch.branch-index + 1) x ↔ (IsFirstBranch c.args.branches.now c.loop-branch.branch-index x ⊎ (y ≡ x))) (sym c.from.ensures) (branch-more c.args.branches.now c.loop-branch.branch-index _ x c.loop-branch-test.true))
+    begun-more c.args.branches.now c.args.stretches.now x (Contains c.args.nodes.now.items x) c.loop-stretch.stretch-index (get_or c.args.stretches.now c.loop-stretch.stretch-index no_stretch) (Contains c.loop-stretch.nodes.items x) (Contains c.push_stretch.new.nodes.items x)
+    c.loop-stretch-test.true (λ d. get_or_default c.args.stretches.now c.loop-stretch.stretch-index no_stretch d c.loop-stretch-test.true) (c.loop-stretch.invariant x) (c.in_ok-push_stretch.ensures x)
 
 pub returns : goal.returns
 returns c x =
-    all-begun c.args.branches.now c.args.stretches.now (Contains c.args.nodes.now.items x) (Contains c.loop-stretch.nodes.items x) (Contains c.loop-branch.nodes.items x) x c.loop-stretch.stretch-index c.loop-branch.branch-index
-    (omega arith) (omega arith) (c.loop-stretch.invariant x) (c.loop-branch.invariant x)
+    begun-end c.args.branches.now c.args.stretches.now x (Contains c.args.nodes.now.items x) c.loop-stretch.stretch-index (Contains c.loop-stretch.nodes.items x) (omega arith) (c.loop-stretch.invariant x)

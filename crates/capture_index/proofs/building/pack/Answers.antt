@@ -1,4 +1,4 @@
-use Rattle.std.proofs.Common.{List, ◌≡◌, ap, sym, arith, subst}
+use Rattle.std.proofs.Common.{List, ◌≡◌, refl, ap, sym, arith, subst}
 use Rattle.kb_geometry.specs.Board.{point_count}
 use Rattle.capture_board.specs.Deltas.{node_count}
 use Rattle.capture_index.specs.declared.run.Branch.{Branch}
@@ -24,9 +24,11 @@ invariant_of-result c =
     let packed = ArePacked-as c.args.growing.now c.node_count-nodes.result (node_count c.args.deltas.now) c.loop-p.p (point_count c.shape-shape.result) c.loop-p.times.items c.loop-p.ends.items c.shrink_to_fit.new.self.items c.loop-p.runs.items c.shrink_to_fit-2.new.self.items c.node_count-nodes.ensures.value all c.shrink_to_fit.ensures.items c.shrink_to_fit-2.ensures.items c.loop-p.invariant in
     let branches = subst (λ (bs : List Branch). AreBranchesTo c.args.deltas.now (node_count c.args.deltas.now) bs) (sym c.shrink_to_fit-3.ensures.items) c.requires.branches in
     record {
+      few = omega (arith, c.node_count-nodes.ensures.most);
       points = packed.counted;
       lists = packed.lists;
       ascending = branches.ascending;
       above = above-told c.args.deltas.now c.shrink_to_fit-3.new.self.items c.shape-shape.ensures.deltas branches;
+      within = λ k d lt. omega (arith, (branches.sound _ _ (k, d, lt, refl, refl)).0, c.node_count-nodes.ensures.value);
       words = packed.words;
     }

@@ -1,0 +1,194 @@
+-- Candidates that are listed placement by placement.
+use Prim.Native.Nat.{zero}
+use Rattle.std.proofs.Common.{◌≡◌, ℕ, suc, ◌+◌, ◌*◌, ◌<◌, ◌≤◌, ◌↔◌, ◌⊎◌, List, [], ◌∷◌, ◌++◌, Option, None, length, get_or, slice_index_or, bit_and, append_assoc, refl, sym, ◌∙◌, ap, subst, arith, inl, inr}
+use Rattle.std.specs.Int.{bit_at}
+use Rattle.std.specs.Option.{IsSome, IsSomeAnd}
+use Rattle.std.specs.Prelude.{All, AllPairs, Any, Some}
+use Rattle.std.proofs.Math.Nat.{mul-le-mul_right}
+use Rattle.std.proofs.lemmas.Bool.{cases_lt}
+use Rattle.std.proofs.lemmas.List.{append-nil, get_or_append_left, get_or_push, length_push}
+use Rattle.std.proofs.lemmas.List.Elements.{All-nil, All-push, All-weaker}
+use Rattle.std.proofs.lemmas.Nat.{mul-add-lt}
+use Rattle.std.proofs.lemmas.Nat.Bits.{bit_at-zero}
+use Rattle.kb_geometry.specs.declared.shape.Shape.{Shape}
+use Rattle.kb_geometry.specs.Board.{cols_of, point_count, rows_of}
+use Rattle.kb_geometry.proofs.Lists.{Any-kept}
+use Rattle.kb_geometry.proofs.Shapes.{point_count-le-most}
+use Rattle.pattern_images.specs.ImageList.{IsPlacedOn, no_placement, placement_at}
+use Rattle.pattern_images.specs.Placements.{IsBefore, Placement}
+use Rattle.final_index.specs.declared.ever_sets.EverSets.{EverSets}
+use Rattle.final_index.specs.Planes.{PlaneGames}
+use Rattle.candidate_sieve.specs.declared.candidates.Candidate.{Candidate}
+use Rattle.candidate_sieve.specs.BlockGames.{IsAddedFor}
+use Rattle.candidate_sieve.specs.Candidates.{AreCandidatesAdded, IsPossibleIn, MeetsCells}
+use Rattle.candidate_sieve.proofs.GamesTold.{and-bit}
+
+-- ---- how many placements there are
+
+-- so far behind the placements before it stands the upper left point
+abbrev first_of : Shape → Placement → ℕ
+first_of shape placement = placement.y * cols_of shape + placement.x
+
+-- a placement that stands before another has a lesser point, or the same and a lesser label
+earlier : (shape : Shape) (a b : Placement) → IsPlacedOn shape a → IsBefore a b → (first_of shape a < first_of shape b) ⊎ ((first_of shape a ≡ first_of shape b) × (a.label < b.label))
+earlier shape a b placed (inl above) =
+    let rows : (a.y + 1) * cols_of shape ≤ b.y * cols_of shape = mul-le-mul_right (cols_of shape) (omega arith) in
+    inl (omega (arith, placed.columns, placed.some_column))
+earlier shape a b placed (inr (same_row, inl left)) = let e : a.y * cols_of shape ≡ b.y * cols_of shape = ap (λ (y : ℕ). y * cols_of shape) same_row in inl (omega arith)
+earlier shape a b placed (inr (same_row, inr (same, less))) = let e : a.y * cols_of shape ≡ b.y * cols_of shape = ap (λ (y : ℕ). y * cols_of shape) same_row in inr (omega arith, less)
+
+first-lt : (shape : Shape) (a : Placement) → IsPlacedOn shape a → first_of shape a < point_count shape
+first-lt shape a placed =
+    let below : a.y * cols_of shape + a.x < cols_of shape * rows_of shape =
+    mul-add-lt a.y (cols_of shape) a.x (rows_of shape) (omega (arith, placed.rows, placed.some_row)) (omega (arith, placed.columns, placed.some_column)) in
+    omega arith
+
+module _ (shape : Shape) (placements : List Placement) (placed : All (IsPlacedOn shape) placements) (ordered : AllPairs IsBefore placements) where
+  -- the labels of the first so many are labels
+  abbrev pub HaveLabels : ℕ → Type 0
+  HaveLabels count = (j : ℕ) → j < count → (placement_at placements j).label < 16
+
+  -- a placement's number is at most 16 times that of its point, and its label
+  number-le : (i : ℕ) → i < length placements → HaveLabels i → i ≤ 16 * first_of shape (placement_at placements i) + (placement_at placements i).label
+  number-le zero lt labels = omega arith
+  number-le (suc i) lt labels =
+      let before : i ≤ 16 * first_of shape (placement_at placements i) + (placement_at placements i).label = number-le i (omega arith) (λ j low. labels j (omega arith)) in
+      let label : (placement_at placements i).label < 16 = labels i (omega arith) in
+      elim (earlier shape (placement_at placements i) (placement_at placements (suc i)) (placed i no_placement (omega arith)) (ordered i (suc i) no_placement (omega arith) lt)) [
+        | inl less ↦ omega arith
+        | inr same ↦ omega (arith, same.0, same.1)
+      ]
+
+  pub number-small : (i : ℕ) → i < length placements → HaveLabels i → (placement_at placements i).label < 16 → i < 4294967296
+  number-small i lt labels label =
+      let le = number-le i lt labels in
+      let first = first-lt shape (placement_at placements i) (placed i no_placement lt) in
+      omega (arith, le, first, label, point_count-le-most shape)
+
+-- ---- some element
+
+Any-last : {X : Type 0} (P : X → Type 0) (xs : List X) (y : X) → P y → Any P (xs ++ y ∷ [])
+Any-last P xs y holds = (length xs, y, omega (arith, length_push xs y), get_or_push xs y y (length xs) refl, holds)
+
+Any-cases : {X : Type 0} (P : X → Type 0) (xs : List X) (y : X) → Any P (xs ++ y ∷ []) → Any P xs ⊎ P y
+Any-cases P xs y (k, x, lt, is, holds) =
+    elim (cases_lt k (length xs)) [
+      | inl below ↦ inl (k, x, below, sym (get_or_append_left xs (y ∷ []) x k below) ∙ is, holds)
+      | inr last ↦
+          let here : length xs ≡ k = omega (arith, lt, last, length_push xs y) in
+          inr (subst P (sym (sym (get_or_push xs y x k here) ∙ is)) holds)
+    ]
+
+-- ---- the candidates so far
+
+-- a candidate is for the placement, and game g is one of its games
+abbrev pub IsFor : ℕ → ℕ → Candidate → Type 0
+IsFor i g c = (c.placement ≡ i) × (bit_at c.games g ≡ 1)
+
+-- the candidates are, for each of the first placements, the games that may have it
+pub record AreCandidatesTo (planes : PlaneGames) (placements : List Placement) (there count : ℕ) (found : List Candidate) : Type 0 where
+  pub before : All (λ (c : Candidate). c.placement < count) found
+  pub exact : (i g : ℕ) → i < count → g < 64 → Any (IsFor i g) found ↔ ((bit_at there g ≡ 1) × IsPossibleIn planes g (placement_at placements i))
+
+-- the list has gained such candidates
+pub record AreAddedTo (planes : PlaneGames) (placements : List Placement) (there count : ℕ) (old new : List Candidate) : Type 0 where
+  pub more : List Candidate
+  pub added : new ≡ old ++ more
+  pub are : AreCandidatesTo planes placements there count more
+
+module _ (planes : PlaneGames) (placements : List Placement) (there : ℕ) (old : List Candidate) where
+  pub added-start : AreAddedTo planes placements there 0 old old
+  added-start = record {
+    more = [];
+    added = sym (append-nil old);
+    are = record { before = All-nil (λ (c : Candidate). c.placement < 0); exact = λ i g lt. absurd (omega arith) };
+  }
+
+  module _ (count : ℕ) (now next : List Candidate) (so_far : AreAddedTo planes placements there count old now) (games : ℕ)
+      (told : (g : ℕ) → g < 64 → (bit_at games g ≡ 1) ↔ ((bit_at there g ≡ 1) × IsPossibleIn planes g (placement_at placements count))) where
+    abbrev found : List Candidate
+    found = so_far.more
+
+    -- no candidate so far is for the next placement
+    not-next : (g : ℕ) → Any (IsFor count g) so_far.more → ⊥
+    not-next g (k, c, lt, is, at) =
+        let low : (get_or so_far.more k c).placement < count = so_far.are.before k c lt in
+        omega (arith, low, ap (λ (d : Candidate). d.placement) is, at.0)
+
+    -- the games of one of the placements so far, and of the next one
+    by-number : (Q : ℕ → Type 0) → ((i : ℕ) → i < count → Q i) → Q count → (i : ℕ) → i < count + 1 → Q i
+    by-number Q earlier last i lt =
+        elim (cases_lt i count) [
+          | inl below ↦ earlier i below
+          | inr from ↦ let here : count ≡ i = omega (arith, lt, from) in subst Q here last
+        ]
+
+    added-none : games ≡ 0 → next ≡ now → AreAddedTo planes placements there (count + 1) old next
+    added-none none same = record {
+      more = so_far.more;
+      added = same ∙ so_far.added;
+      are = record {
+        before = All-weaker (λ (c : Candidate). c.placement < count) (λ (c : Candidate). c.placement < count + 1) (λ c lt. omega (arith, lt)) so_far.more so_far.are.before;
+        exact = λ i g lt few. by-number (λ i. Any (IsFor i g) so_far.more ↔ ((bit_at there g ≡ 1) × IsPossibleIn planes g (placement_at placements i)))
+            (λ i below. so_far.are.exact i g below few)
+            (λ h. absurd (not-next g h), λ h. let one = (told g few).1 h in absurd (omega (arith, one, ap (λ (n : ℕ). bit_at n g) none, bit_at-zero g)))
+            i lt;
+      };
+    }
+
+    abbrev last_one : Candidate
+    last_one = record { placement = count; games = games }
+
+    exact-more : (i g : ℕ) → i < count + 1 → g < 64 → Any (IsFor i g) (so_far.more ++ last_one ∷ []) ↔ ((bit_at there g ≡ 1) × IsPossibleIn planes g (placement_at placements i))
+    exact-more i g lt few =
+        by-number (λ i. Any (IsFor i g) (so_far.more ++ last_one ∷ []) ↔ ((bit_at there g ≡ 1) × IsPossibleIn planes g (placement_at placements i)))
+        (λ i below. (
+          λ h. elim (Any-cases (IsFor i g) so_far.more last_one h) [
+            | inl was ↦ (so_far.are.exact i g below few).0 was
+            | inr last ↦ absurd (omega (arith, below, last.0))
+          ],
+          λ h. Any-kept (IsFor i g) so_far.more last_one ((so_far.are.exact i g below few).1 h),
+        )) (
+          (λ h. elim (Any-cases (IsFor count g) so_far.more last_one h) [
+            | inl was ↦ absurd (not-next g was)
+            | inr last ↦ (told g few).0 last.1
+          ]),
+          (λ h. Any-last (IsFor count g) so_far.more last_one (refl, (told g few).1 h)),
+        )
+        i lt
+
+    added-one : next ≡ now ++ last_one ∷ [] → AreAddedTo planes placements there (count + 1) old next
+    added-one pushed = record {
+      more = so_far.more ++ last_one ∷ [];
+      added = pushed ∙ ap (λ (xs : List Candidate). xs ++ last_one ∷ []) so_far.added ∙ append_assoc old so_far.more (last_one ∷ []);
+      are = record {
+        before = All-push (λ (c : Candidate). c.placement < count + 1) so_far.more last_one (All-weaker (λ (c : Candidate). c.placement < count) (λ (c : Candidate). c.placement < count + 1) (λ c lt. omega (arith, lt)) so_far.more so_far.are.before) (omega arith);
+        exact = exact-more;
+      };
+    }
+
+    pub added-more : IsAddedFor count games now next → AreAddedTo planes placements there (count + 1) old next
+    added-more (inl none) = added-none none.0 none.1
+    added-more (inr pushed) = added-one pushed
+
+  -- ---- all placements
+  some-and : (o : Option EverSets) (P : EverSets → Type 0) → IsSomeAnd o P → IsSome o
+  some-and None P h = absurd h
+  some-and (Some sets) P h = refl
+
+  pub added-end : (asked present count : ℕ) (new : List Candidate) → there ≡ bit_and asked present → ((g : ℕ) → g < 64 → (bit_at present g ≡ 1) ↔ IsSome (slice_index_or planes.games g None)) → count ≡ length placements →
+      AreAddedTo planes placements there count old new → AreCandidatesAdded planes placements asked old new
+  added-end asked present count new is told all so_far = record {
+    more = so_far.more;
+    added = so_far.added;
+    are = record {
+      in_range = All-weaker (λ (c : Candidate). c.placement < count) (λ (c : Candidate). c.placement < length placements) (λ c lt. omega (arith, lt, all)) so_far.more so_far.are.before;
+      exact = λ i g lt few.
+          let here = so_far.are.exact i g (omega (arith, lt, all)) few in
+          let both = and-bit asked present g in
+          let bits = ap (λ (n : ℕ). bit_at n g) is in (
+            λ h. let e = here.0 h in ((both.0 (sym bits ∙ e.0)).0, e.1),
+            λ h. here.1 (bits ∙ both.1 (h.0, (told g few).1 (some-and (slice_index_or planes.games g None) (λ sets. MeetsCells planes.shape sets (placement_at placements i)) h.1)), h.1),
+          );
+    };
+  }

@@ -1,0 +1,190 @@
+-- The games of a block that have a placement's cells, in words of bits.
+use Rattle.std.proofs.Common.{◌≡◌, ◌≢◌, ℕ, ◌+◌, ◌<◌, ◌↔◌, ◌⊎◌, true, false, List, Option, None, Some, length, slice_index_or, bit_and, bit_or, refl, sym, ◌∙◌, ap, subst, arith, inl, inr}
+use Prim.Native.Nat.{min, max}
+use Rattle.std.specs.Int.{bit_at}
+use Rattle.std.specs.Option.{IsSome, IsSomeAnd}
+use Rattle.std.specs.Prelude.{◌&&◌, All, Contains, IsTrue}
+use Rattle.std.proofs.lemmas.Bool.{and_from, and_parts, cases_Bool, cases_eq, cases_lt, false≢true}
+use Rattle.std.proofs.lemmas.List.{get_or_default}
+use Rattle.std.proofs.lemmas.Nat.Bits.{bit_at-lt, bit_at-zero, bit_at_and, bit_at_or}
+use Rattle.kb_geometry.specs.declared.shape.Shape.{Shape}
+use Rattle.kb_geometry.specs.declared.stone.Cell.{Cell}
+use Rattle.kb_geometry.specs.declared.stone.Cell.TheVariants as stone
+use Rattle.kb_geometry.specs.Board.{number_of, point_count}
+use Rattle.kb_geometry.specs.Symmetry.{point_of}
+use Rattle.pattern_images.specs.declared.cell.PatternCell.{PatternCell}
+use Rattle.pattern_images.specs.declared.cell.PatternCell.TheVariants as cell
+use Rattle.pattern_images.specs.Grid.{Grid, cell_in}
+use Rattle.pattern_images.specs.Holds.{Allows, number_under}
+use Rattle.pattern_images.specs.ImageList.{ImageList, IsPlacedOn, grid_at}
+use Rattle.pattern_images.specs.Placements.{Placement}
+use Rattle.capture_index.specs.declared.stretch.Want.{Want}
+use Rattle.capture_index.specs.Stretches.{is_wanted, no_want}
+use Rattle.capture_index.specs.Wants.{AreWantsOf, ClassesOn, IsWantOf, base_of}
+use Rattle.capture_index.proofs.WantsOfPlacements.{number_under-base, wants-on_board}
+use Rattle.final_index.specs.declared.ever_sets.EverSets.{EverSets}
+use Rattle.final_index.specs.Ever.{set_of}
+use Rattle.final_index.specs.Planes.{HadThere, PlaneGames}
+use Rattle.candidate_sieve.specs.BlockGames.{HadEach, HadWanted, wants_all}
+use Rattle.candidate_sieve.specs.Candidates.{IsPossibleIn, MeetsCells}
+
+-- ---- bits
+
+pub or-bit : (a b g : ℕ) → (bit_at (bit_or a b) g ≡ 1) ↔ ((bit_at a g ≡ 1) ⊎ (bit_at b g ≡ 1))
+or-bit a b g =
+    let is : bit_at (bit_or a b) g ≡ max (bit_at a g) (bit_at b g) = bit_at_or a b g in
+    let one = bit_at-lt a g in
+    let other = bit_at-lt b g in (
+      λ e. elim (cases_eq (bit_at a g) 1) [ inl t ↦ inl t | inr f ↦ inr (omega (arith, e, is, one, other, f)) ],
+      λ h. elim h [ inl t ↦ omega (arith, is, one, other, t) | inr t ↦ omega (arith, is, one, other, t) ],
+    )
+
+pub and-bit : (a b g : ℕ) → (bit_at (bit_and a b) g ≡ 1) ↔ ((bit_at a g ≡ 1) × (bit_at b g ≡ 1))
+and-bit a b g =
+    let is : bit_at (bit_and a b) g ≡ min (bit_at a g) (bit_at b g) = bit_at_and a b g in
+    let one = bit_at-lt a g in
+    let other = bit_at-lt b g in
+    (λ e. (omega (arith, e, is, one, other), omega (arith, e, is, one, other)), λ h. omega (arith, is, h.0, h.1))
+
+-- ---- one want
+
+pub wanted-told : (games : List (Option EverSets)) (g : ℕ) (want : Want) (p a b w : ℕ) →
+    (bit_at a g ≡ 1) ↔ (IsTrue want.empty × HadThere games g stone.Empty p) →
+    (bit_at b g ≡ 1) ↔ (IsTrue want.black × HadThere games g stone.Black p) →
+    (bit_at w g ≡ 1) ↔ (IsTrue want.white × HadThere games g stone.White p) →
+    wants_all want ≡ false → (bit_at (bit_or (bit_or a b) w) g ≡ 1) ↔ HadWanted games g want p
+wanted-told games g want p a b w empty black white some = (
+  λ e asks. elim ((or-bit (bit_or a b) w g).0 e) [
+    | inr t ↦ let h = white.0 t in (stone.White, h.0, h.1)
+    | inl both ↦ elim ((or-bit a b g).0 both) [
+      | inl t ↦ let h = empty.0 t in (stone.Empty, h.0, h.1)
+      | inr t ↦ let h = black.0 t in (stone.Black, h.0, h.1)
+    ]
+  ],
+  λ had. let h = had some in made h.0 h.1 h.2,
+)
+  where
+    made : (c : Cell) → IsTrue (is_wanted want c) → HadThere games g c p → bit_at (bit_or (bit_or a b) w) g ≡ 1
+    made stone.Empty wanted there = (or-bit (bit_or a b) w g).1 (inl ((or-bit a b g).1 (inl (empty.1 (wanted, there)))))
+    made stone.Black wanted there = (or-bit (bit_or a b) w g).1 (inl ((or-bit a b g).1 (inr (black.1 (wanted, there)))))
+    made stone.White wanted there = (or-bit (bit_or a b) w g).1 (inr (white.1 (wanted, there)))
+
+-- ---- the first wants
+
+-- the games of the word are those of another that had the first so many wants
+abbrev pub HaveEach : List (Option EverSets) → ℕ → List Want → ℕ → ℕ → ℕ → Type 0
+HaveEach games base wants there count word =
+    (g : ℕ) → g < 64 → (bit_at word g ≡ 1) ↔ ((bit_at there g ≡ 1) × HadEach games base wants count g)
+
+module _ (games : List (Option EverSets)) (base : ℕ) (wants : List Want) (there : ℕ) where
+  pub each-start : HaveEach games base wants there 0 there
+  each-start g lt = (λ e. (e, λ k none. absurd (omega (arith, none))), λ h. h.0)
+
+  module _ (count word next : ℕ) (so_far : HaveEach games base wants there count word) (within : count < length wants)
+      (wanted : (g : ℕ) → g < 64 → (bit_at next g ≡ 1) ↔ HadWanted games g (slice_index_or wants count no_want) (base + (slice_index_or wants count no_want).offset)) where
+    pub each-more : HaveEach games base wants there (count + 1) (bit_and word next)
+    each-more g lt =
+        let both = and-bit word next g in (
+          λ e.
+              let parts = both.0 e in
+              let was = (so_far g lt).0 parts.0 in (
+                was.0,
+                λ k below. elim (cases_lt k count) [
+                  | inl before ↦ was.1 k before
+                  | inr last ↦
+                      let here : count ≡ k = omega (arith, below, last) in
+                      subst (λ (i : ℕ). HadWanted games g (slice_index_or wants i no_want) (base + (slice_index_or wants i no_want).offset)) here ((wanted g lt).0 parts.1)
+                ],
+              ),
+          λ h. both.1 ((so_far g lt).1 (h.0, λ k below. h.1 k (omega (arith, below))), (wanted g lt).1 (h.1 count (omega arith))),
+        )
+
+    -- where no game is left, none has all
+    pub each-none : bit_and word next ≡ 0 → HaveEach games base wants there (length wants) 0
+    each-none none g lt = (
+      λ e. absurd (omega (arith, e, bit_at-zero g)),
+      λ h.
+          let left : bit_at (bit_and word next) g ≡ 1 = (each-more g lt).1 (h.0, λ k below. h.1 k (omega (arith, below, within))) in
+          absurd (omega (arith, left, ap (λ (n : ℕ). bit_at n g) none, bit_at-zero g)),
+    )
+
+-- ---- a placement's cells by its wants
+
+not-all : (pattern : PatternCell) (want : Want) → IsWantOf pattern want → pattern ≢ cell.Any → wants_all want ≡ true → ⊥
+not-all pattern want is other all =
+    let parts = and_parts (want.empty && want.black) want.white all in
+    let both = and_parts want.empty want.black parts.0 in
+    refused pattern other ((is stone.Empty).0 both.0) ((is stone.Black).0 both.1) ((is stone.White).0 parts.1)
+  where
+    refused : (pattern : PatternCell) → pattern ≢ cell.Any → Allows pattern stone.Empty → Allows pattern stone.Black → Allows pattern stone.White → ⊥
+    refused cell.Empty other e b w = absurd cc
+    refused cell.Black other e b w = absurd cc
+    refused cell.White other e b w = absurd cc
+    refused cell.NotWhite other e b w = w refl
+    refused cell.NotBlack other e b w = b refl
+    refused cell.Any other e b w = other refl
+
+all-any : (pattern : PatternCell) (want : Want) → IsWantOf pattern want → pattern ≡ cell.Any → wants_all want ≡ true
+all-any pattern want is any =
+    let allows : (c : Cell) → Allows pattern c = λ c. subst (λ (d : PatternCell). Allows d c) (sym any) tt in
+    and_from (want.empty && want.black) want.white (and_from want.empty want.black ((is stone.Empty).1 (allows stone.Empty)) ((is stone.Black).1 (allows stone.Black))) ((is stone.White).1 (allows stone.White))
+
+-- the wants are met by the sets of a game, if there is one
+abbrev pub HadEachOf : Option EverSets → ℕ → List Want → ℕ → Type 0
+HadEachOf o base wants count = (k : ℕ) → k < count → wants_all (slice_index_or wants k no_want) ≡ false →
+    (c : Cell) × IsTrue (is_wanted (slice_index_or wants k no_want) c) × IsSomeAnd o (λ sets. Contains (set_of sets c) (base + (slice_index_or wants k no_want).offset))
+
+module _ (shape : Shape) (placement : Placement) (placed : IsPlacedOn shape placement) (wants : List Want) (are : AreWantsOf shape placement.grid wants) where
+  module _ (sets : EverSets) where
+    met-cells : HadEachOf (Some sets) (base_of shape placement) wants (length wants) → MeetsCells shape sets placement
+    met-cells had dx dy in_cols in_rows other =
+        let (k, w, lt, read, (at, is)) = are.complete dx dy in_cols in_rows other in
+        let same : slice_index_or wants k no_want ≡ w = get_or_default wants k no_want w lt ∙ read in
+        let asks : wants_all (slice_index_or wants k no_want) ≡ false = elim (cases_Bool (wants_all (slice_index_or wants k no_want))) [
+          | inl t ↦ absurd (not-all (cell_in placement.grid dx dy) w is other (sym (ap wants_all same) ∙ t))
+          | inr f ↦ f
+        ] in
+        let h = had k lt asks in
+        let point : base_of shape placement + (slice_index_or wants k no_want).offset ≡ number_under shape placement dx dy =
+        ap (λ (v : Want). base_of shape placement + v.offset) same ∙ ap (λ (i : ℕ). base_of shape placement + i) at ∙ sym (number_under-base shape placement placed dx dy) in
+        (h.0, (is h.0).0 (sym (ap (λ (v : Want). is_wanted v h.0) same) ∙ h.1), subst (Contains (set_of sets h.0)) point h.2)
+
+    cells-met : MeetsCells shape sets placement → HadEachOf (Some sets) (base_of shape placement) wants (length wants)
+    cells-met meets k lt asks =
+        let w : Want = slice_index_or wants k no_want in
+        let (dx, dy, in_cols, in_rows, (at, is)) = are.sound k no_want lt in
+        let h = meets dx dy in_cols in_rows (λ any. false≢true (sym asks ∙ all-any (cell_in placement.grid dx dy) (slice_index_or wants k no_want) is any)) in
+        let point : number_under shape placement dx dy ≡ base_of shape placement + (slice_index_or wants k no_want).offset =
+        number_under-base shape placement placed dx dy ∙ ap (λ (i : ℕ). base_of shape placement + i) (sym at) in
+        (h.0, (is h.0).1 h.1, subst (Contains (set_of sets h.0)) point h.2)
+
+  each-possible : (o : Option EverSets) → IsSome o → HadEachOf o (base_of shape placement) wants (length wants) ↔ IsSomeAnd o (λ sets. MeetsCells shape sets placement)
+  each-possible None some = absurd (false≢true some)
+  each-possible (Some sets) some = (met-cells sets, cells-met sets)
+
+pub possible-told : (planes : PlaneGames) (placement : Placement) → IsPlacedOn planes.shape placement → (wants : List Want) → AreWantsOf planes.shape placement.grid wants → (base : ℕ) → base ≡ base_of planes.shape placement → (there word : ℕ) →
+    ((g : ℕ) → g < 64 → bit_at there g ≡ 1 → IsSome (slice_index_or planes.games g None)) → HaveEach planes.games base wants there (length wants) word →
+    (g : ℕ) → g < 64 → (bit_at word g ≡ 1) ↔ ((bit_at there g ≡ 1) × IsPossibleIn planes g placement)
+possible-told planes placement placed wants are base at there word present have g lt =
+    let possible : bit_at there g ≡ 1 → HadEach planes.games base wants (length wants) g ↔ IsPossibleIn planes g placement =
+    λ e. subst (λ (b : ℕ). HadEach planes.games b wants (length wants) g ↔ IsPossibleIn planes g placement) (sym at) (each-possible planes.shape placement placed wants are (slice_index_or planes.games g None) (present g lt e)) in (
+      λ e. let h = (have g lt).0 e in (h.0, (possible h.0).0 h.1),
+      λ h. (have g lt).1 (h.0, (possible h.0).1 h.1),
+    )
+
+-- the base of a placement, by what is at hand
+pub base_is : (shape s : Shape) (x y xx yy b : ℕ) → b ≡ number_of s (point_of x y) → s ≡ shape → x ≡ xx → y ≡ yy → b ≡ number_of shape (point_of xx yy)
+base_is shape s x y xx yy b is same column row =
+    is ∙ ap (λ (t : Shape). number_of t (point_of x y)) same ∙ ap (λ (i : ℕ). number_of shape (point_of i y)) column ∙ ap (λ (j : ℕ). number_of shape (point_of xx j)) row
+
+-- the wants of a class are those of a placement of the class
+pub wants-are : (classes : ClassesOn) (images : ImageList) (shape : Shape) (class : ℕ) (grid : Grid) (wants : List Want) → classes ≡ record { shape = images.shape; grids = images.grids } → grid_at images.grids class ≡ grid → images.shape ≡ shape →
+    AreWantsOf classes.shape (grid_at classes.grids class) wants → AreWantsOf shape grid wants
+wants-are classes images shape class grid wants is cells same are =
+    subst (λ (s : Shape). AreWantsOf s grid wants) same
+    (subst (λ (g : Grid). AreWantsOf images.shape g wants) cells
+    (subst (λ (v : ClassesOn). AreWantsOf v.shape (grid_at v.grids class) wants) is are))
+
+pub wants-below : (shape : Shape) (placement : Placement) → IsPlacedOn shape placement → (wants : List Want) → AreWantsOf shape placement.grid wants → (base : ℕ) → base ≡ base_of shape placement → All (λ (w : Want). base + w.offset < point_count shape) wants
+wants-below shape placement placed wants are base at =
+    subst (λ (b : ℕ). All (λ (w : Want). b + w.offset < point_count shape) wants) (sym at) (wants-on_board shape placement placed wants are)

@@ -1,0 +1,9 @@
+pub mod FrameKeys
+pub mod CornersTold
+pub mod CellsTold
+pub mod KeptPlacements
+pub mod NotedPoints
+pub mod BegunLists
+pub mod GamesTold
+pub mod CandidateLists
+pub mod OccurrencesKept

@@ -1,0 +1,28 @@
+-- The games of a block that have the cells of a placement: words for private functions.
+use Rattle.std.specs.Prelude.{◌≡◌, ◌⊎◌, ◌&&◌, ℕ, ◌+◌, ◌<◌, ◌++◌, ◌∷◌, [], Bool, IsTrue, false, List, Option, slice_index_or}
+use Rattle.kb_geometry.specs.declared.stone.Cell.{Cell}
+use Rattle.capture_index.specs.declared.stretch.Want.{Want}
+use Rattle.capture_index.specs.Stretches.{is_wanted, no_want}
+use Rattle.final_index.specs.declared.ever_sets.EverSets.{EverSets}
+use Rattle.final_index.specs.Planes.{HadThere}
+use Rattle.candidate_sieve.specs.declared.candidates.Candidate.{Candidate}
+
+-- the want asks nothing: it is one of all cells
+abbrev pub wants_all : Want → Bool
+wants_all want = want.empty && want.black && want.white
+
+-- game g had a cell on the point that the want allows, if the want asks anything
+abbrev pub HadWanted : List (Option EverSets) → ℕ → Want → ℕ → Type 0
+HadWanted games g want p = wants_all want ≡ false →
+    (c : Cell) × IsTrue (is_wanted want c) × HadThere games g c p
+
+-- so for the first so many wants, whose points stand behind a base
+abbrev pub HadEach : List (Option EverSets) → ℕ → List Want → ℕ → ℕ → Type 0
+HadEach games base wants count g = (k : ℕ) → k < count →
+    HadWanted games g (slice_index_or wants k no_want)
+    (base + (slice_index_or wants k no_want).offset)
+
+-- the list has gained a candidate with these games, if there is one
+abbrev pub IsAddedFor : ℕ → ℕ → List Candidate → List Candidate → Type 0
+IsAddedFor i games old new = ((games ≡ 0) × (new ≡ old))
+    ⊎ (new ≡ old ++ record { placement = i; games = games } ∷ [])

@@ -1,0 +1,27 @@
+//! Which games of a base, and which nodes of a game, a search for a pattern need look at.
+//!
+//! Stands on kb_geometry, kb_bits, node_paths, capture_board, pattern_images, final_index,
+//! capture_index, corner_index and line_matcher. The layer above uses that no game and no node with
+//! an occurrence is left out.
+#![tactic(auto)]
+
+mod asked;
+mod candidates;
+mod cells;
+mod corners;
+mod laws;
+mod nodes;
+mod sieve;
+
+pub use asked::AskedPoints;
+pub use candidates::{Candidate, add_candidates};
+pub use corners::meets_corners;
+pub use laws::{
+    a_game_with_an_occurrence_is_kept, a_placement_is_kept_by_its_cells_and_corners,
+    a_placement_that_holds_meets_the_sets, an_occurrence_is_at_a_node_candidate,
+};
+pub use nodes::{candidates_under, node_candidates};
+pub use sieve::passes;
+
+#[cfg(test)]
+mod tests;

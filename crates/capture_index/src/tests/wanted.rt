@@ -1,0 +1,73 @@
+// The wants of patterns, by hand.
+use super::want;
+use crate::{Want, Wants};
+use kb_geometry::Shape;
+use pattern_images::{Pattern, PatternCell, Query, images};
+use std::alloc::Global;
+use std::process::Abort;
+use std::test::Fail;
+
+fn pattern_cell(byte: u8) -> PatternCell {
+    match byte {
+        b'.' => PatternCell::Empty,
+        b'X' => PatternCell::Black,
+        b'O' => PatternCell::White,
+        b'x' => PatternCell::NotWhite,
+        b'o' => PatternCell::NotBlack,
+        _ => PatternCell::Any,
+    }
+}
+
+// The wants of all classes, on a board of 5 by 4.
+fn wants_of(
+    rt: &impl Abort,
+    alloc: Global,
+    pattern: (u8, u8, &str),
+    same: bool,
+) -> Result<Vec<Want>, Fail> {
+    let (cols, rows, text) = pattern;
+    let mut cells = Vec::new(alloc);
+    for byte in text.as_bytes() {
+        cells.push(pattern_cell(*byte))?;
+    }
+    let mut query = Query::new(Pattern::new(cols, rows, cells).expect(rt, "a pattern"));
+    query.same = same;
+    query.fixed = true;
+    let shape = Shape::new(5, 4).expect(rt, "a board");
+    let images = images(alloc, &query, shape)?;
+    let wants = Wants::of(alloc, &images)?;
+    let mut all = Vec::new(alloc);
+    for class in 0..images.class_count() {
+        all.extend_from_slice(wants.of_class(class))?;
+    }
+    Ok(all)
+}
+
+// Stones come first, then half wildcards, then empty cells, each row by row.
+#[test]
+fn stones_are_asked_first(rt: HostRuntime) -> Result<(), Fail> {
+    let mixed = [
+        want(1, false, true, false),
+        want(6, false, false, true),
+        want(2, true, true, false),
+        want(7, true, false, true),
+        want(0, true, false, false),
+    ];
+    let pair = [
+        want(0, false, true, false),
+        want(5, false, false, true),
+        want(0, false, false, true),
+        want(5, false, true, false),
+    ];
+    let cases = [
+        ((3, 2, ".Xx*Oo"), true, mixed.as_slice()),
+        ((2, 1, "**"), true, &[]),
+        ((1, 2, "XO"), true, &pair[..2]),
+        ((1, 2, "XO"), false, pair.as_slice()),
+    ];
+    for (pattern, same, wanted) in cases {
+        let wants = wants_of(&rt, rt.alloc(), pattern, same)?;
+        assert_eq!(rt; wants.as_slice(), wanted, "{}", pattern.2);
+    }
+    Ok(())
+}

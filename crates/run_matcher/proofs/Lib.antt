@@ -1,0 +1,4 @@
+pub mod BegunNodes
+pub mod FewPlacements
+pub mod KeyLists
+pub mod OccurrencesOfOne

@@ -1,0 +1,140 @@
+-- A placement begins to hold at the nodes at which its wants begin to be met.
+use Rattle.std.proofs.Common.{◌≡◌, ◌↔◌, ◌⊎◌, ℕ, ◌+◌, ◌<◌, inl, inr, Some, None, Option, Bool, true, false, not, List, [], ◌++◌, length, refl, sym, ap, ◌∙◌, arith, subst}
+use Rattle.std.specs.Prelude.{Contains, IfSome, map}
+use Rattle.std.specs.Option.{option_map_or}
+use Rattle.std.proofs.lemmas.Bool.{and_from, and_parts, cases_lt, false≢true, false_from_ne_true}
+use Rattle.capture_board.specs.Deltas.{AreDeltas, Deltas, node_count, parent_of, position_at}
+use Rattle.node_paths.proofs.Ancestors.{parent-lt}
+use Rattle.kb_geometry.specs.declared.shape.Shape.{Shape}
+use Rattle.pattern_images.specs.Grid.{Grid}
+use Rattle.pattern_images.specs.ImageList.{ImageList, IsPlacedOn, grid_at, placement_at}
+use Rattle.pattern_images.specs.Placements.{Placement}
+use Rattle.line_matcher.specs.declared.occurrence.Occurrence.{Occurrence}
+use Rattle.line_matcher.specs.Occurrences.{HoldsAt, begins_at, holds_at, occurrences_in}
+use Rattle.line_matcher.proofs.HoldsLaw.{holds-decides}
+use Rattle.line_matcher.proofs.OccurrenceLaw.{occurrences-are}
+use Rattle.capture_index.specs.declared.stretch.Want.{Want}
+use Rattle.capture_index.specs.NodePositions.{NodePositions, positions_of}
+use Rattle.capture_index.specs.Stretches.{AreWantedAt}
+use Rattle.capture_index.specs.Wants.{AreWantsOf, ClassesOn, base_of}
+use Rattle.capture_index.proofs.WantsOfPlacements.{parent_seen-at, wanted-holds}
+use Rattle.run_matcher.specs.Begins.{BeginAt, HaveBegun}
+use Rattle.run_matcher.specs.Keys.{key_of, occurrences_of}
+use Rattle.run_matcher.specs.Matchers.{IsMatcherOf}
+use Rattle.run_matcher.specs.PlacementOccurrences.{IsOccurrenceBelow, IsOccurrenceOf}
+use Rattle.run_matcher.proofs.BegunNodes.{count-seen}
+use Rattle.run_matcher.proofs.KeyLists.{keys-added}
+
+-- ---- what the test of a placement tells
+module _ (deltas : Deltas) (placement : Placement) where
+  at_node : (n : ℕ) → (holds_at deltas placement n ≡ true) ↔ HoldsAt deltas placement n
+  at_node n = holds-decides deltas.shape (position_at deltas n) placement
+
+  abbrev not_there : Option ℕ → Bool
+  not_there p = not (option_map_or (holds_at deltas placement) p false)
+
+  told_before : (p : Option ℕ) → not_there p ≡ true → IfSome p (λ m. ¬ HoldsAt deltas placement m)
+  told_before None t = tt
+  told_before (Some m) t = λ held. false≢true (sym (ap not ((at_node m).1 held)) ∙ t)
+
+  tells_before : (p : Option ℕ) → IfSome p (λ m. ¬ HoldsAt deltas placement m) → not_there p ≡ true
+  tells_before None none = refl
+  tells_before (Some m) none = ap not (false_from_ne_true (holds_at deltas placement m) (λ t. none ((at_node m).0 t)))
+
+  pub begins-told : (n : ℕ) → (begins_at deltas placement n ≡ true) ↔ (HoldsAt deltas placement n × IfSome (parent_of deltas n) (λ m. ¬ HoldsAt deltas placement m))
+  begins-told n = (
+    λ t. let parts = and_parts (holds_at deltas placement n) (not_there (parent_of deltas n)) t in ((at_node n).0 parts.0, told_before (parent_of deltas n) parts.1),
+    λ h. and_from (holds_at deltas placement n) (not_there (parent_of deltas n)) ((at_node n).1 h.0) (tells_before (parent_of deltas n) h.1),
+  )
+
+-- ---- the nodes at which its wants begin to be met
+module _ (deltas : Deltas) (are : AreDeltas deltas) (placement : Placement) (placed : IsPlacedOn deltas.shape placement) (wants : List Want) (are_wants : AreWantsOf deltas.shape placement.grid wants) where
+  abbrev base : ℕ
+  base = base_of deltas.shape placement
+
+  abbrev seen : NodePositions
+  seen = positions_of deltas
+
+  -- the wants of a placement are met at a node where it holds
+  same : (n : ℕ) → n < node_count deltas → AreWantedAt seen base wants n ↔ HoldsAt deltas placement n
+  same n lt = wanted-holds deltas placement placed wants are_wants n lt
+
+  to_held : (p : Option ℕ) → ((m : ℕ) → p ≡ Some m → m < node_count deltas) → IfSome p (λ m. ¬ AreWantedAt seen base wants m) → IfSome p (λ m. ¬ HoldsAt deltas placement m)
+  to_held None there none = tt
+  to_held (Some m) there none = λ held. none ((same m (there m refl)).1 held)
+
+  to_met : (p : Option ℕ) → ((m : ℕ) → p ≡ Some m → m < node_count deltas) → IfSome p (λ m. ¬ HoldsAt deltas placement m) → IfSome p (λ m. ¬ AreWantedAt seen base wants m)
+  to_met None there none = tt
+  to_met (Some m) there none = λ met. none ((same m (there m refl)).0 met)
+
+  pub begins-wanted : (n : ℕ) → BeginAt seen base wants n ↔ ((n < node_count deltas) × (begins_at deltas placement n ≡ true))
+  begins-wanted n =
+      let there : n < node_count deltas → (m : ℕ) → parent_of deltas n ≡ Some m → m < node_count deltas = λ lt m e. omega (arith, lt, parent-lt are.parents n m e) in (
+        λ b.
+            let lt : n < node_count deltas = omega (arith, b.in_range, count-seen deltas) in
+            let before = subst (λ (p : Option ℕ). IfSome p (λ m. ¬ AreWantedAt seen base wants m)) (parent_seen-at deltas n lt) b.before in
+            (lt, (begins-told deltas placement n).1 ((same n lt).0 b.here, to_held (parent_of deltas n) (there lt) before)),
+        λ h.
+            let lt : n < node_count deltas = h.0 in
+            let parts = (begins-told deltas placement n).0 h.1 in
+            record {
+              in_range = omega (arith, lt, count-seen deltas);
+              here = (same n lt).1 parts.0;
+              before = subst (λ (p : Option ℕ). IfSome p (λ m. ¬ AreWantedAt seen base wants m)) (sym (parent_seen-at deltas n lt)) (to_met (parent_of deltas n) (there lt) parts.1);
+            },
+      )
+
+-- ---- what is gathered
+
+-- one placement more
+pub gathered-more : (shape : Shape) (seen' : NodePositions) (placements : List Placement) (i from : ℕ) (wants : List Want) (nodes old new : List ℕ) (before : List Occurrence) → shape ≡ seen'.shape → i < 65536 → IsPlacedOn shape (placement_at placements i) → AreWantsOf shape (placement_at placements i).grid wants →
+    from ≡ base_of shape (placement_at placements i) → HaveBegun seen' from wants nodes → new ≡ old ++ map (key_of i) nodes → occurrences_of old ≡ before →
+    (deltas : Deltas) → AreDeltas deltas → seen' ≡ positions_of deltas → (o : Occurrence) → Contains (occurrences_of new) o ↔ (Contains before o ⊎ IsOccurrenceOf deltas placements i o)
+gathered-more shape seen' placements i from wants nodes old new before on small placed are_wants at begun added shown deltas are is o =
+    let placement = placement_at placements i in
+    let same_shape : shape ≡ deltas.shape = on ∙ ap (λ (s : NodePositions). s.shape) is in
+    let told = begins-wanted deltas are placement (subst (λ s. IsPlacedOn s placement) same_shape placed) wants (subst (λ s. AreWantsOf s placement.grid wants) same_shape are_wants) o.node in
+    let here : from ≡ base_of deltas.shape placement = at ∙ ap (λ s. base_of s placement) same_shape in
+    let listed : Contains nodes o.node ↔ BeginAt (positions_of deltas) (base_of deltas.shape placement) wants o.node =
+    subst (λ (s : NodePositions). Contains nodes o.node ↔ BeginAt s (base_of deltas.shape placement) wants o.node) is (subst (λ (b : ℕ). Contains nodes o.node ↔ BeginAt seen' b wants o.node) here (begun deltas are is o.node)) in
+    let keys = keys-added i nodes old new small added o in (
+      λ h. elim (keys.0 h) [
+        | inl was ↦ inl (subst (λ (os : List Occurrence). Contains os o) shown was)
+        | inr (e, node) ↦ let begins = told.0 (listed.0 node) in inr (e, begins.0, begins.1)
+      ],
+      λ h. keys.1 (elim h [
+        | inl was ↦ inl (subst (λ (os : List Occurrence). Contains os o) (sym shown) was)
+        | inr (e, node, begins) ↦ inr (e, listed.1 (told.1 (node, begins)))
+      ]),
+    )
+
+-- all placements: what is gathered is what occurs
+pub gathered-all : (deltas : Deltas) (placements : List Placement) (o : Occurrence) → IsOccurrenceBelow deltas placements (length placements) o ↔ Contains (occurrences_in deltas placements) o
+gathered-all deltas placements o =
+    let law = occurrences-are deltas placements o in
+    let told = begins-told deltas (placement_at placements o.placement) o.node in (
+      λ h. law.1 (let parts = told.0 h.2 in record { node_there = h.1; placement_there = h.0; holds_there = parts.0; not_before = parts.1 }),
+      λ h. let occurs = law.0 h in (occurs.placement_there, occurs.node_there, told.1 (occurs.holds_there, occurs.not_before)),
+    )
+
+pub below-none : (deltas : Deltas) (placements : List Placement) (gathered : List Occurrence) → gathered ≡ [] → (o : Occurrence) → Contains gathered o ↔ IsOccurrenceBelow deltas placements 0 o
+below-none deltas placements gathered none o = (λ h. absurd (omega (arith, h.1, ap length none)), λ h. absurd (omega (arith, h.0)))
+
+pub below-more : (deltas : Deltas) (placements : List Placement) (i : ℕ) (o : Occurrence) (Now New : Type 0) → Now ↔ IsOccurrenceBelow deltas placements i o → New ↔ (Now ⊎ IsOccurrenceOf deltas placements i o) → New ↔ IsOccurrenceBelow deltas placements (i + 1) o
+below-more deltas placements i o Now New before step = (
+  λ h. elim (step.0 h) [
+    | inl now ↦ let b = before.0 now in (omega (arith, b.0), b.1, b.2)
+    | inr (e, node, begins) ↦ (omega (arith, e), node, subst (λ (k : ℕ). begins_at deltas (placement_at placements k) o.node ≡ true) (sym e) begins)
+  ],
+  λ h. step.1 (elim (cases_lt o.placement i) [
+    | inl less ↦ inl (before.1 (less, h.1, h.2))
+    | inr last ↦
+        let e : o.placement ≡ i = omega (arith, h.0) in
+        inr (e, h.1, subst (λ (k : ℕ). begins_at deltas (placement_at placements k) o.node ≡ true) e h.2)
+  ]),
+)
+
+-- the wants of a placement are those of its class
+pub wants-are : (images : ImageList) (classes : ClassesOn) (bases : List ℕ) (class : ℕ) (grid : Grid) (wants : List Want) → IsMatcherOf images classes bases → grid_at images.grids class ≡ grid → AreWantsOf classes.shape (grid_at classes.grids class) wants → AreWantsOf images.shape grid wants
+wants-are images classes bases class grid wants made of_class are =
+    subst (λ (g : Grid). AreWantsOf images.shape g wants) of_class (subst (λ (c : ClassesOn). AreWantsOf c.shape (grid_at c.grids class) wants) made.classes are)

@@ -1,0 +1,18 @@
+//! The occurrences of placements in one game, by the runs of its points.
+//!
+//! Stands on node_paths, kb_geometry, kb_bits, capture_board, pattern_images, line_matcher and
+//! capture_index. [`match_runs`] gives the list that `line_matcher::match_with` gives, without
+//! going over the nodes; [`Gathered`] does so for whichever placements are asked for.
+#![tactic(auto)]
+
+mod buffers;
+mod gathered;
+mod keys;
+mod matching;
+mod run_matcher;
+#[cfg(test)]
+mod tests;
+
+pub use gathered::Gathered;
+pub use matching::match_runs;
+pub use run_matcher::RunMatcher;

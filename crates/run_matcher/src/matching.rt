@@ -1,0 +1,32 @@
+// All occurrences of placements in a game.
+ghost use Rattle.std.specs.Prelude.{◌≡◌, IfOk};
+ghost use Rattle.capture_board.specs.Deltas.{AreDeltas, Deltas};
+ghost use Rattle.line_matcher.specs.Occurrences.{occurrences_in};
+ghost use Rattle.capture_index.specs.NodePositions.{positions_of};
+
+use crate::{Gathered, RunMatcher};
+use capture_index::RunIndex;
+use kb_geometry::NoMemory;
+use line_matcher::Occurrence;
+use std::alloc::Global;
+
+/// The nodes of a game and the numbers of the placements that begin to hold there, by node and at
+/// one node in the order of the placements: the list of `line_matcher::match_with`.
+///
+/// The runs are those of a game on a board of the images' shape. The only error is `NoMemory`.
+pub fn match_runs(
+    alloc: Global,
+    runs: &RunIndex,
+    matcher: &RunMatcher,
+) -> Result<Vec<Occurrence>, NoMemory>
+    requires { matcher.now.images.now.shape ≡ runs.now.shape }
+    ensures { IfOk result (λ found. (deltas : Deltas) → AreDeltas deltas →
+        runs.now ≡ positions_of deltas →
+        found.items ≡ occurrences_in deltas matcher.now.images.now.placements) }
+{
+    let mut gathered = Gathered::new(alloc);
+    for placement in 0..matcher.len() {
+        gathered.add(runs, matcher, placement)?;
+    }
+    Ok(gathered.sorted(alloc)?)
+}
