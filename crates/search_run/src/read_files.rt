@@ -124,7 +124,8 @@ fn add_games(
     let mut place = 0;
     for tree in trees {
         let deltas = follower.deltas(alloc, &tree)?;
-        games.add_finished(alloc, FinishedGame::new(file.clone()?, place, tree, deltas))?;
+        let game = FinishedGame::new(alloc, file.clone()?, place, tree, deltas)?;
+        games.add_finished(alloc, game)?;
         place += 1;
     }
     Ok(())

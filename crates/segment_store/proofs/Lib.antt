@@ -1,2 +1,4 @@
 mod GamesInBlocks
+mod GamesOfPlanes
+mod OneTree
 mod ShapesOfGames

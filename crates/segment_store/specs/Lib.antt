@@ -2,3 +2,4 @@
 pub mod Blocks
 pub mod BoardShapes
 pub mod Finished
+pub mod Planes

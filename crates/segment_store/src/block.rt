@@ -2,9 +2,12 @@
 ghost use Rattle.std.specs.Prelude.{◌≡◌, ◌<◌, ◌≤◌, ◌+◌, ◌++◌, length, map, Some, IfOk, OnOk};
 ghost use Rattle.std.specs.Arc.{arc_value};
 ghost use Rattle.std.specs.List.{slice_get};
-ghost use Rattle.segment_store.specs.BoardShapes.{AreShapesWith, HaveShapes};
+ghost use Rattle.segment_store.specs.BoardShapes.{AreDifferent, AreShapesWith, HaveShapes};
+ghost use Rattle.segment_store.specs.Planes.{AreMadeFor, ArePlanesFor, ArePlanesOf};
 
+use crate::block_planes::{planes_of, planes_with};
 use crate::finished::FinishedGame;
+use final_index::Planes;
 use kb_geometry::{NoMemory, Shape};
 use std::alloc::Global;
 use std::marker::Model;
@@ -18,8 +21,10 @@ pub(crate) const MAX_BLOCK: usize = 64;
 #[derive(Debug, Drop)]
 pub struct Block {
     games: Vec<Arc<FinishedGame>>,
-    // The shapes of their boards.
+    // The shapes of their boards, each once.
     shapes: Vec<Shape>,
+    // The planes of the games, for each of the shapes.
+    planes: Vec<Planes>,
 }
 
 impl Model for Block {
@@ -27,13 +32,15 @@ impl Model for Block {
     ghost use Rattle.std.specs.Arc.{arc_value};
     ghost use Rattle.node_position.specs.Games.{Game};
     ghost use Rattle.segment_store.specs.BoardShapes.{HaveShapes};
+    ghost use Rattle.segment_store.specs.Planes.{ArePlanesOf};
 
     ghost Value = { List Game };
 
     ghost view = { λ b. map arc_value b.games.items };
 
     ghost invariant = { λ b. (0 < length b.games.items) × (length b.games.items ≤ 64)
-        × HaveShapes (map arc_value b.games.items) b.shapes.items };
+        × HaveShapes (map arc_value b.games.items) b.shapes.items
+        × ArePlanesOf (map arc_value b.games.items) b.planes.items };
 }
 
 /// A block of a segment, and the number that its first game has there, from 0.
@@ -52,7 +59,14 @@ impl Block {
         requires few { length games.now ≤ 64 }
         ensures { IfOk result (λ block. block ≡ map arc_value games.now) }
     {
-        block_of(alloc, joined(alloc, games, &[])?)
+        let games = joined(alloc, games, &[])?;
+        let shapes = shapes_of(alloc, games.as_slice())?;
+        let planes = planes_of(alloc, games.as_slice(), shapes.as_slice())?;
+        Ok(Block {
+            games,
+            shapes,
+            planes,
+        })
     }
 
     // The games of two blocks, together at most 64.
@@ -60,10 +74,14 @@ impl Block {
         requires { length a.now + length b.now ≤ 64 }
         ensures { IfOk result (λ block. block ≡ a.now ++ b.now) }
     {
-        block_of(
-            alloc,
-            joined(alloc, a.games.as_slice(), b.games.as_slice())?,
-        )
+        let games = joined(alloc, a.games.as_slice(), b.games.as_slice())?;
+        let shapes = shapes_of(alloc, games.as_slice())?;
+        let planes = joined_planes(alloc, a, b, shapes.as_slice())?;
+        Ok(Block {
+            games,
+            shapes,
+            planes,
+        })
     }
 
     /// How many games it has, from 1 to 64.
@@ -82,6 +100,14 @@ impl Block {
         self.shapes.as_slice()
     }
 
+    /// For each shape of the boards the planes of the games: for each cell and point a bit for each
+    /// game that had the cell there at some node. Games on other boards have no bit.
+    pub fn planes(&self) -> &[Planes]
+        ensures { ArePlanesOf self.now result.now }
+    {
+        self.planes.as_slice()
+    }
+
     /// The game at this place in the block, from 0.
     pub fn get(&self, at: usize) -> &FinishedGame
         requires { at < length self.now }
@@ -91,30 +117,58 @@ impl Block {
     }
 }
 
-// The block of these games, from 1 to 64.
-fn block_of(alloc: Global, games: Vec<Arc<FinishedGame>>) -> Result<Block, NoMemory>
-    requires some { 0 < length games.items }
-    requires few { length games.items ≤ 64 }
-    ensures { IfOk result (λ block. block ≡ map arc_value games.items) }
+// The planes of the games of two blocks, for each of the shapes.
+fn joined_planes(
+    alloc: Global,
+    a: &Block,
+    b: &Block,
+    shapes: &[Shape],
+) -> Result<Vec<Planes>, NoMemory>
+    requires { length a.now + length b.now ≤ 64 }
+    ensures { IfOk result (λ planes. AreMadeFor shapes.now (a.now ++ b.now) planes.items) }
 {
-    let shapes = shapes_of(alloc, games.as_slice())?;
-    Ok(Block { games, shapes })
+    let mut planes = Vec::with_capacity(alloc, shapes.len())?;
+    for shape in shapes {
+        planes.push(joined_on(alloc, a, b, *shape)?)?;
+    }
+    Ok(planes)
+}
+
+// The planes of the games of two blocks on boards of one shape. A block without such boards has no
+// planes for them.
+fn joined_on(alloc: Global, a: &Block, b: &Block, shape: Shape) -> Result<Planes, NoMemory>
+    requires { length a.now + length b.now ≤ 64 }
+    ensures { IfOk result (ArePlanesFor shape (a.now ++ b.now)) }
+{
+    match (
+        planes_with(a.planes(), shape),
+        planes_with(b.planes(), shape),
+    ) {
+        (Some(one), Some(other)) => Planes::join(alloc, one, other),
+        (Some(one), None) => Planes::join(alloc, one, &Planes::none(alloc, shape, b.len())?),
+        (None, Some(other)) => Planes::join(alloc, &Planes::none(alloc, shape, a.len())?, other),
+        (None, None) => Planes::none(alloc, shape, a.len() + b.len()),
+    }
 }
 
 // The shapes of the boards of these games, each once.
 fn shapes_of(alloc: Global, games: &[Arc<FinishedGame>]) -> Result<Vec<Shape>, NoMemory>
-    ensures { IfOk result (λ shapes. HaveShapes (map arc_value games.now) shapes.items) }
+    ensures all { IfOk result (λ shapes. HaveShapes (map arc_value games.now) shapes.items) }
+    ensures different { IfOk result (λ shapes. AreDifferent shapes.items) }
 {
     let mut shapes = Vec::new(alloc);
     for game in games {
         add_shape(&mut shapes, game.tree().shape())?;
     }
+    shapes.shrink_to_fit();
     Ok(shapes)
 }
 
 // Adds a shape, unless it is there.
 fn add_shape(shapes: &mut Vec<Shape>, shape: Shape) -> Result<(), NoMemory>
-    ensures { OnOk result (AreShapesWith shape shapes.old.items shapes.new.items) }
+    ensures all { OnOk result (AreShapesWith shape shapes.old.items shapes.new.items) }
+    ensures different { OnOk result
+        (AreDifferent shapes.old.items → AreDifferent shapes.new.items) }
 {
     if !shapes.contains(&shape) {
         shapes.push(shape)?;
@@ -134,5 +188,6 @@ fn joined(
 {
     let mut games = Vec::from_clones(alloc, a)?;
     games.extend_from_slice(b)?;
+    games.shrink_to_fit();
     Ok(games)
 }

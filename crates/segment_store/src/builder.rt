@@ -86,7 +86,8 @@ impl SegmentBuilder {
             (λ _. self.new ≡ self.old) }
     {
         let name = name_of(alloc, self.games.as_slice(), file)?;
-        self.add_finished(alloc, FinishedGame::new(name, place, tree, deltas))
+        let game = FinishedGame::new(alloc, name, place, tree, deltas)?;
+        self.add_finished(alloc, game)
     }
 
     /// Adds a game that was finished before. There must be fewer than 400,000 games yet. After

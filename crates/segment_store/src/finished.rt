@@ -1,16 +1,29 @@
 // A game with what is asked of it again and again.
-ghost use Rattle.std.specs.Prelude.{◌≡◌};
+ghost use Rattle.std.specs.Prelude.{◌≡◌, ◌<◌, ℕ, Contains, IfOk};
 ghost use Rattle.std.specs.Arc.{arc_str_bytes};
+ghost use Rattle.kb_geometry.specs.declared.stone.Cell.{Cell};
+ghost use Rattle.kb_geometry.specs.Board.{point_count};
 ghost use Rattle.game_tree.specs.Result.{outcome_of};
+ghost use Rattle.final_index.specs.Ever.{set_of};
 ghost use Rattle.info_filter.specs.Day.{IsDayOf};
 ghost use Rattle.node_position.specs.Games.{AreNodeChanges};
-ghost use Rattle.segment_store.specs.Finished.{IsCanonicalOf};
+ghost use Rattle.segment_store.specs.Finished.{
+  AreCornersOfTree,
+  AreRunsOfTree,
+  AreSetsOfTree,
+  IsCanonicalOf,
+};
 
+use crate::indexes::Indexes;
 use capture_board::NodeDeltas;
+use capture_index::RunIndex;
+use corner_index::CornerKeys;
 use dyer_signature::{Signature, canonical, signature};
+use final_index::EverSets;
 use game_tree::GameTree;
 use info_filter::day_of;
-use kb_geometry::Outcome;
+use kb_geometry::{NoMemory, Outcome};
+use std::alloc::Global;
 use std::marker::Model;
 use std::sync::ArcStr;
 
@@ -21,6 +34,7 @@ pub struct FinishedGame {
     place: u32,
     tree: GameTree,
     deltas: NodeDeltas,
+    indexes: Indexes,
     day: Option<i32>,
     outcome: Outcome,
     canonical: Signature,
@@ -29,34 +43,45 @@ pub struct FinishedGame {
 impl Model for FinishedGame {
     ghost use Rattle.std.specs.Arc.{arc_str_bytes};
     ghost use Rattle.node_position.specs.Games.{Game};
-    ghost use Rattle.segment_store.specs.Finished.{IsOfItsTree};
+    ghost use Rattle.segment_store.specs.Finished.{AreIndexesOf, IsOfItsTree};
 
     ghost Value = { Game };
 
     ghost view = { λ g. record { file = arc_str_bytes g.file; place = g.place; tree = g.tree } };
 
-    ghost invariant = { λ g. IsOfItsTree g.tree g.deltas g.day g.outcome g.canonical.bytes };
+    ghost invariant = { λ g. IsOfItsTree g.tree g.deltas g.day g.outcome g.canonical.bytes
+        × AreIndexesOf g.tree g.indexes.ever g.indexes.runs g.indexes.corners };
 }
 
 impl FinishedGame {
     /// The game of a file with this name, at this place among the games of the file, from 0. The
-    /// changes are those of the tree, as [`deltas`](node_position::deltas) gives them.
-    pub fn new(file: ArcStr, place: u32, tree: GameTree, deltas: NodeDeltas) -> FinishedGame
+    /// changes are those of the tree, as [`deltas`](node_position::deltas) gives them. The only
+    /// error is `NoMemory`.
+    pub fn new(
+        alloc: Global,
+        file: ArcStr,
+        place: u32,
+        tree: GameTree,
+        deltas: NodeDeltas,
+    ) -> Result<FinishedGame, NoMemory>
         requires { AreNodeChanges tree deltas }
-        ensures { result ≡ record { file = arc_str_bytes file; place = place; tree = tree } }
+        ensures { IfOk result (λ game.
+            game ≡ record { file = arc_str_bytes file; place = place; tree = tree }) }
     {
+        let indexes = Indexes::of(alloc, &tree, &deltas)?;
         let day = day_of(tree.info().date());
         let outcome = tree.info().outcome();
         let canonical = canonical(&signature(&tree), tree.shape());
-        FinishedGame {
+        Ok(FinishedGame {
             file,
             place,
             tree,
             deltas,
+            indexes,
             day,
             outcome,
             canonical,
-        }
+        })
     }
 
     // The name of its file, to be shared.
@@ -92,6 +117,29 @@ impl FinishedGame {
         ensures { AreNodeChanges self.now.tree result.now }
     {
         &self.deltas
+    }
+
+    /// The points that were black, white and empty at some node.
+    pub fn ever(&self) -> &EverSets
+        ensures value { AreSetsOfTree self.now.tree result.now }
+        ensures on_board { (stone : Cell) (p : ℕ) → Contains (set_of result.now stone) p →
+            p < point_count self.now.tree.shape }
+    {
+        &self.indexes.ever
+    }
+
+    /// The runs of nodes at which each point has one cell.
+    pub fn runs(&self) -> &RunIndex
+        ensures { AreRunsOfTree self.now.tree result.now }
+    {
+        &self.indexes.runs
+    }
+
+    /// The numbers that the corners of the board had.
+    pub fn corners(&self) -> &CornerKeys
+        ensures { AreCornersOfTree self.now.tree result.now }
+    {
+        &self.indexes.corners
     }
 
     /// Its day, as [`day_of`] gives it for its date.

@@ -19,13 +19,21 @@ ghost use Rattle.std.specs.Option.{IsSomeAnd};
 ghost use Rattle.game_tree.specs.Result.{outcome_of};
 ghost use Rattle.info_filter.specs.Day.{IsDayOf};
 ghost use Rattle.node_position.specs.Games.{AreNodeChanges};
-ghost use Rattle.segment_store.specs.Finished.{IsCanonicalOf};
+ghost use Rattle.segment_store.specs.Finished.{
+  AreCornersOfTree,
+  AreRunsOfTree,
+  AreSetsOfTree,
+  IsCanonicalOf,
+};
 ghost use Rattle.segment_store.specs.Blocks.{AreNumbered, games_in, games_of};
 
 use crate::block::{Block, MAX_BLOCK, NumberedBlock};
 use crate::finished::FinishedGame;
 use capture_board::NodeDeltas;
+use capture_index::RunIndex;
+use corner_index::CornerKeys;
 use dyer_signature::Signature;
+use final_index::EverSets;
 use game_tree::GameTree;
 use kb_geometry::{NoMemory, Outcome};
 use std::alloc::Global;
@@ -150,6 +158,33 @@ impl Segment {
             (λ game. AreNodeChanges game.tree result.now) }
     {
         self.finished(g).deltas()
+    }
+
+    /// The points of a game that were black, white and empty at some node.
+    pub fn ever(&self, g: u32) -> &EverSets
+        requires { g < length self.now }
+        ensures { IsSomeAnd (slice_get self.now g)
+            (λ game. AreSetsOfTree game.tree result.now) }
+    {
+        self.finished(g).ever()
+    }
+
+    /// The runs of nodes at which each point of a game has one cell.
+    pub fn runs(&self, g: u32) -> &RunIndex
+        requires { g < length self.now }
+        ensures { IsSomeAnd (slice_get self.now g)
+            (λ game. AreRunsOfTree game.tree result.now) }
+    {
+        self.finished(g).runs()
+    }
+
+    /// The numbers that the corners of a game's board had.
+    pub fn corners(&self, g: u32) -> &CornerKeys
+        requires { g < length self.now }
+        ensures { IsSomeAnd (slice_get self.now g)
+            (λ game. AreCornersOfTree game.tree result.now) }
+    {
+        self.finished(g).corners()
     }
 
     /// The day of a game, as [`day_of`](info_filter::day_of) gives it for its date.

@@ -1,4 +1,6 @@
 // Segments of games from SGF texts. The values were worked out by hand.
+mod indexes;
+
 ghost use Rattle.std.specs.Prelude.{◌≡◌, IfOk};
 ghost use Rattle.std.specs.Arc.{arc_value};
 
@@ -99,7 +101,7 @@ fn add_known(
         if place % 2 == 0 {
             builder.add_with_deltas(alloc, file, place, tree, deltas)?;
         } else {
-            let game = FinishedGame::new(name.clone()?, place, tree, deltas);
+            let game = FinishedGame::new(alloc, name.clone()?, place, tree, deltas)?;
             builder.add_finished(alloc, game)?;
         }
     }

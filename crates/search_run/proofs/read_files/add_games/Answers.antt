@@ -10,9 +10,15 @@ add_finished-requires c =
     let turn = YieldsList-turn (YieldsList-from_vec c.args.trees.items h.0 (omega (arith, h.1))) c.loop-tree.yielded c.loop-tree.tree-iterator c.loop-tree.yielded_by c.next.result c.next.new.self c.in-Some.tree c.in-Some.is c.next.ensures.steps in
     room_for_more c.args.name.now c.args.games.now c.loop-tree.games c.loop-tree.yielded c.args.trees.items c.loop-tree.invariant.added c.requires turn.0
 
+pub overflow_add-place : goal.overflow_add-place
+overflow_add-place c =
+    let h = c.into_iter-tree-iterator.ensures.into_iter_gives in
+    let turn = YieldsList-turn (YieldsList-from_vec c.args.trees.items h.0 (omega (arith, h.1))) c.loop-tree.yielded c.loop-tree.tree-iterator c.loop-tree.yielded_by c.next.result c.next.new.self c.in-Some.tree c.in-Some.is c.next.ensures.steps in
+    omega (arith, turn.0, c.requires, c.loop-tree.invariant.placed)
+
 pub loop-tree-preserved : goal.loop-tree-preserved
 loop-tree-preserved c = record {
   placed = rw length-append (omega (arith, c.loop-tree.invariant.placed));
   added = added_more c.args.name.now c.loop-tree.yielded c.args.games.now c.loop-tree.games c.add_finished.new.self _ c.in-Some.tree c.loop-tree.invariant.added c.in_ok-add_finished.ensures
-      (c.new.ensures ∙ game_named c.in-Some.tree (c.in_ok-clone.ensures.cases ∙ c.in_ok-file.ensures.ok) c.loop-tree.invariant.placed);
+      (c.in_ok-game.ensures ∙ game_named c.in-Some.tree (c.in_ok-clone.ensures.cases ∙ c.in_ok-file.ensures.ok) c.loop-tree.invariant.placed);
 }

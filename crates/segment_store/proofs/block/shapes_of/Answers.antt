@@ -6,10 +6,16 @@ use Rattle.segment_store.proofs.ShapesOfGames.{HaveShapes-more}
 use Rattle.segment_store.proofs.block.shapes_of.Goals as goal
 
 pub loop-game-preserved : goal.loop-game-preserved
-loop-game-preserved c =
-    HaveShapes-more arc_value c.args.games.now c.loop-game.game-index c.game-item.result c.shape.result c.loop-game.shapes.items c.add_shape.new.shapes.items c.loop-game-test.true c.game-item.is
-    (c.shape.ensures.value ∙ ap (λ t. t.shape) c.tree.ensures ∙ ap (λ g. g.tree.shape) c.deref.ensures) c.loop-game.invariant c.in_ok-add_shape.ensures
+loop-game-preserved c = (
+  HaveShapes-more arc_value c.args.games.now c.loop-game.game-index c.game-item.result c.shape.result c.loop-game.shapes.items c.add_shape.new.shapes.items c.loop-game-test.true c.game-item.is
+      (c.shape.ensures.value ∙ ap (λ t. t.shape) c.tree.ensures ∙ ap (λ g. g.tree.shape) c.deref.ensures) c.loop-game.invariant.0 c.in_ok-add_shape.ensures.all,
+  c.in_ok-add_shape.ensures.different c.loop-game.invariant.1,
+)
 
-pub returns : goal.returns
-returns c =
-    subst (λ games. HaveShapes (map arc_value games) c.loop-game.shapes.items) (take_all c.loop-game.game-index c.args.games.now (omega (arith, c.loop-game-test.false))) c.loop-game.invariant
+pub returns-clause-all : goal.returns-clause-all
+returns-clause-all c =
+    rw c.shrink_to_fit.ensures.items
+    (subst (λ games. HaveShapes (map arc_value games) c.loop-game.shapes.items) (take_all c.loop-game.game-index c.args.games.now (omega (arith, c.loop-game-test.false))) c.loop-game.invariant.0)
+
+pub returns-clause-different : goal.returns-clause-different
+returns-clause-different c = rw c.shrink_to_fit.ensures.items c.loop-game.invariant.1

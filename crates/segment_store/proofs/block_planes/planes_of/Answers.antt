@@ -1,0 +1,9 @@
+use Rattle.std.proofs.Common.{map}
+use Rattle.std.specs.Arc.{arc_value}
+use Rattle.segment_store.proofs.GamesOfPlanes.{AreMadeFor-more}
+use Rattle.segment_store.proofs.block_planes.planes_of.Goals as goal
+
+pub loop-shape-preserved : goal.loop-shape-preserved
+loop-shape-preserved c =
+    rw c.in_ok-push.ensures.items (AreMadeFor-more c.args.shapes.now c.loop-shape.shape-index c.shape-item.result (map arc_value c.args.games.now) c.loop-shape.planes.items c.in_ok-planes_on.field-0 c.loop-shape-test.true c.shape-item.is
+    c.loop-shape.invariant c.in_ok-planes_on.ensures)
