@@ -1,6 +1,6 @@
 -- Hits that are added, one occurrence after another.
 use Rattle.std.proofs.Common.{◌≡◌, ℕ, ◌+◌, ◌<◌, List, [], ◌∷◌, ◌++◌, length, get_or, take, Option, Some, None, sym, ap, ◌∙◌, subst, append_assoc}
-use Rattle.std.specs.Prelude.{IfNone, IfSome, Result, Ok, Err, OnOk}
+use Rattle.std.specs.Prelude.{IfNone, IfOk, IfSome, Result, Ok, Err, OnOk}
 use Rattle.std.proofs.lemmas.List.{append-nil, take_more}
 use Rattle.game_tree.specs.Tree.{Tree}
 use Rattle.capture_board.specs.Deltas.{Deltas}
@@ -17,6 +17,11 @@ use Rattle.search_engine.specs.Searching.{AreHitsAdded}
 pub OnOk-then : {T E P Q : Type 0} (r : Result T E) → OnOk r P → (P → Q) → OnOk r Q
 OnOk-then (Ok v) p then = then p
 OnOk-then (Err e) p then = p
+
+-- the same, where it is said of what was made
+pub IfOk-then : {T E : Type 0} {P Q : T → Type 0} (r : Result T E) → IfOk r P → ((v : T) → P v → Q v) → IfOk r Q
+IfOk-then (Ok v) p then = then v p
+IfOk-then (Err e) p then = p
 
 -- the hits that are none yet
 pub AreHitsAdded-none : (are : List Hit → Type 0) (hits : List Hit) → are [] → AreHitsAdded are hits hits

@@ -1,15 +1,11 @@
 -- Searching one block after another.
-use Rattle.std.proofs.Common.{◌≡◌, ℕ, Some, ◌+◌, ◌*◌, ◌<◌, ◌≤◌, List, [], ◌++◌, drop, get_or, length, length-append, take, sym, ap, ◌∙◌, subst, arith}
+use Rattle.std.proofs.Common.{◌≡◌, ℕ, ◌+◌, ◌*◌, ◌<◌, ◌≤◌, List, [], ◌++◌, drop, get_or, length, length-append, take, sym, ap, ◌∙◌, subst, arith}
 use Rattle.std.proofs.Math.Nat.{mul-le-mul_left}
 use Rattle.std.proofs.lemmas.List.{get_or-append-add, take-append-drop, take_all}
-use Rattle.std.proofs.lemmas.List.Sums.{sum_by-append, sum_by-take-le, sum_by_more}
-use Rattle.std.proofs.lemmas.Option.{get_or_from_slice_get}
 use Rattle.kb_geometry.proofs.Lists.{All-before}
-use Rattle.game_tree.specs.Tree.{node_count}
-use Rattle.search_engine.specs.Nodes.{nodes_of}
 use Rattle.std.proofs.lemmas.List.Concat.{flat_map-append, get_or-flat_map}
 use Rattle.std.proofs.lemmas.List.Folds.{length-flat_map-take}
-use Rattle.std.specs.List.{flat_map, slice_get}
+use Rattle.std.specs.List.{flat_map}
 use Rattle.std.specs.Prelude.{All}
 use Rattle.kb_geometry.specs.declared.shape.Shape.{Shape}
 use Rattle.node_position.specs.Games.{Game}
@@ -44,25 +40,6 @@ All-of_sublist P items from count all =
     let cut : games ≡ games_of (take (from + count) items) ++ games_of (drop (from + count) items) = ap games_of (sym (take-append-drop (from + count) items)) ∙ flat_map-append (λ (i : Item). i.block.now) (take (from + count) items) (drop (from + count) items) in
     let front = All-before P (games_of (take (from + count) items)) (games_of (drop (from + count) items)) (subst (All P) cut all) in
     All-behind P (games_of (take from items)) (games_of (take count (drop from items))) (subst (All P) (games_to_piece items from count) front)
-
--- ---- the nodes of games
-
--- the nodes of one game more
-pub nodes_more : (games : List Game) (k : ℕ) (game : Game) → k < length games → slice_get games k ≡ Some game → nodes_of (take (k + 1) games) ≡ nodes_of (take k games) + node_count game.tree
-nodes_more games k game lt at = sum_by_more (λ (g : Game). node_count g.tree) games k game lt ∙ ap (λ (g : Game). nodes_of (take k games) + node_count g.tree) (get_or_from_slice_get games k game game at)
-
-pub nodes_most : (games : List Game) (k : ℕ) → nodes_of (take k games) ≤ nodes_of games
-nodes_most games k = sum_by-take-le (λ (g : Game). node_count g.tree) games k
-
--- the nodes of one block more
-pub block_nodes_more : (items : List Item) (k : ℕ) (i : Item) → k < length items → i ≡ get_or items k i → nodes_of (games_of (take (k + 1) items)) ≡ nodes_of (games_of (take k items)) + nodes_of i.block.now
-block_nodes_more items k i lt at = ap nodes_of (games_to_next items k i lt at) ∙ sum_by-append (λ (g : Game). node_count g.tree) (games_of (take k items)) i.block.now
-
-pub block_nodes_most : (items : List Item) (k : ℕ) → nodes_of (games_of (take k items)) ≤ nodes_of (games_of items)
-block_nodes_most items k =
-    let cut : games_of items ≡ games_of (take k items) ++ games_of (drop k items) = ap games_of (sym (take-append-drop k items)) ∙ flat_map-append (λ (i : Item). i.block.now) (take k items) (drop k items) in
-    let all = ap nodes_of cut ∙ sum_by-append (λ (g : Game). node_count g.tree) (games_of (take k items)) (games_of (drop k items)) in
-    omega (arith, all)
 
 module _ (query : Query) (filter : Filter) (shapes : List Shape) (items : List Item) where
   -- ---- one block after another

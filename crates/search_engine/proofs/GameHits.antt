@@ -1,5 +1,5 @@
 -- The hits of one game.
-use Rattle.std.proofs.Common.{◌≡◌, ℕ, List, [], length, sym, subst}
+use Rattle.std.proofs.Common.{ℕ, List}
 use Rattle.game_tree.specs.Tree.{Tree}
 use Rattle.capture_board.specs.Deltas.{Deltas}
 use Rattle.pattern_images.specs.declared.hit.Hit.{Hit}
@@ -11,7 +11,6 @@ use Rattle.node_position.specs.Games.{AreNodeChanges}
 use Rattle.search_engine.specs.Hits.{AreGameHits, AreHitsIn, AreHitsOf, AsksFor}
 use Rattle.search_engine.specs.Searching.{AreHitsAdded}
 use Rattle.search_engine.proofs.AddedHits.{AreHitsAdded-none}
-use Rattle.search_engine.proofs.WhereFound.{no_occurrences}
 
 module _ (query : Query) (number : ℕ) (game : Tree) (changes : Deltas) (of : AreNodeChanges game changes) (placements : List Placement) (are : ArePlacements query game.shape placements) (old new : List Hit) where
   -- those of all its occurrences
@@ -21,18 +20,6 @@ module _ (query : Query) (number : ℕ) (game : Tree) (changes : Deltas) (of : A
     added = added.added;
     are_hits = record { changes = changes; are_changes = of; placements = placements; are_placements = are; are_hits = added.are_hits };
   }
-
-  -- none without a placement
-  pub AreHitsIn-none : length placements ≡ 0 → new ≡ old → AreHitsAdded (AreHitsIn query number game) old new
-  AreHitsIn-none none same =
-      subst (λ hs. AreHitsAdded (AreHitsIn query number game) old hs) (sym same)
-      (AreHitsAdded-none (AreHitsIn query number game) old (record {
-        changes = changes;
-        are_changes = of;
-        placements = placements;
-        are_placements = are;
-        are_hits = subst (λ os. AreHitsOf query number game changes placements os []) (sym (no_occurrences changes placements none)) AreHitsOf.nothing;
-      }))
 
 module _ (query : Query) (filter : Filter) (number : ℕ) (game : Tree) (old : List Hit) where
   -- those in a game that is asked for

@@ -1,16 +1,27 @@
 -- Searching one game after another.
-use Rattle.std.proofs.Common.{◌≡◌, ℕ, ◌+◌, ◌<◌, List, [], ◌∷◌, ◌++◌, Some, append_assoc, length, take, sym, ap, ◌∙◌, subst, arith}
+use Rattle.std.proofs.Common.{◌≡◌, ℕ, zero, suc, ◌+◌, ◌<◌, ◌≤◌, List, [], ◌∷◌, ◌++◌, Some, append_assoc, add-one, length, refl, take, sym, ap, ◌∙◌, subst, arith}
 use Rattle.std.specs.List.{slice_get}
-use Rattle.std.proofs.lemmas.List.{length-take-le, take_more}
+use Rattle.std.proofs.lemmas.List.{length-take-le, take_all, take_more}
 use Rattle.std.proofs.lemmas.Option.{get_or_from_slice_get}
 use Rattle.node_position.specs.Games.{Game}
 use Rattle.pattern_images.specs.declared.hit.Hit.{Hit}
 use Rattle.pattern_images.specs.declared.query.Query.{Query}
 use Rattle.info_filter.specs.declared.filter.Filter.{Filter}
+use Rattle.info_filter.specs.Filter.{Accepts}
 use Rattle.search_engine.specs.Hits.{AreGameHits, AreHitsFrom}
 use Rattle.search_engine.specs.Searching.{AreHitsAdded}
 use Rattle.search_engine.proofs.AddedHits.{AreHitsAdded-none}
 use Rattle.search_engine.proofs.HitParts.{AreHitsFrom-append}
+
+-- the game at a place of a list
+pub some_there : (games : List Game) (k : ℕ) → k < length games → (game : Game) × (slice_get games k ≡ Some game)
+some_there [] k lt = absurd (omega (arith, lt))
+some_there (game ∷ games) zero lt = (game, refl)
+some_there (game ∷ games) (suc k) lt = some_there games k (omega (arith, lt))
+
+-- one game stands at a place of a list
+pub same_game : (games : List Game) (k : ℕ) (one other : Game) → slice_get games k ≡ Some one → slice_get games k ≡ Some other → one ≡ other
+same_game games k one other at too = sym (get_or_from_slice_get games k one one at) ∙ get_or_from_slice_get games k other one too
 
 module _ (first : ℕ) (query : Query) (filter : Filter) (old : List Hit) where
   abbrev these : List Game → List Hit → List Hit → Type 0
@@ -42,3 +53,16 @@ module _ (first : ℕ) (query : Query) (filter : Filter) (old : List Hit) where
       let next : take (k + 1) games ≡ take k games ++ game ∷ [] = take_more games k game lt ∙ ap (λ (g : Game). take k games ++ g ∷ []) (get_or_from_slice_get games k game game at) in
       subst (λ gs. these gs old new) (sym next)
       (one_more (take k games) game mid new number (is ∙ ap (λ n. first + n) (sym counted)) so_far added)
+
+  -- games that the filter refuses have no hits
+  refused_to : (games : List Game) → ((g : ℕ) (game : Game) → slice_get games g ≡ Some game → ¬ Accepts filter game.tree.info) → (k : ℕ) → k ≤ length games → AreHitsFrom first query filter (take k games) []
+  refused_to games refused zero le = AreHitsFrom.nothing
+  refused_to games refused (suc k) le =
+      let (game, at) = some_there games k (omega (arith, le)) in
+      let next : take (suc k) games ≡ take k games ++ game ∷ [] = ap (λ n. take n games) (sym (add-one k)) ∙ take_more games k game (omega (arith, le)) ∙ ap (λ (g : Game). take k games ++ g ∷ []) (get_or_from_slice_get games k game game at) in
+      subst (λ gs. AreHitsFrom first query filter gs []) (sym next)
+      (AreHitsFrom.one_more game [] (refused_to games refused k (omega (arith, le))) (AreGameHits.not_asked (λ asks. refused k game at asks.1)))
+
+  pub AreHitsFrom-refused : (games : List Game) → ((g : ℕ) (game : Game) → slice_get games g ≡ Some game → ¬ Accepts filter game.tree.info) → these games old old
+  AreHitsFrom-refused games refused =
+      AreHitsAdded-none (AreHitsFrom first query filter games) old (subst (λ gs. AreHitsFrom first query filter gs []) (take_all (length games) games (omega arith)) (refused_to games refused (length games) (omega arith)))

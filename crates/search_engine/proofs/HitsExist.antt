@@ -145,7 +145,7 @@ hits_in query number tree is_tree =
     )
 
 -- a game is asked for or not
-asks-or-not : (query : Query) (filter : Filter) (tree : Tree) → AsksFor query filter tree ⊎ ¬ AsksFor query filter tree
+pub asks-or-not : (query : Query) (filter : Filter) (tree : Tree) → AsksFor query filter tree ⊎ ¬ AsksFor query filter tree
 asks-or-not query filter tree = elim (told_board query tree.shape) [
   | inr other ↦ inr (λ asks. other asks.0)
   | inl board ↦ elim (told_accepts filter tree.info) [

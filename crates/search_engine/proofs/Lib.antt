@@ -1,9 +1,17 @@
 mod AddedHits
 mod FoundHits
+mod FoundCandidates
+mod GameBits
 mod GameHits
 mod GamesSearched
 mod ImagesOnShapes
 mod ItemLists
+pub mod KeptCounts
+mod KeptGames
+mod PossibleGames
+mod KeptSteps
+mod Gathering
+pub mod ToldKept
 mod JoinedPieces
 mod BlocksSearched
 mod SameShapes

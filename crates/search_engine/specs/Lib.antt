@@ -1,7 +1,9 @@
 -- Words that contracts of public functions rest on.
 pub mod Hits
+pub mod KeptGames
 pub mod Nodes
 -- Words of private functions.
+pub mod BlockCandidates
 pub mod ImagesMade
 pub mod Items
 pub mod Searching

@@ -1,94 +1,57 @@
 // The hits of a query in one game.
-ghost use Rattle.std.specs.Prelude.{◌≡◌, ◌↔◌, ◌+◌, ◌<◌, ◌≤◌, IsTrue, OnOk, length};
+ghost use Rattle.std.specs.Prelude.{◌≡◌, ◌↔◌, ◌+◌, ◌<◌, ◌≤◌, [], ◌∷◌, ℕ, IsTrue, OnOk, length};
 ghost use Rattle.game_tree.specs.Tree.{node_count};
-ghost use Rattle.capture_board.specs.Deltas.{Deltas};
 ghost use Rattle.node_position.specs.Games.{AreNodeChanges};
 ghost use Rattle.pattern_images.specs.Placements.{ArePlacements};
 ghost use Rattle.pattern_images.specs.ImageList.{placement_at};
 ghost use Rattle.continuation_table.specs.Continuation.{HoldsAt};
 ghost use Rattle.line_matcher.specs.Occurrences.{occurrences_in};
-ghost use Rattle.pattern_images.specs.Query.{IsForBoard};
-ghost use Rattle.info_filter.specs.Filter.{Accepts};
-ghost use Rattle.search_engine.specs.Hits.{
-  AreGameHits,
-  AreHitsIn,
-  AreHitsOf,
-  IsHit,
-  LooksAt,
-};
+ghost use Rattle.search_engine.specs.BlockCandidates.{AreCompleteFor, AreInRangeFor};
+ghost use Rattle.search_engine.specs.Hits.{AreHitsIn, AreHitsOf, IsHit, LooksAt};
+ghost use Rattle.search_engine.specs.KeptGames.{HaveKeptNodes};
 ghost use Rattle.search_engine.specs.Searching.{AreHitsAdded};
 
-use capture_board::{NodeDeltas, Steps, Walker};
+use crate::matchers::BoardMatcher;
+use crate::occurrences::{Room, occurrences};
+use candidate_sieve::Candidate;
+use capture_board::{NodeDeltas, Steps};
 use continuation_table::next_below;
 use game_tree::GameTree;
-use info_filter::{Filter, accepts_known};
 use kb_geometry::NoMemory;
-use line_matcher::{Matcher, Occurrence, match_along};
+use line_matcher::Occurrence;
 use pattern_images::{Hit, Images, Query};
 use segment_store::FinishedGame;
 use std::alloc::Global;
 use std::sync::ledger::Ledger;
 
-// Adds the hits of the game with this number, if the filter accepts it. The matcher is that of the
-// query's images on the game's board, on which the query looks.
-pub(crate) fn add_game<L: Ledger>(
-    alloc: Global,
-    query: &Query,
-    filter: &Filter,
-    number: u32,
-    game: &FinishedGame,
-    matcher: &Matcher,
-    walker: &mut Walker,
-    hits: &mut Vec<Hit>,
-    steps: &mut Steps<L>,
-) -> Result<(), NoMemory>
-    requires board { IsForBoard query.now game.now.tree.shape }
-    requires shape { matcher.now.images.now.shape ≡ game.now.tree.shape }
-    requires placements { ArePlacements query.now game.now.tree.shape
-        matcher.now.images.now.placements }
-    ensures hits { OnOk result (AreHitsAdded
-        (AreGameHits query.now filter.now number game.now.tree) hits.old.items hits.new.items) }
-    ensures ticks { steps.new ≤ steps.old + node_count game.now.tree }
-    ensures grows { steps.old ≤ steps.new }
-{
-    if !is_accepted(filter, game) {
-        return Ok(());
-    }
-    add_hits_in(alloc, query, number, game, matcher, walker, hits, steps)
-}
-
-// Whether a filter accepts a game, by what is kept beside its tree.
-fn is_accepted(filter: &Filter, game: &FinishedGame) -> bool
-    ensures { IsTrue result ↔ Accepts filter.now game.now.tree.info }
-{
-    accepts_known(filter, game.tree().info(), game.day(), game.outcome())
-}
-
-// Adds the hits in the game with this number, which is asked for.
-fn add_hits_in<L: Ledger>(
+// Adds the hits in the game with this number, at this place of its block, on whose board the query
+// looks.
+pub(crate) fn add_hits_in<L: Ledger>(
     alloc: Global,
     query: &Query,
     number: u32,
+    at: usize,
     game: &FinishedGame,
-    matcher: &Matcher,
-    walker: &mut Walker,
+    matcher: &BoardMatcher,
+    candidates: &[Candidate],
+    room: &mut Room,
     hits: &mut Vec<Hit>,
     steps: &mut Steps<L>,
 ) -> Result<(), NoMemory>
+    requires at { at < 64 }
     requires shape { matcher.now.images.now.shape ≡ game.now.tree.shape }
     requires placements { ArePlacements query.now game.now.tree.shape
         matcher.now.images.now.placements }
+    requires in_range { AreInRangeFor query.now game.now.tree at candidates.now }
+    requires complete { AreCompleteFor query.now game.now.tree at candidates.now }
     ensures hits { OnOk result (AreHitsAdded (AreHitsIn query.now number game.now.tree)
         hits.old.items hits.new.items) }
-    ensures ticks { steps.new ≤ steps.old + node_count game.now.tree }
+    ensures ticks { (n : ℕ) → HaveKeptNodes query.now (game.now ∷ []) n →
+        steps.new ≤ steps.old + n }
     ensures grows { steps.old ≤ steps.new }
 {
-    if matcher.images.is_empty() {
-        let _changes = game.deltas();
-        return Ok(());
-    }
     let deltas = game.deltas();
-    let found = match_along(alloc, deltas, matcher, walker, steps)?;
+    let found = occurrences(alloc, game, deltas, at, matcher, candidates, room, steps)?;
     add_hits(query, number, game, deltas, matcher.images, &found, hits)
 }
 

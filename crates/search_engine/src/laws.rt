@@ -1,11 +1,13 @@
 // Laws. Each stands as a contract of a function that does nothing.
-ghost use Rattle.std.specs.Prelude.{◌≡◌, ◌+◌, ◌++◌, ℕ, All, List, length};
+ghost use Rattle.std.specs.Prelude.{◌≡◌, ◌≤◌, ◌+◌, ◌++◌, ℕ, All, List, length};
 ghost use Rattle.game_tree.specs.Tree.{IsTree};
 ghost use Rattle.info_filter.specs.declared.filter.Filter.{Filter};
 ghost use Rattle.node_position.specs.Games.{Game};
 ghost use Rattle.pattern_images.specs.declared.hit.Hit.{Hit};
 ghost use Rattle.pattern_images.specs.declared.query.Query.{Query};
 ghost use Rattle.search_engine.specs.Hits.{AreHitsFrom};
+ghost use Rattle.search_engine.specs.KeptGames.{AreKept, HaveKeptNodes};
+ghost use Rattle.search_engine.specs.Nodes.{nodes_of};
 
 /// The hits of games in two parts are those of the first part, and then those of the second one,
 /// whose games are numbered on.
@@ -26,4 +28,23 @@ pub fn games_have_one_list_of_hits()
         (a b : List Hit) →
         All (λ (g : Game). IsTree g.tree) games →
         AreHitsFrom first query filter games a → AreHitsFrom first query filter games b → a ≡ b }
+{}
+
+/// So many games are kept for a query, and no other number of them.
+pub fn games_have_one_count_of_kept()
+    ensures some { (query : Query) (games : List Game) →
+        All (λ (g : Game). IsTree g.tree) games → (k : ℕ) × AreKept query games k }
+    ensures one { (query : Query) (games : List Game) (a b : ℕ) →
+        AreKept query games a → AreKept query games b → a ≡ b }
+{}
+
+/// The games that are kept for a query have so many nodes, and no other number of them: at most as
+/// many as all these games.
+pub fn games_have_one_count_of_kept_nodes()
+    ensures some { (query : Query) (games : List Game) →
+        All (λ (g : Game). IsTree g.tree) games → (n : ℕ) × HaveKeptNodes query games n }
+    ensures one { (query : Query) (games : List Game) (a b : ℕ) →
+        HaveKeptNodes query games a → HaveKeptNodes query games b → a ≡ b }
+    ensures most { (query : Query) (games : List Game) (n : ℕ) →
+        HaveKeptNodes query games n → n ≤ nodes_of games }
 {}

@@ -23,6 +23,7 @@ use crate::shape_list::ShapeList;
 use kb_geometry::{NoMemory, Shape};
 use line_matcher::Matcher;
 use pattern_images::{Images, Query, images};
+use run_matcher::RunMatcher;
 use std::alloc::Global;
 use std::marker::Model;
 
@@ -61,6 +62,20 @@ impl<'a> QueryImages<'a> {
             images,
         })
     }
+
+    // The images for boards of this shape, if there are some.
+    pub(crate) fn find(&self, shape: Shape) -> Option<&Images>
+        ensures shape { IfSome result (λ found. found.now.shape ≡ shape) }
+        ensures asked { IfSome result (λ found. IsForBoard self.now.query shape) }
+        ensures placements { IfSome result (λ found.
+            ArePlacements self.now.query shape found.now.placements) }
+        ensures none { IfNone result (¬ Contains self.now.shapes shape) }
+    {
+        match self.shapes.find(shape) {
+            Some(place) => Some(&self.images[place]),
+            None => None,
+        }
+    }
 }
 
 // The images of a query on boards of each of these shapes, in their order.
@@ -75,12 +90,33 @@ fn images_on(alloc: Global, query: &Query, shapes: &[Shape]) -> Result<Vec<Image
     Ok(made)
 }
 
-// The same, made ready to be looked for.
+// The images on boards of one shape, made ready to be looked for by walks and by runs.
+#[derive(Debug, Drop)]
+pub(crate) struct BoardMatcher<'a> {
+    pub(crate) images: &'a Images,
+    pub(crate) walk: Matcher<'a>,
+    pub(crate) runs: RunMatcher<'a>,
+    ghost walks: { walk.images.now ≡ images.now },
+    ghost by_runs: { runs.images.now ≡ images.now },
+}
+
+impl<'a> BoardMatcher<'a> {
+    // Makes images ready.
+    fn new(alloc: Global, images: &'a Images) -> Result<BoardMatcher<'a>, NoMemory>
+        ensures { IfOk result (λ made. made.images.now ≡ images.now) }
+    {
+        let walk = Matcher::new(alloc, images)?;
+        let runs = RunMatcher::new(alloc, images)?;
+        Ok(BoardMatcher { images, walk, runs })
+    }
+}
+
+// The images of a query on boards of several shapes, made ready to be looked for.
 #[derive(Debug, Drop)]
 pub(crate) struct Matchers<'a> {
     query: &'a Query,
     shapes: &'a ShapeList,
-    matchers: Vec<Matcher<'a>>,
+    matchers: Vec<BoardMatcher<'a>>,
 }
 
 impl<'a> Model for Matchers<'a> {
@@ -116,11 +152,12 @@ impl<'a> Matchers<'a> {
     }
 
     // The matcher for boards of this shape, if there is one.
-    pub(crate) fn find(&self, shape: Shape) -> Option<&Matcher<'a>>
+    pub(crate) fn find(&self, shape: Shape) -> Option<&BoardMatcher<'a>>
         ensures shape { IfSome result (λ found. found.now.images.now.shape ≡ shape) }
         ensures asked { IfSome result (λ found. IsForBoard self.now.query shape) }
         ensures placements { IfSome result (λ found.
             ArePlacements self.now.query shape found.now.images.now.placements) }
+        ensures there { IfSome result (λ found. Contains self.now.shapes shape) }
         ensures none { IfNone result (¬ Contains self.now.shapes shape) }
     {
         match self.shapes.find(shape) {
@@ -131,12 +168,12 @@ impl<'a> Matchers<'a> {
 }
 
 // The images made ready, in their order.
-fn matchers_of<'a>(alloc: Global, images: &'a [Images]) -> Result<Vec<Matcher<'a>>, NoMemory>
+fn matchers_of<'a>(alloc: Global, images: &'a [Images]) -> Result<Vec<BoardMatcher<'a>>, NoMemory>
     ensures { IfOk result (λ made. map (λ m. m.images.now) made.items ≡ images.now) }
 {
     let mut made = Vec::new(alloc);
     for on_shape in images {
-        made.push(Matcher::new(alloc, on_shape)?)?;
+        made.push(BoardMatcher::new(alloc, on_shape)?)?;
     }
     Ok(made)
 }

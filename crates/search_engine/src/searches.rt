@@ -1,9 +1,9 @@
 // A search over a version, and over one part of it.
-ghost use Rattle.std.specs.Prelude.{◌≡◌, ◌≤◌, ◌+◌, ◌*◌, ◌<◌, IfOk, length};
+ghost use Rattle.std.specs.Prelude.{◌≡◌, ◌≤◌, ◌+◌, ℕ, IfOk, length};
 ghost use Rattle.version_publisher.specs.Contents.{items_in};
 ghost use Rattle.continuation_table.specs.Table.{IsTable};
 ghost use Rattle.search_engine.specs.Hits.{AreHits, AreHitsFrom};
-ghost use Rattle.search_engine.specs.Nodes.{nodes_of};
+ghost use Rattle.search_engine.specs.KeptGames.{HaveKeptNodes};
 
 use crate::answer::Answer;
 use crate::items::{items_of_part, items_of_version};
@@ -53,7 +53,7 @@ pub fn search<R: Threads + Sync>(
 /// `first`.
 ///
 /// Together at most 400,000 games are numbered. The count of steps only grows, by at most the
-/// number of all nodes of these games. The only error is `NoMemory`.
+/// number of all nodes of the games that are kept for the query. The only error is `NoMemory`.
 pub fn search_segment<L: Ledger>(
     alloc: Global,
     part: &Segment,
@@ -65,7 +65,7 @@ pub fn search_segment<L: Ledger>(
     requires { first + length part.now ≤ 400000 }
     ensures hits { IfOk result (λ hits.
         AreHitsFrom first query.now filter.now part.now hits.items) }
-    ensures ticks { steps.new ≤ steps.old + nodes_of part.now }
+    ensures ticks { (n : ℕ) → HaveKeptNodes query.now part.now n → steps.new ≤ steps.old + n }
     ensures grows { steps.old ≤ steps.new }
 {
     let items = items_of_part(alloc, part, first)?;

@@ -3,7 +3,7 @@ mod made;
 
 use crate::pieces::piece_size;
 use crate::tests::made::{
-    Asked, Seen, merged_version, seen_in_segment, seen_in_version, version_of,
+    Asked, Seen, kept_in_text, merged_version, seen_in_segment, seen_in_version, version_of,
 };
 use segment_store::Segment;
 use std::alloc::Global;
@@ -182,4 +182,73 @@ fn sizes_of_pieces(rt: HostRuntime) {
     ] {
         assert_eq!(rt; piece_size(blocks, games), wanted, "{blocks} {games}");
     }
+}
+
+// A game whose text goes back at half of its nodes, and with a long last variation that lets this
+// be rare. In each a black stone comes to the third point of the third row at nodes 1 and 3.
+#[test]
+fn variations_by_a_walk_and_by_runs(rt: HostRuntime) -> Result<(), Fail> {
+    let alloc = rt.alloc();
+    for text in [
+        "(;SZ[9](;B[cc])(;B[dd])(;B[cc];W[aa]))",
+        "(;SZ[9](;B[cc])(;B[dd])(;B[cc];W[aa];B[];W[];B[];W[];B[];W[];B[];W[];B[];W[]))",
+    ] {
+        let found = seen_in_segment(&rt, alloc, text, 0, ASKED)?;
+        let wanted: &[Seen] = &[(0, 1), (0, 3)];
+        assert_eq!(rt; found.as_slice(), wanted, "{text}");
+    }
+    Ok(())
+}
+
+#[test]
+fn shapes_by_turns_in_a_block(rt: HostRuntime) -> Result<(), Fail> {
+    let alloc = rt.alloc();
+    let text = "(;SZ[9]AB[cc])(;SZ[13]AB[cc])(;SZ[9];B[dd])(;SZ[13];B[cc])(;SZ[9];W[aa];B[cc])";
+    let nines = Asked {
+        board: Some(9),
+        ..ASKED
+    };
+    let cases: [(Asked, &[Seen]); 2] = [
+        (ASKED, &[(0, 0), (1, 0), (3, 1), (4, 2)]),
+        (nines, &[(0, 0), (4, 2)]),
+    ];
+    for (asked, wanted) in cases {
+        let found = seen_in_segment(&rt, alloc, text, 0, asked)?;
+        assert_eq!(rt; found.as_slice(), wanted, "{asked:?}");
+    }
+    Ok(())
+}
+
+// Two black stones side by side in the corner of a board of six lines, and nothing else there.
+const TWO_STONES: &str = "XX..................................";
+
+// Games, a pattern, and how many of them are kept. In the first game the two stones stand there one
+// after the other, in the second together. A board that is full at the root was never empty.
+const KEPT: [(&str, u8, &str, u32); 6] = [
+    ("(;SZ[6];B[aa];AE[aa];B[ba])", 6, TWO_STONES, 0),
+    ("(;SZ[6];B[aa];W[];B[ba])", 6, TWO_STONES, 1),
+    ("(;SZ[2]AB[aa:bb])", 1, "o", 0),
+    ("(;SZ[2]AB[aa:bb])", 1, "x", 1),
+    (
+        "(;SZ[6];B[aa];W[];B[ba])(;SZ[2]AB[aa:bb])(;SZ[3];W[aa])",
+        1,
+        "X",
+        2,
+    ),
+    (
+        "(;SZ[6];B[aa];W[];B[ba])(;SZ[2]AB[aa:bb])(;SZ[3];W[aa])",
+        1,
+        "O",
+        1,
+    ),
+];
+
+#[test]
+fn games_that_are_kept(rt: HostRuntime) -> Result<(), Fail> {
+    let alloc = rt.alloc();
+    for (text, side, cells, wanted) in KEPT {
+        let found = kept_in_text(&rt, alloc, text, side, side, cells)?;
+        assert_eq!(rt; found, wanted, "{cells} in {text}");
+    }
+    Ok(())
 }

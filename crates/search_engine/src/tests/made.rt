@@ -2,7 +2,7 @@
 ghost use Rattle.std.specs.Prelude.{◌≡◌, ◌+◌, ◌<◌, ◌≤◌, IfOk, length};
 ghost use Rattle.std.specs.Arc.{arc_value};
 
-use crate::{game_count, search, search_segment};
+use crate::{game_count, kept, search, search_segment};
 use capture_board::Steps;
 use game_tree::{Bytes, build};
 use info_filter::{Condition, ConditionList, Filter};
@@ -194,4 +194,40 @@ pub(crate) fn merged_version(
     let mut version = Version::empty(alloc);
     add_part(rt, alloc, all, &mut version)?;
     Ok(version)
+}
+
+// A pattern of so many columns by its cells: X and O for stones, x and o for no white and no black
+// stone, and a point for an empty cell.
+fn drawn(rt: &impl Abort, alloc: Global, cols: u8, rows: u8, cells: &str) -> Result<Query, Fail> {
+    let mut drawn = Vec::new(alloc);
+    for cell in cells.as_bytes() {
+        drawn.push(match *cell {
+            b'X' => PatternCell::Black,
+            b'O' => PatternCell::White,
+            b'x' => PatternCell::NotWhite,
+            b'o' => PatternCell::NotBlack,
+            _ => PatternCell::Empty,
+        })?;
+    }
+    let mut query = Query::new(Pattern::new(cols, rows, drawn).expect(rt, "a pattern"));
+    query.same = true;
+    Ok(query)
+}
+
+// How many games of a text are kept for a pattern in the same colours.
+pub(crate) fn kept_in_text(
+    rt: &impl Abort,
+    alloc: Global,
+    text: &str,
+    cols: u8,
+    rows: u8,
+    cells: &str,
+) -> Result<u32, Fail> {
+    let mut builder = SegmentBuilder::new(alloc);
+    add_text(rt, alloc, text, &mut builder)?;
+    let part = builder.finish(alloc)?;
+    let mut version = Version::empty(alloc);
+    add_part(rt, alloc, part, &mut version)?;
+    let query = drawn(rt, alloc, cols, rows, cells)?;
+    Ok(kept(alloc, &version, &query)?)
 }

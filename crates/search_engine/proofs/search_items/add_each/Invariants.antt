@@ -1,12 +1,12 @@
-use Rattle.std.proofs.Common.{◌≤◌, ◌+◌, take}
+use Rattle.std.proofs.Common.{◌≤◌, take}
 use Rattle.search_engine.specs.Items.{games_of}
-use Rattle.search_engine.specs.Nodes.{nodes_of}
 use Rattle.search_engine.proofs.BlocksSearched.{so_far}
+use Rattle.search_engine.proofs.KeptSteps.{GrowsBy}
 use Rattle.search_engine.proofs.search_items.add_each.Given as goal
 
 abbrev pub invariant-loop-item : goal.invariant-loop-item
 invariant-loop-item g l = record {
   hits : so_far l.matchers.query l.filter l.matchers.shapes l.items l.item-index l.fn.hits.items l.hits.items;
-  ticks : l.steps ≤ l.fn.steps + nodes_of (games_of (take l.item-index l.items));
+  ticks : GrowsBy l.matchers.query (games_of (take l.item-index l.items)) l.fn.steps l.steps;
   grows : l.fn.steps ≤ l.steps;
 }

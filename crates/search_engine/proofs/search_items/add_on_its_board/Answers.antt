@@ -1,10 +1,33 @@
-use Rattle.std.proofs.Common.{◌∙◌, ap, sym, subst}
+use Rattle.std.proofs.Common.{◌∙◌, ap, subst, sym}
 use Rattle.std.specs.Prelude.{Contains}
-use Rattle.search_engine.proofs.GameHits.{AreGameHits-none}
+use Rattle.game_tree.specs.Tree.{Tree}
+use Rattle.pattern_images.specs.declared.query.Query.{Query}
+use Rattle.pattern_images.specs.Query.{IsForBoard}
+use Rattle.search_engine.specs.BlockCandidates.{AreCompleteFor}
+use Rattle.search_engine.specs.Hits.{AreHitsIn}
+use Rattle.search_engine.specs.Searching.{AreHitsAdded}
+use Rattle.search_engine.proofs.AddedHits.{OnOk-then}
+use Rattle.search_engine.proofs.GameHits.{AreGameHits-asked, AreGameHits-none}
 use Rattle.search_engine.proofs.search_items.add_on_its_board.Goals as goal
 
 pub returns-in_default-clause-hits : goal.returns-in_default-clause-hits
-returns-in_default-clause-hits g c covered =
-    let same = c.shape.ensures.value ∙ ap (λ t. t.shape) c.tree.ensures in
-    AreGameHits-none c.args.matchers.now.query c.args.filter.now c.args.number c.args.game.now.tree c.args.hits.now.items
-    (λ asks. c.in_default.ensures.none (subst (Contains c.args.matchers.now.shapes) (sym same) (covered asks.0)))
+returns-in_default-clause-hits g c filter accepts covered =
+    let shape = c.shape.ensures.value ∙ ap (λ (t : Tree). t.shape) c.tree.ensures in
+    AreGameHits-none c.args.matchers.now.query filter c.args.number c.args.game.now.tree c.args.hits.now.items
+    (λ asks. c.in_default.ensures.none (subst (Contains c.args.matchers.now.shapes) (sym shape) (covered asks.0)))
+
+pub returns-clause-hits : goal.returns-clause-hits
+returns-clause-hits g c =
+    let query = c.args.matchers.now.query in
+    let tree = c.args.game.now.tree in
+    let shape = c.shape.ensures.value ∙ ap (λ (t : Tree). t.shape) c.tree.ensures in
+    let board = subst (IsForBoard query) shape c.in-Some.ensures.asked in
+    OnOk-then c.add_hits_in.result c.add_hits_in.ensures.hits
+    (λ added filter accepts covered. AreGameHits-asked query filter c.args.number tree c.args.hits.now.items c.add_hits_in.new.hits.items (board, accepts)
+    (subst (λ (q : Query). AreHitsAdded (AreHitsIn q c.args.number tree) c.args.hits.now.items c.add_hits_in.new.hits.items) c.query.ensures added))
+
+pub add_hits_in-requires-clause-complete : goal.add_hits_in-requires-clause-complete
+add_hits_in-requires-clause-complete g c =
+    let shape = c.shape.ensures.value ∙ ap (λ (t : Tree). t.shape) c.tree.ensures in
+    subst (λ (q : Query). AreCompleteFor q c.args.game.now.tree c.args.at c.args.candidates.now) (sym c.query.ensures)
+    (c.requires.complete (subst (Contains c.args.matchers.now.shapes) shape c.in-Some.ensures.there))

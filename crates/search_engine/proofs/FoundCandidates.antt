@@ -1,0 +1,155 @@
+-- The candidates of a block, one shape after another.
+use Rattle.std.proofs.Common.{◌≡◌, ℕ, inl, inr, ◌+◌, ◌<◌, ◌≤◌, List, [], ◌++◌, None, Some, get_or, length, map, refl, sym, ap, ◌∙◌, subst, arith, length-append}
+use Rattle.std.specs.Int.{bit_at}
+use Rattle.std.specs.List.{slice_get}
+use Rattle.std.specs.Option.{IsSomeAnd}
+use Rattle.std.specs.Prelude.{Any, Contains}
+use Rattle.std.proofs.lemmas.Bool.{cases_eq}
+use Rattle.std.proofs.lemmas.List.{append-nil, get_or-append-add, get_or-map, get_or_append_left, get_or_default, length-map}
+use Rattle.std.proofs.lemmas.List.Elements.{All-contains, Contains-append_cases}
+use Rattle.std.proofs.lemmas.Option.{get_or_from_slice_get, slice_get_within}
+use Rattle.kb_geometry.specs.declared.shape.Shape.{Shape}
+use Rattle.node_position.specs.Games.{Game}
+use Rattle.pattern_images.specs.declared.query.Query.{Query}
+use Rattle.pattern_images.specs.ImageList.{IsPlacedOn, no_placement, placement_at}
+use Rattle.pattern_images.specs.Placements.{ArePlacements, Placement}
+use Rattle.pattern_images.proofs.OneList.{one_list}
+use Rattle.pattern_images.proofs.PlacedOn.{IsPlacedOn-result}
+use Rattle.info_filter.specs.declared.filter.Filter.{Filter}
+use Rattle.final_index.specs.Planes.{PlaneGames}
+use Rattle.candidate_sieve.specs.declared.candidates.Candidate.{Candidate}
+use Rattle.candidate_sieve.specs.Candidates.{AreCandidatesAdded}
+use Rattle.candidate_sieve.specs.Candidates.{MeetsCells}
+use Rattle.segment_store.specs.Planes.{ArePlanesOf, ArePlanesOn, IsGameOfPlanes}
+use Rattle.search_engine.specs.BlockCandidates.{AreAccepted, AreAddedOn, AreCandidatesOf, AreComplete, AreCompleteFor, AreInRange, IsCandidate, candidate_at, no_candidate}
+use Rattle.search_engine.specs.Searching.{AreCovered, IsCovered}
+use Rattle.search_engine.proofs.PossibleGames.{not_none, on_shape_where_there, possible_where_it_holds}
+
+-- ---- more candidates
+
+Any-front : {X : Type 0} (P : X → Type 0) (xs ys : List X) → Any P xs → Any P (xs ++ ys)
+Any-front P xs ys (k, x, lt, at, p) = (k, x, omega (arith, lt, length-append xs ys), get_or_append_left xs ys x k lt ∙ at, p)
+
+Any-behind : {X : Type 0} (P : X → Type 0) (xs ys : List X) → Any P ys → Any P (xs ++ ys)
+Any-behind P xs ys (k, x, lt, at, p) = (length xs + k, x, omega (arith, lt, length-append xs ys), get_or-append-add xs ys k x ∙ at, p)
+
+-- a candidate that is contained is one of its game
+candidate_is : (found : List Candidate) (c : Candidate) (g : ℕ) → Contains found c → bit_at c.games g ≡ 1 → IsCandidate found c.placement g
+candidate_is found c g (k, lt, at) bit = (k, c, lt, at, (refl, bit))
+
+-- ---- what is added for one shape
+
+module _ (query : Query) (shapes : List Shape) (planes : PlaneGames) (asked : ℕ) (old new : List Candidate) where
+  -- nothing, where the query has no images
+  pub AreAddedOn-none : ¬ Contains shapes planes.shape → new ≡ old → AreAddedOn query shapes planes asked old new
+  AreAddedOn-none not same = record {
+    more = [];
+    added = same ∙ sym (append-nil old);
+    in_range = λ ps are c (k, lt, at). absurd (omega (arith, lt));
+    there = λ c g (k, lt, at) below bit. absurd (omega (arith, lt));
+    complete = λ covered ps are i g lt below bit possible. absurd (not (covered (are.sound i no_placement lt).board));
+  }
+
+  -- the candidates of its images
+  pub AreAddedOn-found : (placements : List Placement) → ArePlacements query planes.shape placements → AreCandidatesAdded planes placements asked old new → AreAddedOn query shapes planes asked old new
+  AreAddedOn-found placements are found = record {
+    more = found.more;
+    added = found.added;
+    in_range = λ ps too c there. subst (λ (qs : List Placement). c.placement < length qs) (one_list query planes.shape placements ps are too) (All-contains (λ (d : Candidate). d.placement < length placements) found.more c found.are.in_range there);
+    there = λ c g there below bit.
+        let lt = All-contains (λ (d : Candidate). d.placement < length placements) found.more c found.are.in_range there in
+        let is = (found.are.exact c.placement g lt below).0 (candidate_is found.more c g there bit) in
+        (is.0, not_none (get_or planes.games g None) (λ sets. MeetsCells planes.shape sets (placement_at placements c.placement)) is.1);
+    complete = λ covered ps too i g lt below bit possible.
+        let same = one_list query planes.shape ps placements too are in
+        (found.are.exact i g (subst (λ (qs : List Placement). i < length qs) same lt) below).1
+        (bit, subst (λ (qs : List Placement). IsSomeAnd (get_or planes.games g None) (λ sets. MeetsCells planes.shape sets (placement_at qs i))) same possible);
+  }
+
+-- ---- one shape after another
+
+module _ (query : Query) (shapes : List Shape) (games : List Game) (asked : ℕ) where
+  -- what is found for the first so many planes
+  pub record AreFoundTo (planes : List PlaneGames) (k : ℕ) (found : List Candidate) : Type 0 where
+    pub in_range : AreInRange query games found
+    pub asked_for : (c : Candidate) (g : ℕ) → Contains found c → g < 64 → bit_at c.games g ≡ 1 → bit_at asked g ≡ 1
+    pub complete : (j g : ℕ) (d : PlaneGames) (game : Game) → IsCovered query shapes game.tree.shape → j < k → slice_get games g ≡ Some game → bit_at asked g ≡ 1 → (get_or planes j d).shape ≡ game.tree.shape → AreCompleteFor query game.tree g found
+
+  pub AreFoundTo-start : (planes : List PlaneGames) (found : List Candidate) → found ≡ [] → AreFoundTo planes 0 found
+  AreFoundTo-start planes found none = subst (AreFoundTo planes 0) (sym none) (record {
+    in_range = λ g game at ps are c (k, lt, is) bit. absurd (omega (arith, lt));
+    asked_for = λ c g (k, lt, is) below bit. absurd (omega (arith, lt));
+    complete = λ j g d game covered lt. absurd (omega (arith, lt));
+  })
+
+  module _ (few : length games ≤ 64) (planes : List PlaneGames) (k : ℕ) (p : PlaneGames) (lt : k < length planes) (at : p ≡ get_or planes k p) (on : ArePlanesOn games p) (old new : List Candidate) (so_far : AreFoundTo planes k old) (added : AreAddedOn query shapes p asked old new) where
+    below_64 : (g : ℕ) (game : Game) → slice_get games g ≡ Some game → g < 64
+    below_64 g game there = omega (arith, few, slice_get_within games g game there)
+
+    in_range : AreInRange query games (old ++ added.more)
+    in_range g game there ps are c is_in bit = elim (Contains-append_cases old added.more c is_in) [
+      | inl before ↦ so_far.in_range g game there ps are c before bit
+      | inr here ↦
+          let within = slice_get_within games g game there in
+          let told = subst (λ (h : Game). IsGameOfPlanes p.shape h.tree (get_or p.games g None)) (get_or_from_slice_get games g game game there) (on.1 g game within) in
+          let same = on_shape_where_there p.shape game.tree (get_or p.games g None) told (added.there c g here (below_64 g game there) bit).1 in
+          added.in_range ps (subst (λ (s : Shape). ArePlacements query s ps) same are) c here
+    ]
+
+    asked_for : (c : Candidate) (g : ℕ) → Contains (old ++ added.more) c → g < 64 → bit_at c.games g ≡ 1 → bit_at asked g ≡ 1
+    asked_for c g is_in below bit = elim (Contains-append_cases old added.more c is_in) [
+      | inl before ↦ so_far.asked_for c g before below bit
+      | inr here ↦ (added.there c g here below bit).0
+    ]
+
+    complete_here : (g : ℕ) (game : Game) → IsCovered query shapes game.tree.shape → slice_get games g ≡ Some game → bit_at asked g ≡ 1 → p.shape ≡ game.tree.shape → AreCompleteFor query game.tree g (old ++ added.more)
+    complete_here g game covered there bit same changes ps of are i n in_list node holds =
+        let within = slice_get_within games g game there in
+        let read = get_or_from_slice_get games g game game there in
+        let told = subst (λ (h : Game). IsGameOfPlanes p.shape h.tree (get_or p.games g None)) read (on.1 g game within) in
+        let covers = subst (IsCovered query shapes) (sym same) covered in
+        let placed : IsPlacedOn game.tree.shape (placement_at ps i) = IsPlacedOn-result query game.tree.shape (placement_at ps i) (are.sound i no_placement in_list) in
+        let possible = possible_where_it_holds p.shape game.tree (get_or p.games g None) told (sym same) changes of (placement_at ps i) n placed node holds in
+        Any-behind (λ (c : Candidate). (c.placement ≡ i) × (bit_at c.games g ≡ 1)) old added.more
+        (added.complete covers ps (subst (λ (s : Shape). ArePlacements query s ps) (sym same) are) i g in_list (below_64 g game there) bit possible)
+
+    complete : (j g : ℕ) (d : PlaneGames) (game : Game) → IsCovered query shapes game.tree.shape → j < k + 1 → slice_get games g ≡ Some game → bit_at asked g ≡ 1 → (get_or planes j d).shape ≡ game.tree.shape → AreCompleteFor query game.tree g (old ++ added.more)
+    complete j g d game covered less there bit same = elim (cases_eq j k) [
+      | inr ne ↦ λ changes ps of are i n in_list node holds.
+          Any-front (λ (c : Candidate). (c.placement ≡ i) × (bit_at c.games g ≡ 1)) old added.more (so_far.complete j g d game covered (omega (arith, less, ne)) there bit same changes ps of are i n in_list node holds)
+      | inl this ↦
+          let here : get_or planes j d ≡ p = ap (λ n. get_or planes n d) this ∙ get_or_default planes k d p lt ∙ sym at in
+          complete_here g game covered there bit (ap (λ (q : PlaneGames). q.shape) (sym here) ∙ same)
+    ]
+
+    pub AreFoundTo-more : AreFoundTo planes (k + 1) new
+    AreFoundTo-more = subst (AreFoundTo planes (k + 1)) (sym added.added) (record { in_range = in_range; asked_for = asked_for; complete = complete })
+
+  -- all planes of the block
+  module _ (few : length games ≤ 64) (planes : List PlaneGames) (k : ℕ) (found : List Candidate) (le : length planes ≤ k) (are : ArePlanesOf games planes) (so_far : AreFoundTo planes k found) where
+    asked_within : (c : Candidate) (g : ℕ) (game : Game) → slice_get games g ≡ Some game → Contains found c → bit_at c.games g ≡ 1 → bit_at asked g ≡ 1
+    asked_within c g game there is_in bit = so_far.asked_for c g is_in (omega (arith, few, slice_get_within games g game there)) bit
+
+    complete_all : (g : ℕ) (game : Game) → slice_get games g ≡ Some game → bit_at asked g ≡ 1 → IsCovered query shapes game.tree.shape → AreCompleteFor query game.tree g found
+    complete_all g game there bit covered =
+        let within = slice_get_within games g game there in
+        let read = get_or_from_slice_get games g game game there in
+        let in_games : Contains (map (λ (h : Game). h.tree.shape) games) game.tree.shape = (g, omega (arith, within, length-map games (λ (h : Game). h.tree.shape)), get_or-map (λ (h : Game). h.tree.shape) games g game game.tree.shape within ∙ ap (λ (h : Game). h.tree.shape) read) in
+        let (j, lt, at) = (are.shapes game.tree.shape).1 in_games in
+        let inside : j < length planes = omega (arith, lt, length-map planes (λ (q : PlaneGames). q.shape)) in
+        let none : PlaneGames = record { shape = game.tree.shape; games = [] } in
+        so_far.complete j g none game covered (omega (arith, inside, le)) there bit
+        (sym (get_or-map (λ (q : PlaneGames). q.shape) planes j none game.tree.shape inside) ∙ at)
+
+    pub AreComplete-all : AreComplete query shapes games found
+    AreComplete-all g game there (j, lt, bit) shape_there =
+        let c = candidate_at found j in
+        complete_all g game there (asked_within c g game there (j, lt, get_or_default found j c no_candidate lt) bit) (λ looks. shape_there)
+
+    pub AreCandidatesOf-all : (filter : Filter) → AreAccepted filter games asked → AreCovered query shapes games → AreCandidatesOf query filter games found
+    AreCandidatesOf-all filter accepted covered g game there = record {
+      accepted = λ c is_in bit. (accepted g game there).0 (asked_within c g game there is_in bit);
+      complete = λ accepts.
+          let covers = subst (λ (h : Game). IsCovered query shapes h.tree.shape) (get_or_from_slice_get games g game game there) (covered g game (slice_get_within games g game there)) in
+          complete_all g game there ((accepted g game there).1 accepts) covers;
+    }

@@ -1,0 +1,27 @@
+use Rattle.std.proofs.Common.{arith, subst, sym}
+use Rattle.final_index.specs.Planes.{PlaneGames}
+use Rattle.segment_store.specs.Planes.{ArePlanesOn}
+use Rattle.search_engine.proofs.FoundCandidates.{AreCandidatesOf-all, AreComplete-all, AreFoundTo-more, AreFoundTo-start}
+use Rattle.search_engine.proofs.block_candidates.find_candidates.Goals as goal
+
+pub loop-planes-init : goal.loop-planes-init
+loop-planes-init c = AreFoundTo-start c.args.matchers.now.query c.args.matchers.now.shapes c.args.block.now c.args.asked c.planes-planes-items.result.now c.clear.new.self.items c.clear.ensures.items
+
+pub loop-planes-preserved : goal.loop-planes-preserved
+loop-planes-preserved c =
+    let planes = c.planes-planes-items.result.now in
+    let k = c.loop-planes.planes-index in
+    let p : PlaneGames = c.planes-item.result in
+    let on = subst (λ (q : PlaneGames). ArePlanesOn c.args.block.now q) (sym c.planes-item.is) (c.planes-planes-items.ensures.each k p c.loop-planes-test.true) in
+    AreFoundTo-more c.args.matchers.now.query c.args.matchers.now.shapes c.args.block.now c.args.asked (omega (arith, c.len-count.ensures.value, c.len-count.ensures.most)) planes k p c.loop-planes-test.true c.planes-item.is on
+    c.loop-planes.found.items c.add_on_shape.new.found.items c.loop-planes.invariant c.in_ok-add_on_shape.ensures
+
+pub returns-clause-complete : goal.returns-clause-complete
+returns-clause-complete c =
+    AreComplete-all c.args.matchers.now.query c.args.matchers.now.shapes c.args.block.now c.args.asked (omega (arith, c.len-count.ensures.value, c.len-count.ensures.most)) c.planes-planes-items.result.now c.loop-planes.planes-index c.loop-planes.found.items
+    (omega (arith, c.loop-planes-test.false)) c.planes-planes-items.ensures c.loop-planes.invariant
+
+pub returns-clause-found : goal.returns-clause-found
+returns-clause-found c =
+    AreCandidatesOf-all c.args.matchers.now.query c.args.matchers.now.shapes c.args.block.now c.args.asked (omega (arith, c.len-count.ensures.value, c.len-count.ensures.most)) c.planes-planes-items.result.now c.loop-planes.planes-index c.loop-planes.found.items
+    (omega (arith, c.loop-planes-test.false)) c.planes-planes-items.ensures c.loop-planes.invariant

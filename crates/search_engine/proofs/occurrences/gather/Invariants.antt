@@ -1,0 +1,8 @@
+use Rattle.std.proofs.Common.{◌≡◌}
+use Rattle.capture_board.specs.Deltas.{AreDeltas, Deltas}
+use Rattle.capture_index.specs.NodePositions.{positions_of}
+use Rattle.search_engine.proofs.Gathering.{IsGathered}
+use Rattle.search_engine.proofs.occurrences.gather.Given as goal
+
+abbrev pub invariant-loop-candidate : goal.invariant-loop-candidate
+invariant-loop-candidate l = (changes : Deltas) → AreDeltas changes → l.runs ≡ positions_of changes → IsGathered changes l.matcher.images.now.placements l.at l.candidates l.candidate-index l.gathered

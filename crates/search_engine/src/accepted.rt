@@ -1,0 +1,26 @@
+// Which games of a block a filter accepts.
+ghost use Rattle.std.specs.Prelude.{◌↔◌, IsTrue};
+ghost use Rattle.info_filter.specs.Filter.{Accepts};
+ghost use Rattle.search_engine.specs.BlockCandidates.{AreAccepted};
+
+use crate::bits::with_bit;
+use info_filter::{Filter, accepts_known};
+use segment_store::{Block, FinishedGame};
+
+// The games of a block that a filter accepts, a bit for each.
+pub(crate) fn accepted_games(filter: &Filter, block: &Block) -> u64
+    ensures { AreAccepted filter.now block.now result }
+{
+    let mut accepted = 0;
+    for at in 0..block.len() {
+        accepted = with_bit(accepted, at, is_accepted(filter, block.get(at)));
+    }
+    accepted
+}
+
+// Whether a filter accepts a game, by what is kept beside its tree.
+fn is_accepted(filter: &Filter, game: &FinishedGame) -> bool
+    ensures { IsTrue result ↔ Accepts filter.now game.now.tree.info }
+{
+    accepts_known(filter, game.tree().info(), game.day(), game.outcome())
+}

@@ -1,0 +1,69 @@
+// Which placements the games of a block may have.
+ghost use Rattle.std.specs.Prelude.{OnOk, length};
+ghost use Rattle.info_filter.specs.declared.filter.Filter.{Filter};
+ghost use Rattle.search_engine.specs.BlockCandidates.{
+  AreAccepted,
+  AreAddedOn,
+  AreCandidatesOf,
+  AreComplete,
+  AreInRange,
+  HasGamesOf,
+};
+ghost use Rattle.search_engine.specs.Searching.{AreCovered};
+
+use crate::matchers::Matchers;
+use candidate_sieve::{Candidate, add_candidates};
+use final_index::Planes;
+use kb_geometry::NoMemory;
+use segment_store::Block;
+
+// Finds the placements that games of a block may have, among the games that are asked for. What was
+// in the list before is gone.
+pub(crate) fn find_candidates(
+    matchers: &Matchers,
+    block: &Block,
+    asked: u64,
+    found: &mut Vec<Candidate>,
+) -> Result<(), NoMemory>
+    ensures in_range { OnOk result (AreInRange matchers.now.query block.now found.new.items) }
+    ensures complete { OnOk result (AreComplete matchers.now.query matchers.now.shapes block.now
+        found.new.items) }
+    ensures found { OnOk result ((filter : Filter) → AreAccepted filter block.now asked →
+        AreCovered matchers.now.query matchers.now.shapes block.now →
+        AreCandidatesOf matchers.now.query filter block.now found.new.items) }
+{
+    let _count = block.len();
+    found.clear();
+    for planes in block.planes() {
+        add_on_shape(matchers, planes, asked, found)?;
+    }
+    Ok(())
+}
+
+// Adds the placements that games on boards of one shape may have. Where there is no matcher for the
+// shape, the query doesn't look there.
+fn add_on_shape(
+    matchers: &Matchers,
+    planes: &Planes,
+    asked: u64,
+    found: &mut Vec<Candidate>,
+) -> Result<(), NoMemory>
+    ensures { OnOk result (AreAddedOn matchers.now.query matchers.now.shapes planes.now asked
+        found.old.items found.new.items) }
+{
+    let Some(matcher) = matchers.find(planes.shape()) else {
+        return Ok(());
+    };
+    add_candidates(planes, matcher.images, matcher.runs.wants(), asked, found)
+}
+
+// The games that have a candidate, a bit for each.
+pub(crate) fn games_of(candidates: &[Candidate]) -> u64
+    ensures { HasGamesOf candidates.now (length candidates.now) result }
+{
+    let mut games = 0;
+    for candidate in candidates {
+        games |= candidate.games;
+    }
+    games
+}
