@@ -16,6 +16,7 @@ pub mod OnePattern
 pub mod ToldSearches
 pub mod ToldConditions
 pub mod FilteredBodies
+pub mod KeptBodies
 pub mod ToldStatements
 pub mod SomeStatements
 pub mod OneList

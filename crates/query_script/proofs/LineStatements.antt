@@ -11,6 +11,7 @@ use Rattle.query_script.specs.Conditions.{IsFilteredBody}
 use Rattle.query_script.specs.Lines.{IsLine}
 use Rattle.query_script.specs.Reading.{BeginsWithNoBlank}
 use Rattle.query_script.specs.Script.{IsSearch}
+use Rattle.query_script.specs.Search.{IsKeptBody}
 use Rattle.query_script.specs.Statements.{IsRemark, IsSkipped, IsStatement, SpellsStatement}
 use Rattle.query_script.specs.Words.{AreWords, bare}
 use Rattle.query_script.proofs.LineWords.{AreWords-once, IsBehindBlanks, behind_blanks-once, remark-begins, skipped_words}
@@ -26,21 +27,31 @@ search-none (Ok None) words rest is none = λ query filter (body, name, spelled)
     none query filter (subst (λ l. IsFilteredBody l query filter) same spelled)
 search-none (Err e) words rest is none = tt
 
+-- no count of kept games where its body is none
+pub kept-none : {E : Type 0} (result : Result (Option Query) E) (words rest : List Word) → words ≡ bare (codes "kept") ∷ rest → IfOk result (λ found. IfNone found ((query : Query) → ¬ IsKeptBody rest query)) → IfOk result (λ found. IfNone found ((query : Query) → ¬ IsStatement words (statement.Kept query)))
+kept-none (Ok (Some found)) words rest is none = tt
+kept-none (Ok None) words rest is none = λ query (body, name, spelled).
+    let both : bare (codes "kept") ∷ rest ≡ bare (codes "kept") ∷ body = sym is ∙ name in
+    let same : body ≡ rest = cc in
+    none query (subst (λ l. IsKeptBody l query) same spelled)
+kept-none (Err e) words rest is none = tt
+
 -- no statement of any kind
 pub no_statement : (words : List Word) →
     ((query : Query) (filter : Filter) → ¬ IsStatement words (statement.Search query filter)) → ((path : List ℕ) → ¬ IsStatement words (statement.Import path)) → words ≢ bare (codes "wait") ∷ [] →
-    ((number : ℕ) → ¬ IsStatement words (statement.Until number)) → ((pattern : SigPattern) → ¬ IsStatement words (statement.Signature pattern)) →
+    ((number : ℕ) → ¬ IsStatement words (statement.Until number)) → ((query : Query) → ¬ IsStatement words (statement.Kept query)) → ((pattern : SigPattern) → ¬ IsStatement words (statement.Signature pattern)) →
     words ≢ bare (codes "players") ∷ [] → words ≢ bare (codes "doubles") ∷ [] → ((number : ℕ) → ¬ IsStatement words (statement.Game number)) →
     (s : Statement) → ¬ IsStatement words s
-no_statement words searched import_ wait until signature players doubles game (statement.Import path) is = import_ path is
-no_statement words searched import_ wait until signature players doubles game statement.Wait is = wait is
-no_statement words searched import_ wait until signature players doubles game (statement.Until number) is = until number is
-no_statement words searched import_ wait until signature players doubles game (statement.Search query filter) is = searched query filter is
-no_statement words searched import_ wait until signature players doubles game (statement.Together searches) is = is
-no_statement words searched import_ wait until signature players doubles game (statement.Signature pattern) is = signature pattern is
-no_statement words searched import_ wait until signature players doubles game statement.Players is = players is
-no_statement words searched import_ wait until signature players doubles game statement.Doubles is = doubles is
-no_statement words searched import_ wait until signature players doubles game (statement.Game number) is = game number is
+no_statement words searched import_ wait until kept signature players doubles game (statement.Import path) is = import_ path is
+no_statement words searched import_ wait until kept signature players doubles game statement.Wait is = wait is
+no_statement words searched import_ wait until kept signature players doubles game (statement.Until number) is = until number is
+no_statement words searched import_ wait until kept signature players doubles game (statement.Search query filter) is = searched query filter is
+no_statement words searched import_ wait until kept signature players doubles game (statement.Together searches) is = is
+no_statement words searched import_ wait until kept signature players doubles game (statement.Kept query) is = kept query is
+no_statement words searched import_ wait until kept signature players doubles game (statement.Signature pattern) is = signature pattern is
+no_statement words searched import_ wait until kept signature players doubles game statement.Players is = players is
+no_statement words searched import_ wait until kept signature players doubles game statement.Doubles is = doubles is
+no_statement words searched import_ wait until kept signature players doubles game (statement.Game number) is = game number is
 
 -- The bare word with which a statement begins.
 pub data IsKeyword : List ℕ → Type 0 where
@@ -48,6 +59,7 @@ pub data IsKeyword : List ℕ → Type 0 where
   wait_word : IsKeyword (codes "wait")
   until_word : IsKeyword (codes "until")
   search_word : IsKeyword (codes "search")
+  kept_word : IsKeyword (codes "kept")
   signature_word : IsKeyword (codes "signature")
   players_word : IsKeyword (codes "players")
   doubles_word : IsKeyword (codes "doubles")
@@ -59,6 +71,7 @@ keyword_of words statement.Wait is = (codes "wait", [], is, wait_word)
 keyword_of words (statement.Until number) (w, is, number_is, bound) = (codes "until", w ∷ [], is, until_word)
 keyword_of words (statement.Search query filter) (body, is, spelled) = (codes "search", body, is, search_word)
 keyword_of words (statement.Together searches) is = absurd is
+keyword_of words (statement.Kept query) (body, is, spelled) = (codes "kept", body, is, kept_word)
 keyword_of words (statement.Signature pattern) (is, pattern_is) = (codes "signature", bare pattern.bytes ∷ [], is, signature_word)
 keyword_of words statement.Players is = (codes "players", [], is, players_word)
 keyword_of words statement.Doubles is = (codes "doubles", [], is, doubles_word)
@@ -69,6 +82,7 @@ not_together _ import_word e = cc e
 not_together _ wait_word e = cc e
 not_together _ until_word e = cc e
 not_together _ search_word e = cc e
+not_together _ kept_word e = cc e
 not_together _ signature_word e = cc e
 not_together _ players_word e = cc e
 not_together _ doubles_word e = cc e
@@ -79,6 +93,7 @@ not_end _ import_word e = cc e
 not_end _ wait_word e = cc e
 not_end _ until_word e = cc e
 not_end _ search_word e = cc e
+not_end _ kept_word e = cc e
 not_end _ signature_word e = cc e
 not_end _ players_word e = cc e
 not_end _ doubles_word e = cc e
@@ -92,6 +107,7 @@ not_comment _ rest import_word = other_first 105 35 _ rest (λ e. omega (arith, 
 not_comment _ rest wait_word = other_first 119 35 _ rest (λ e. omega (arith, e))
 not_comment _ rest until_word = other_first 117 35 _ rest (λ e. omega (arith, e))
 not_comment _ rest search_word = other_first 115 35 _ rest (λ e. omega (arith, e))
+not_comment _ rest kept_word = other_first 107 35 _ rest (λ e. omega (arith, e))
 not_comment _ rest signature_word = other_first 115 35 _ rest (λ e. omega (arith, e))
 not_comment _ rest players_word = other_first 112 35 _ rest (λ e. omega (arith, e))
 not_comment _ rest doubles_word = other_first 100 35 _ rest (λ e. omega (arith, e))
@@ -126,6 +142,7 @@ search_alone words body statement.Wait name is = absurd (two_names 115 119 _ _ w
 search_alone words body (statement.Until number) name (w, is, number_is, bound) = absurd (two_names 115 117 _ _ words body _ name is (λ e. omega (arith, e)))
 search_alone words body (statement.Search query filter) name is = (query, filter, refl)
 search_alone words body (statement.Together searches) name is = absurd is
+search_alone words body (statement.Kept query) name (rest, is, spelled) = absurd (two_names 115 107 _ _ words body _ name is (λ e. omega (arith, e)))
 search_alone words body (statement.Signature pattern) name (is, pattern_is) = absurd (search_or_signature words body _ name is)
 search_alone words body statement.Players name is = absurd (two_names 115 112 _ _ words body _ name is (λ e. omega (arith, e)))
 search_alone words body statement.Doubles name is = absurd (two_names 115 100 _ _ words body _ name is (λ e. omega (arith, e)))

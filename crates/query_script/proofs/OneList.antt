@@ -96,6 +96,7 @@ module _ (lines : List (List ℕ)) where
   alone_once k s (statement.Until number) one other = spells_once (line_at lines k) s (statement.Until number) one.spelled other.spelled
   alone_once k s (statement.Search query filter) one other = spells_once (line_at lines k) s (statement.Search query filter) one.spelled other.spelled
   alone_once k s (statement.Together searches) one other = absurd (not_both (line_at lines k) s other.0 one.spelled)
+  alone_once k s (statement.Kept query) one other = spells_once (line_at lines k) s (statement.Kept query) one.spelled other.spelled
   alone_once k s (statement.Signature pattern) one other = spells_once (line_at lines k) s (statement.Signature pattern) one.spelled other.spelled
   alone_once k s statement.Players one other = spells_once (line_at lines k) s statement.Players one.spelled other.spelled
   alone_once k s statement.Doubles one other = spells_once (line_at lines k) s statement.Doubles one.spelled other.spelled
@@ -108,6 +109,7 @@ module _ (lines : List (List ℕ)) where
   block_once k searches (statement.Until number) one other = absurd (not_both (line_at lines k) (statement.Until number) one.0 other.spelled)
   block_once k searches (statement.Search query filter) one other = absurd (not_both (line_at lines k) (statement.Search query filter) one.0 other.spelled)
   block_once k searches (statement.Together others) one other = ap (λ l. statement.Together l) (one_block_list lines k searches others one.1 other.1)
+  block_once k searches (statement.Kept query) one other = absurd (not_both (line_at lines k) (statement.Kept query) one.0 other.spelled)
   block_once k searches (statement.Signature pattern) one other = absurd (not_both (line_at lines k) (statement.Signature pattern) one.0 other.spelled)
   block_once k searches statement.Players one other = absurd (not_both (line_at lines k) statement.Players one.0 other.spelled)
   block_once k searches statement.Doubles one other = absurd (not_both (line_at lines k) statement.Doubles one.0 other.spelled)
@@ -119,6 +121,7 @@ module _ (lines : List (List ℕ)) where
   stands_once k (statement.Until number) t one other = alone_once k (statement.Until number) t one other
   stands_once k (statement.Search query filter) t one other = alone_once k (statement.Search query filter) t one other
   stands_once k (statement.Together searches) t one other = block_once k searches t one other
+  stands_once k (statement.Kept query) t one other = alone_once k (statement.Kept query) t one other
   stands_once k (statement.Signature pattern) t one other = alone_once k (statement.Signature pattern) t one other
   stands_once k statement.Players t one other = alone_once k statement.Players t one other
   stands_once k statement.Doubles t one other = alone_once k statement.Doubles t one other

@@ -20,6 +20,7 @@ stands_cases statement.Wait h = inl h
 stands_cases (statement.Until number) h = inl h
 stands_cases (statement.Search query filter) h = inl h
 stands_cases (statement.Together searches) h = inr h.0
+stands_cases (statement.Kept query) h = inl h
 stands_cases (statement.Signature pattern) h = inl h
 stands_cases statement.Players h = inl h
 stands_cases statement.Doubles h = inl h
@@ -32,6 +33,7 @@ stands_there statement.Wait h outside = record { spelled = h; outside = outside 
 stands_there (statement.Until number) h outside = record { spelled = h; outside = outside }
 stands_there (statement.Search query filter) h outside = record { spelled = h; outside = outside }
 stands_there (statement.Together searches) h outside = absurd h.2
+stands_there (statement.Kept query) h outside = record { spelled = h; outside = outside }
 stands_there (statement.Signature pattern) h outside = record { spelled = h; outside = outside }
 stands_there statement.Players h outside = record { spelled = h; outside = outside }
 stands_there statement.Doubles h outside = record { spelled = h; outside = outside }

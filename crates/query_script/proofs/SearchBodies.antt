@@ -19,7 +19,7 @@ begins-otherwise k name words from before more is =
     let at : BeginsFrom k (bare name ∷ more) = subst (BeginsFrom k) is from in
     omega (arith, at, before)
 
-begins-earlier : (j k : ℕ) (words : List Word) → j ≤ k → BeginsFrom k words → BeginsFrom j words
+pub begins-earlier : (j k : ℕ) (words : List Word) → j ≤ k → BeginsFrom k words → BeginsFrom j words
 begins-earlier j k [] le from = tt
 begins-earlier j k (w ∷ words) le from = omega (arith, from)
 
@@ -27,11 +27,11 @@ begins-append : (k : ℕ) (own rest : List Word) → BeginsFrom k own → Begins
 begins-append k [] rest one other = other
 begins-append k (w ∷ own) rest one other = one
 
-flag-begins : (name : List ℕ) (value : Bool) (own : List Word) → IsFlag name value own → BeginsFrom (place_of_option name) own
+pub flag-begins : (name : List ℕ) (value : Bool) (own : List Word) → IsFlag name value own → BeginsFrom (place_of_option name) own
 flag-begins name true own says = subst (BeginsFrom (place_of_option name)) (sym says) (omega arith)
 flag-begins name false own says = subst (BeginsFrom (place_of_option name)) (sym says) tt
 
-board-begins : (board : Option Shape) (own : List Word) → IsBoardOption board own → BeginsFrom 3 own
+pub board-begins : (board : Option Shape) (own : List Word) → IsBoardOption board own → BeginsFrom 3 own
 board-begins None own says = subst (BeginsFrom 3) (sym says) tt
 board-begins (Some shape) own (c, r, is, cols, rows) = subst (BeginsFrom 3) (sym is) (omega arith)
 
@@ -44,7 +44,7 @@ at-begins _ _ no_place = tt
 at-begins _ _ (one_point a b x y) = omega arith
 at-begins _ _ (rectangle a b c d x0 y0 x1 y1 wide high) = omega arith
 
-parted-begins : {A : Type 0} (Says : A → List Word → Type 0) (k : ℕ) (words : List Word) (value : A) (rest : List Word) → ((own : List Word) → Says value own → BeginsFrom k own) → AreParted Says words value rest → BeginsFrom (1 + k) rest → BeginsFrom k words
+pub parted-begins : {A : Type 0} (Says : A → List Word → Type 0) (k : ℕ) (words : List Word) (value : A) (rest : List Word) → ((own : List Word) → Says value own → BeginsFrom k own) → AreParted Says words value rest → BeginsFrom (1 + k) rest → BeginsFrom k words
 parted-begins Says k words value rest begins parted behind =
     subst (BeginsFrom k) (sym parted.split) (begins-append k parted.own rest (begins parted.own parted.says) (begins-earlier k (1 + k) rest (omega arith) behind))
 

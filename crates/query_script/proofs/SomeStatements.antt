@@ -106,6 +106,8 @@ module _ (lines : List (List ℕ)) where
       inl (broken placed first k (other_statement lines k placed first searches h (statement.Until number) (λ is. absurd (cc is.2)) at))
   step_statement k placed first searches h (statement.Together block) at =
       inl (broken placed first k (other_statement lines k placed first searches h (statement.Together block) (λ is. absurd (cc is.2)) at))
+  step_statement k placed first searches h (statement.Kept query) at =
+      inl (broken placed first k (other_statement lines k placed first searches h (statement.Kept query) (λ is. absurd (cc is.2)) at))
   step_statement k placed first searches h (statement.Signature pattern) at =
       inl (broken placed first k (other_statement lines k placed first searches h (statement.Signature pattern) (λ is. absurd (cc is.2)) at))
   step_statement k placed first searches h statement.Players at =

@@ -143,7 +143,7 @@ flag_only-absent : (name : List ℕ) (words : List Word) → BeginsOtherwise nam
 flag_only-absent name words absent true others parted otherwise = absurd (absent others (given_flag name words others parted))
 flag_only-absent name words absent false others parted otherwise = (refl, sym (no_flag name words others parted))
 
-flag_in : (name : List ℕ) (words : List Word) → HasOption (IsFlag name) name words
+pub flag_in : (name : List ℕ) (words : List Word) → HasOption (IsFlag name) name words
 flag_in name words = elim (told_name name words) [
   | inl (rest, is) ↦ record {
     value = true;
@@ -197,7 +197,7 @@ board_behind words behind name = elim (told_two behind) [
         let (c, r, is, cols, rows) = parted.says in
         fewer c r others (behind_name (codes "board") words behind (c ∷ r ∷ others) name (parted.split ∙ ap (λ l. l ++ others) is))
 
-told_board_words : (words : List Word) → HasOption IsBoardOption (codes "board") words ⊎ NoBoard words
+pub told_board_words : (words : List Word) → HasOption IsBoardOption (codes "board") words ⊎ NoBoard words
 told_board_words words = elim (told_name (codes "board") words) [
   | inl (behind, name) ↦ board_behind words behind name
   | inr absent ↦ inl (record {
@@ -379,7 +379,7 @@ place_behind_to words behind behind_first behind_to x y name first to = elim (to
   ]
 ]
 
-told_place_words : (words : List Word) → HasPlace words ⊎ NoPlace words
+pub told_place_words : (words : List Word) → HasPlace words ⊎ NoPlace words
 told_place_words words = elim (told_name (codes "at") words) [
   | inr absent ↦ inl (record {
     value = None;
@@ -405,7 +405,7 @@ told_place_words words = elim (told_name (codes "at") words) [
 
 -- ---- the pattern
 
-told_pattern : (words : List Word) → ((pattern : Pattern) × IsPattern pattern words) ⊎ ((pattern : Pattern) → IsPattern pattern words → ⊥)
+pub told_pattern : (words : List Word) → ((pattern : Pattern) × IsPattern pattern words) ⊎ ((pattern : Pattern) → IsPattern pattern words → ⊥)
 told_pattern [] = inr (λ pattern is. let e : [] ≡ bare is.0 ∷ [] = is.1 in absurd (cc e))
 told_pattern ((word.Quoted bytes) ∷ rest) = inr (λ pattern is.
     let e : word.Quoted bytes ≡ bare is.0 = same_first (word.Quoted bytes) (bare is.0) rest [] is.1 in absurd (cc e))
@@ -421,7 +421,7 @@ told_pattern ((word.Bare bytes) ∷ []) = elim (spells_or_fails bytes) [
       spelled-faultless bytes (grid_of pattern) (subst (λ t. SpellsPattern t (grid_of pattern)) same is.2) failed.0 failed.1.here)
 ]
 
-pattern_once : (words : List Word) (p q : Pattern) → IsPattern p words → IsPattern q words → p ≡ q
+pub pattern_once : (words : List Word) (p q : Pattern) → IsPattern p words → IsPattern q words → p ≡ q
 pattern_once words p q (text, is, spells) (other, is_too, spells_too) =
     let same : other ≡ text = same_bare other text (same_first (bare other) (bare text) [] [] (sym is_too ∙ is)) in
     pattern_same p q (spells-one text (grid_of p) (grid_of q) spells (subst (λ t. SpellsPattern t (grid_of q)) same spells_too))
@@ -440,7 +440,7 @@ query_of pattern same fixed main board from to at = record {
   at = at;
 }
 
-same_query : (p q : Query) → p.pattern ≡ q.pattern → p.same ≡ q.same → p.fixed ≡ q.fixed → p.main ≡ q.main → p.board ≡ q.board →
+pub same_query : (p q : Query) → p.pattern ≡ q.pattern → p.same ≡ q.same → p.fixed ≡ q.fixed → p.main ≡ q.main → p.board ≡ q.board →
     p.from_move ≡ q.from_move → p.to_move ≡ q.to_move → p.at ≡ q.at → p ≡ q
 same_query p q pattern same fixed main board from to at =
     ap (λ v. query_of v p.same p.fixed p.main p.board p.from_move p.to_move p.at) pattern
@@ -457,16 +457,16 @@ abbrev pub HasBody : List Word → Type 0
 HasBody words = (query : Query) × IsBody words query × ((other : Query) → IsBody words other → other ≡ query)
 
 -- the words behind each option, whatever the query
-abbrev SameOption : List Word → Type 0
+abbrev pub SameOption : List Word → Type 0
 SameOption words = HasOption (IsFlag (codes "same")) (codes "same") words
 
-abbrev FixedOption : List Word → Type 0
+abbrev pub FixedOption : List Word → Type 0
 FixedOption words = HasOption (IsFlag (codes "fixed")) (codes "fixed") words
 
 abbrev MainOption : List Word → Type 0
 MainOption words = HasOption (IsFlag (codes "main")) (codes "main") words
 
-abbrev BoardOption : List Word → Type 0
+abbrev pub BoardOption : List Word → Type 0
 BoardOption words = HasOption IsBoardOption (codes "board") words
 
 abbrev MovesOption : List Word → Type 0
@@ -502,7 +502,7 @@ module _ (query : Query) where
       let found = o.only own_moves others parted (begins-otherwise 5 (codes "moves") others (from_at-begins others query at) (omega arith)) in
       (found.0, subst (λ l. AreFromAt l query) found.1 at)
 
-  after_at : (words : List Word) (o : HasPlace words) → AreFromAt words query → (query.at ≡ o.value) × IsPattern query.pattern o.rest
+  pub after_at : (words : List Word) (o : HasPlace words) → AreFromAt words query → (query.at ≡ o.value) × IsPattern query.pattern o.rest
   after_at words o (others, parted, pattern) =
       let begins = pattern-begins query.pattern others pattern in
       let found = o.only query.at others parted (begins-otherwise 6 (codes "at") others begins (omega arith)) (begins-otherwise 6 (codes "to") others begins (omega arith)) in

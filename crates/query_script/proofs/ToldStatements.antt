@@ -16,11 +16,14 @@ use Rattle.query_script.specs.declared.word.Word.{Word}
 use Rattle.query_script.specs.declared.word.Word.TheVariants as word
 use Rattle.query_script.specs.Conditions.{IsFilteredBody}
 use Rattle.query_script.specs.Reading.{BeginsOtherwise}
+use Rattle.query_script.specs.Search.{IsKeptBody}
 use Rattle.query_script.specs.Statements.{IsPath, IsSignaturePattern, IsStatement, most_number}
 use Rattle.query_script.specs.Words.{IsNumber, bare, bytes_of}
 use Rattle.query_script.proofs.LineStatements.{search_alone, search_or_signature, two_names}
 use Rattle.query_script.proofs.Numbers.{IsNumber-once}
 use Rattle.query_script.proofs.FilteredBodies.{told_filtered_body}
+use Rattle.query_script.proofs.KeptBodies.{told_kept_body}
+use Rattle.pattern_images.specs.declared.query.Query.{Query}
 use Rattle.query_script.proofs.ToldSearches.{behind_name, same_bare, same_first, told_name, told_up_to}
 
 -- the statement that words spell, and no other
@@ -44,6 +47,7 @@ import_alone words rest (statement.Signature pattern) name (is, pattern_is) = ab
 import_alone words rest statement.Players name is = absurd (two_names 105 112 _ _ words rest _ name is (λ e. omega (arith, e)))
 import_alone words rest statement.Doubles name is = absurd (two_names 105 100 _ _ words rest _ name is (λ e. omega (arith, e)))
 import_alone words rest (statement.Game number) name (w, is, number_is, bound) = absurd (two_names 105 103 _ _ words rest _ name is (λ e. omega (arith, e)))
+import_alone words rest (statement.Kept query) name (body, is, spelled) = absurd (two_names 105 107 _ _ words rest _ name is (λ e. omega (arith, e)))
 import_alone words rest (statement.Together searches) name told = absurd told
 
 wait_alone : (words rest : List Word) (s : Statement) → words ≡ bare (codes "wait") ∷ rest → IsStatement words s → s ≡ statement.Wait
@@ -55,6 +59,7 @@ wait_alone words rest (statement.Signature pattern) name (is, pattern_is) = absu
 wait_alone words rest statement.Players name is = absurd (two_names 119 112 _ _ words rest _ name is (λ e. omega (arith, e)))
 wait_alone words rest statement.Doubles name is = absurd (two_names 119 100 _ _ words rest _ name is (λ e. omega (arith, e)))
 wait_alone words rest (statement.Game number) name (w, is, number_is, bound) = absurd (two_names 119 103 _ _ words rest _ name is (λ e. omega (arith, e)))
+wait_alone words rest (statement.Kept query) name (body, is, spelled) = absurd (two_names 119 107 _ _ words rest _ name is (λ e. omega (arith, e)))
 wait_alone words rest (statement.Together searches) name told = absurd told
 
 until_alone : (words rest : List Word) (s : Statement) → words ≡ bare (codes "until") ∷ rest → IsStatement words s → (number : ℕ) × (s ≡ statement.Until number)
@@ -66,7 +71,20 @@ until_alone words rest (statement.Signature pattern) name (is, pattern_is) = abs
 until_alone words rest statement.Players name is = absurd (two_names 117 112 _ _ words rest _ name is (λ e. omega (arith, e)))
 until_alone words rest statement.Doubles name is = absurd (two_names 117 100 _ _ words rest _ name is (λ e. omega (arith, e)))
 until_alone words rest (statement.Game number) name (w, is, number_is, bound) = absurd (two_names 117 103 _ _ words rest _ name is (λ e. omega (arith, e)))
+until_alone words rest (statement.Kept query) name (body, is, spelled) = absurd (two_names 117 107 _ _ words rest _ name is (λ e. omega (arith, e)))
 until_alone words rest (statement.Together searches) name told = absurd told
+
+kept_alone : (words rest : List Word) (s : Statement) → words ≡ bare (codes "kept") ∷ rest → IsStatement words s → (query : Query) × (s ≡ statement.Kept query)
+kept_alone words rest (statement.Import path) name (w, is, path_is) = absurd (two_names 107 105 _ _ words rest _ name is (λ e. omega (arith, e)))
+kept_alone words rest statement.Wait name is = absurd (two_names 107 119 _ _ words rest _ name is (λ e. omega (arith, e)))
+kept_alone words rest (statement.Until number) name (w, is, number_is, bound) = absurd (two_names 107 117 _ _ words rest _ name is (λ e. omega (arith, e)))
+kept_alone words rest (statement.Search query filter) name (body, is, spelled) = absurd (two_names 107 115 _ _ words rest _ name is (λ e. omega (arith, e)))
+kept_alone words rest (statement.Signature pattern) name (is, pattern_is) = absurd (two_names 107 115 _ _ words rest _ name is (λ e. omega (arith, e)))
+kept_alone words rest statement.Players name is = absurd (two_names 107 112 _ _ words rest _ name is (λ e. omega (arith, e)))
+kept_alone words rest statement.Doubles name is = absurd (two_names 107 100 _ _ words rest _ name is (λ e. omega (arith, e)))
+kept_alone words rest (statement.Game number) name (w, is, number_is, bound) = absurd (two_names 107 103 _ _ words rest _ name is (λ e. omega (arith, e)))
+kept_alone words rest (statement.Kept query) name told = (query, refl)
+kept_alone words rest (statement.Together searches) name told = absurd told
 
 signature_alone : (words rest : List Word) (s : Statement) → words ≡ bare (codes "signature") ∷ rest → IsStatement words s → (pattern : SigPattern) × (s ≡ statement.Signature pattern)
 signature_alone words rest (statement.Import path) name (w, is, path_is) = absurd (two_names 115 105 _ _ words rest _ name is (λ e. omega (arith, e)))
@@ -77,6 +95,7 @@ signature_alone words rest (statement.Signature pattern) name told = (pattern, r
 signature_alone words rest statement.Players name is = absurd (two_names 115 112 _ _ words rest _ name is (λ e. omega (arith, e)))
 signature_alone words rest statement.Doubles name is = absurd (two_names 115 100 _ _ words rest _ name is (λ e. omega (arith, e)))
 signature_alone words rest (statement.Game number) name (w, is, number_is, bound) = absurd (two_names 115 103 _ _ words rest _ name is (λ e. omega (arith, e)))
+signature_alone words rest (statement.Kept query) name (body, is, spelled) = absurd (two_names 115 107 _ _ words rest _ name is (λ e. omega (arith, e)))
 signature_alone words rest (statement.Together searches) name told = absurd told
 
 players_alone : (words rest : List Word) (s : Statement) → words ≡ bare (codes "players") ∷ rest → IsStatement words s → s ≡ statement.Players
@@ -88,6 +107,7 @@ players_alone words rest (statement.Signature pattern) name (is, pattern_is) = a
 players_alone words rest statement.Players name told = refl
 players_alone words rest statement.Doubles name is = absurd (two_names 112 100 _ _ words rest _ name is (λ e. omega (arith, e)))
 players_alone words rest (statement.Game number) name (w, is, number_is, bound) = absurd (two_names 112 103 _ _ words rest _ name is (λ e. omega (arith, e)))
+players_alone words rest (statement.Kept query) name (body, is, spelled) = absurd (two_names 112 107 _ _ words rest _ name is (λ e. omega (arith, e)))
 players_alone words rest (statement.Together searches) name told = absurd told
 
 doubles_alone : (words rest : List Word) (s : Statement) → words ≡ bare (codes "doubles") ∷ rest → IsStatement words s → s ≡ statement.Doubles
@@ -99,6 +119,7 @@ doubles_alone words rest (statement.Signature pattern) name (is, pattern_is) = a
 doubles_alone words rest statement.Players name is = absurd (two_names 100 112 _ _ words rest _ name is (λ e. omega (arith, e)))
 doubles_alone words rest statement.Doubles name told = refl
 doubles_alone words rest (statement.Game number) name (w, is, number_is, bound) = absurd (two_names 100 103 _ _ words rest _ name is (λ e. omega (arith, e)))
+doubles_alone words rest (statement.Kept query) name (body, is, spelled) = absurd (two_names 100 107 _ _ words rest _ name is (λ e. omega (arith, e)))
 doubles_alone words rest (statement.Together searches) name told = absurd told
 
 game_alone : (words rest : List Word) (s : Statement) → words ≡ bare (codes "game") ∷ rest → IsStatement words s → (number : ℕ) × (s ≡ statement.Game number)
@@ -110,6 +131,7 @@ game_alone words rest (statement.Signature pattern) name (is, pattern_is) = absu
 game_alone words rest statement.Players name is = absurd (two_names 103 112 _ _ words rest _ name is (λ e. omega (arith, e)))
 game_alone words rest statement.Doubles name is = absurd (two_names 103 100 _ _ words rest _ name is (λ e. omega (arith, e)))
 game_alone words rest (statement.Game number) name told = (number, refl)
+game_alone words rest (statement.Kept query) name (body, is, spelled) = absurd (two_names 103 107 _ _ words rest _ name is (λ e. omega (arith, e)))
 game_alone words rest (statement.Together searches) name told = absurd told
 
 -- ---- what stands behind a name
@@ -238,6 +260,23 @@ search_there words rest name = elim (told_filtered_body rest) [
   )
 ]
 
+kept_there : (words rest : List Word) → words ≡ bare (codes "kept") ∷ rest → ToldStatement words
+kept_there words rest name = elim (told_kept_body rest) [
+  | inr never ↦ inr (λ s is.
+      let (query, same) = kept_alone words rest s name is in
+      let (body, both, spelled) = subst (IsStatement words) same is in
+      never query (subst (λ l. IsKeptBody l query) (sym (behind_name (codes "kept") words rest body name both)) spelled))
+  | inl (query, spelled, only) ↦ inl (
+    statement.Kept query,
+    (rest, name, spelled),
+    λ s is.
+        let (other, same) = kept_alone words rest s name is in
+        let (body, both, spelled_too) = subst (IsStatement words) same is in
+        let here : IsKeptBody rest other = subst (λ l. IsKeptBody l other) (sym (behind_name (codes "kept") words rest body name both)) spelled_too in
+        same ∙ ap (λ q. statement.Kept q) (only other here),
+  )
+]
+
 -- the pattern of a question for signatures
 pattern_behind : (words rest : List Word) (pattern : SigPattern) → words ≡ bare (codes "signature") ∷ rest → words ≡ bare (codes "signature") ∷ bare pattern.bytes ∷ [] → rest ≡ bare pattern.bytes ∷ []
 pattern_behind words rest pattern name both = behind_name (codes "signature") words rest (bare pattern.bytes ∷ []) name both
@@ -328,18 +367,19 @@ game_there words rest name = elim (told_single rest) [
 
 -- words without such a name spell nothing
 none_there : (words : List Word) → BeginsOtherwise (codes "import") words → BeginsOtherwise (codes "wait") words →
-    BeginsOtherwise (codes "until") words → BeginsOtherwise (codes "search") words → BeginsOtherwise (codes "signature") words →
+    BeginsOtherwise (codes "until") words → BeginsOtherwise (codes "search") words → BeginsOtherwise (codes "kept") words → BeginsOtherwise (codes "signature") words →
     BeginsOtherwise (codes "players") words → BeginsOtherwise (codes "doubles") words → BeginsOtherwise (codes "game") words →
     NoStatement words
-none_there words import_ wait until searched signature players doubles game (statement.Import path) (w, is, _) = import_ (w ∷ []) is
-none_there words import_ wait until searched signature players doubles game statement.Wait is = wait [] is
-none_there words import_ wait until searched signature players doubles game (statement.Until number) (w, is, _, _) = until (w ∷ []) is
-none_there words import_ wait until searched signature players doubles game (statement.Search query filter) (body, is, _) = searched body is
-none_there words import_ wait until searched signature players doubles game (statement.Signature pattern) (is, _) = signature (bare pattern.bytes ∷ []) is
-none_there words import_ wait until searched signature players doubles game statement.Players is = players [] is
-none_there words import_ wait until searched signature players doubles game statement.Doubles is = doubles [] is
-none_there words import_ wait until searched signature players doubles game (statement.Game number) (w, is, _, _) = game (w ∷ []) is
-none_there words import_ wait until searched signature players doubles game (statement.Together searches) is = is
+none_there words import_ wait until searched kept signature players doubles game (statement.Import path) (w, is, _) = import_ (w ∷ []) is
+none_there words import_ wait until searched kept signature players doubles game statement.Wait is = wait [] is
+none_there words import_ wait until searched kept signature players doubles game (statement.Until number) (w, is, _, _) = until (w ∷ []) is
+none_there words import_ wait until searched kept signature players doubles game (statement.Search query filter) (body, is, _) = searched body is
+none_there words import_ wait until searched kept signature players doubles game (statement.Kept query) (body, is, _) = kept body is
+none_there words import_ wait until searched kept signature players doubles game (statement.Signature pattern) (is, _) = signature (bare pattern.bytes ∷ []) is
+none_there words import_ wait until searched kept signature players doubles game statement.Players is = players [] is
+none_there words import_ wait until searched kept signature players doubles game statement.Doubles is = doubles [] is
+none_there words import_ wait until searched kept signature players doubles game (statement.Game number) (w, is, _, _) = game (w ∷ []) is
+none_there words import_ wait until searched kept signature players doubles game (statement.Together searches) is = is
 
 pub told_statement : (words : List Word) → ToldStatement words
 told_statement words = elim (told_name (codes "import") words) [
@@ -350,15 +390,18 @@ told_statement words = elim (told_name (codes "import") words) [
       | inl (rest, is) ↦ until_there words rest is
       | inr until ↦ elim (told_name (codes "search") words) [
         | inl (rest, is) ↦ search_there words rest is
-        | inr searched ↦ elim (told_name (codes "signature") words) [
-          | inl (rest, is) ↦ signature_there words rest is
-          | inr signature ↦ elim (told_name (codes "players") words) [
-            | inl (rest, is) ↦ players_there words rest is
-            | inr players ↦ elim (told_name (codes "doubles") words) [
-              | inl (rest, is) ↦ doubles_there words rest is
-              | inr doubles ↦ elim (told_name (codes "game") words) [
-                | inl (rest, is) ↦ game_there words rest is
-                | inr game ↦ inr (none_there words import_ wait until searched signature players doubles game)
+        | inr searched ↦ elim (told_name (codes "kept") words) [
+          | inl (rest, is) ↦ kept_there words rest is
+          | inr kept ↦ elim (told_name (codes "signature") words) [
+            | inl (rest, is) ↦ signature_there words rest is
+            | inr signature ↦ elim (told_name (codes "players") words) [
+              | inl (rest, is) ↦ players_there words rest is
+              | inr players ↦ elim (told_name (codes "doubles") words) [
+                | inl (rest, is) ↦ doubles_there words rest is
+                | inr doubles ↦ elim (told_name (codes "game") words) [
+                  | inl (rest, is) ↦ game_there words rest is
+                  | inr game ↦ inr (none_there words import_ wait until searched kept signature players doubles game)
+                ]
               ]
             ]
           ]

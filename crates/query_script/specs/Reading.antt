@@ -82,6 +82,20 @@ abbrev pub AreFromSame : List Word → Query → Type 0
 AreFromSame words query = (rest : List Word)
     × AreParted (IsFlag (codes "same")) words query.same rest × AreFromFixed rest query
 
+-- ---- the words of a count of kept games from one of its options on
+
+abbrev pub AreKeptFromBoard : List Word → Query → Type 0
+AreKeptFromBoard words query = (rest : List Word) × AreParted IsBoardOption words query.board rest
+    × AreFromAt rest query
+
+abbrev pub AreKeptFromFixed : List Word → Query → Type 0
+AreKeptFromFixed words query = (rest : List Word)
+    × AreParted (IsFlag (codes "fixed")) words query.fixed rest × AreKeptFromBoard rest query
+
+abbrev pub AreKeptFromSame : List Word → Query → Type 0
+AreKeptFromSame words query = (rest : List Word)
+    × AreParted (IsFlag (codes "same")) words query.same rest × AreKeptFromFixed rest query
+
 -- Which option a bare word begins, by its place in their order, and 6 where it begins none. It
 -- tells the names of the options apart, and `to` counts as `at`; other words may have any place.
 abbrev pub place_of_option : List ℕ → ℕ

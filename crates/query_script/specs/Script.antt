@@ -144,6 +144,7 @@ IsStatementAt lines k (statement.Search query filter) =
     StandsAlone lines k (statement.Search query filter)
 IsStatementAt lines k (statement.Together searches) = SpellsTogether (line_at lines k)
     × AreSearchesOf lines k searches
+IsStatementAt lines k (statement.Kept query) = StandsAlone lines k (statement.Kept query)
 IsStatementAt lines k (statement.Signature pattern) =
     StandsAlone lines k (statement.Signature pattern)
 IsStatementAt lines k statement.Players = StandsAlone lines k statement.Players

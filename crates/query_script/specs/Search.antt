@@ -81,3 +81,21 @@ pub record IsBody (words : List Word) (query : Query) : Type 0 where
   pub moves_are : AreMoves query.from_move query.to_move moves
   pub at_is : IsAt query.at at
   pub pattern_is : IsPattern query.pattern pattern
+
+-- The words spell the query of a count of kept games: the options of a search but `main` and
+-- `moves`, in the same order, and then its pattern. It looks at all nodes.
+pub record IsKeptBody (words : List Word) (query : Query) : Type 0 where
+  pub same : List Word
+  pub fixed : List Word
+  pub board : List Word
+  pub at : List Word
+  pub pattern : List Word
+  pub in_order : words ≡ same ++ (fixed ++ (board ++ (at ++ pattern)))
+  pub same_is : IsFlag (codes "same") query.same same
+  pub fixed_is : IsFlag (codes "fixed") query.fixed fixed
+  pub board_is : IsBoardOption query.board board
+  pub at_is : IsAt query.at at
+  pub pattern_is : IsPattern query.pattern pattern
+  pub all_lines : query.main ≡ false
+  pub from_first : query.from_move ≡ 0
+  pub to_last : query.to_move ≡ most_moves

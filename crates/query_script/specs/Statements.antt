@@ -8,6 +8,7 @@ use Rattle.query_script.specs.declared.statement.Statement.TheVariants as statem
 use Rattle.query_script.specs.declared.word.Word.{Word}
 use Rattle.query_script.specs.Bytes.{number_sign}
 use Rattle.query_script.specs.Conditions.{IsFilteredBody}
+use Rattle.query_script.specs.Search.{IsKeptBody}
 use Rattle.query_script.specs.Words.{AreBlanks, AreWords, IsNumber, bare, bytes_of}
 
 -- the greatest number of a version that a statement may wait for, and of a game
@@ -35,6 +36,8 @@ IsStatement words (statement.Until number) = (w : Word) × (words ≡ bare (code
 IsStatement words (statement.Search query filter) = (body : List Word)
     × (words ≡ bare (codes "search") ∷ body) × IsFilteredBody body query filter
 IsStatement words (statement.Together searches) = ⊥
+IsStatement words (statement.Kept query) = (body : List Word)
+    × (words ≡ bare (codes "kept") ∷ body) × IsKeptBody body query
 IsStatement words (statement.Signature pattern) =
     (words ≡ bare (codes "signature") ∷ bare pattern.bytes ∷ []) × IsSignaturePattern pattern.bytes
 IsStatement words statement.Players = words ≡ bare (codes "players") ∷ []

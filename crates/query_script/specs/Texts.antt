@@ -109,6 +109,11 @@ abbrev pub no_game_text : ℕ → ℕ → ℕ → List ℕ
 no_game_text line game version = line_text (decimal line ∷ codes " game " ∷ decimal game
     ∷ codes " version " ∷ decimal version ∷ codes " none" ∷ [])
 
+-- `LINE kept version V games G kept K`
+abbrev pub kept_text : ℕ → ℕ → ℕ → ℕ → List ℕ
+kept_text line version games kept =
+    head_text line (codes "kept") version games (codes "kept") kept
+
 -- `LINE signature version V games G found F`
 abbrev pub signature_head : ℕ → ℕ → ℕ → ℕ → List ℕ
 signature_head line version games found =

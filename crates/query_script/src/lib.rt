@@ -8,6 +8,7 @@
 
 mod conditions;
 mod head;
+mod kept_words;
 mod laws;
 mod line;
 mod list_text;
@@ -24,7 +25,8 @@ mod words;
 
 pub use laws::{a_script_has_its_statements_or_a_bad_line, the_longest_script_has_1048576_bytes};
 pub use list_text::{
-    print_double, print_doubles_head, print_found_game, print_players, print_signature_head,
+    print_double, print_doubles_head, print_found_game, print_kept, print_players,
+    print_signature_head,
 };
 pub use print::{print_game, print_import, print_no_game, print_until, print_wait};
 pub use script::read_script;

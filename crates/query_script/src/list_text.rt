@@ -7,6 +7,7 @@ ghost use Rattle.info_filter.specs.Rows.{shown_row};
 ghost use Rattle.query_script.specs.Texts.{
   double_text,
   doubles_head,
+  kept_text,
   player_text,
   players_head,
   players_text,
@@ -19,6 +20,23 @@ use crate::head::append_head;
 use dyer_signature::Signature;
 use info_filter::{PlayerRow, Players};
 use kb_geometry::{NoMemory, append, append_decimal, append_decimal_and, cut_back};
+
+/// Appends the text of a count of kept games: `LINE kept version V games G kept K`. The only error
+/// is `NoMemory`, and then `out` is as before.
+pub fn print_kept(
+    line: u32,
+    version: u64,
+    games: u32,
+    kept: u32,
+    out: &mut Vec<u8>,
+) -> Result<(), NoMemory>
+    ensures ok { OnOk result (out.new.items ≡ out.old.items ++ kept_text line version games kept) }
+    ensures refused { OnErr result (out.new.items ≡ out.old.items) }
+{
+    let len = out.len();
+    let done = append_head(out, line, b"kept", version, games, b"kept", kept as usize);
+    cut_back(out, len, done)
+}
 
 /// Appends the first line of the games whose signature matches a pattern:
 /// `LINE signature version V games G found F`. The only error is `NoMemory`, and then `out` is as

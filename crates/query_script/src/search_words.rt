@@ -46,7 +46,7 @@ use pattern_syntax::{PatternError, read_pattern};
 use std::alloc::Global;
 
 // The greatest move number.
-const MAX_MOVES: u32 = 65_536;
+pub(crate) const MAX_MOVES: u32 = 65_536;
 
 // The least and the greatest move number that count.
 #[derive(Clone, Copy, Debug, PartialEq, Eq)]
@@ -89,7 +89,7 @@ pub(crate) fn query_of(alloc: Global, words: &[Word]) -> Result<Option<Query>, N
 }
 
 // Whether the words begin with this option of one word, and the words behind it.
-fn flag<'a>(words: &'a [Word], name: &[u8]) -> (bool, &'a [Word])
+pub(crate) fn flag<'a>(words: &'a [Word], name: &[u8]) -> (bool, &'a [Word])
     ensures parted { AreParted (IsFlag name.now) words.now result.0 result.1.now }
     ensures only { (given : Bool) (rest : List Word) →
         AreParted (IsFlag name.now) words.now given rest → BeginsOtherwise name.now rest →
@@ -124,7 +124,7 @@ pub(crate) fn two_words(words: &[Word]) -> Option<(&Word, &Word, &[Word])>
 }
 
 // The board of `board C R` at the beginning of the words, or no board, and the words behind that.
-fn board_of(words: &[Word]) -> Option<(Option<Shape>, &[Word])>
+pub(crate) fn board_of(words: &[Word]) -> Option<(Option<Shape>, &[Word])>
     ensures parted { IfSome result (λ r. AreParted IsBoardOption words.now r.0 r.1.now) }
     ensures only { IfSome result (λ r. (board : Option Shape) (rest : List Word) →
         AreParted IsBoardOption words.now board rest →
@@ -202,7 +202,7 @@ fn moves_between(from: &Word, to: &Word) -> Option<Moves>
 
 // The rectangle of `at X Y` or `at X Y to X1 Y1` at the beginning of the words, or none, and the
 // words behind that.
-fn at_of(words: &[Word]) -> Option<(Option<Rect>, &[Word])>
+pub(crate) fn at_of(words: &[Word]) -> Option<(Option<Rect>, &[Word])>
     ensures parted { IfSome result (λ r. AreParted IsAt words.now r.0 r.1.now) }
     ensures only { IfSome result (λ r. (at : Option Rect) (rest : List Word) →
         AreParted IsAt words.now at rest →
@@ -260,7 +260,7 @@ fn rect_of(first: Point, last: Point) -> Rect
 
 // The pattern that the only word spells, if there is one word and it spells one. The only error is
 // `NoMemory`.
-fn pattern_of(alloc: Global, words: &[Word]) -> Result<Option<Pattern>, NoMemory>
+pub(crate) fn pattern_of(alloc: Global, words: &[Word]) -> Result<Option<Pattern>, NoMemory>
     ensures some { IfOk result (λ found. IfSome found (λ pattern. IsPattern pattern words.now)) }
     ensures none { IfOk result (λ found. IfNone found ((pattern : Pattern) →
         ¬ IsPattern pattern words.now)) }

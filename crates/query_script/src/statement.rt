@@ -27,6 +27,9 @@ pub enum Statement {
     Search { query: Query, filter: Filter },
     /// `together`, one to eight lines of searches, `end`: searches that are asked together.
     Together { searches: SearchList },
+    /// `kept ..`: how many games may have the pattern by what their points and corners were. The
+    /// query is that of a search on all lines of play and at all moves.
+    Kept { query: Query },
     /// `signature PATTERN`: the games whose signature matches a pattern.
     Signature { pattern: SigPattern },
     /// `players`: the players of the games.

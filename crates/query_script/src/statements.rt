@@ -34,6 +34,7 @@ ghost use Rattle.query_script.specs.Statements.{
 ghost use Rattle.query_script.specs.Words.{IsNumber, bare};
 
 use crate::conditions::{filter_of, parted_at_where};
+use crate::kept_words::kept_query_of;
 use crate::number::number_up_to;
 use crate::search_words::{behind_name, only_bare, query_of};
 use crate::statement::Statement;
@@ -62,6 +63,9 @@ pub(crate) fn statement_of(alloc: Global, words: &[Word]) -> Result<Option<State
     }
     if let Some((query, filter)) = search_of(alloc, words)? {
         return Ok(Some(Statement::Search { query, filter }));
+    }
+    if let Some(query) = kept_of(alloc, words)? {
+        return Ok(Some(Statement::Kept { query }));
     }
     if let Some(pattern) = signature_of(words) {
         return Ok(Some(Statement::Signature { pattern }));
@@ -144,6 +148,19 @@ fn filtered_query(alloc: Global, words: &[Word]) -> Result<Option<(Query, Filter
         return Ok(None);
     };
     Ok(Some((query, filter)))
+}
+
+// The query of `kept ..`. The only error is `NoMemory`.
+fn kept_of(alloc: Global, words: &[Word]) -> Result<Option<Query>, NoMemory>
+    ensures some { IfOk result
+        (λ found. IfSome found (λ query. IsStatement words.now (statement.Kept query))) }
+    ensures none { IfOk result (λ found. IfNone found ((query : Query) →
+        ¬ IsStatement words.now (statement.Kept query))) }
+{
+    let Some(rest) = behind_name(words, b"kept") else {
+        return Ok(None);
+    };
+    kept_query_of(alloc, rest)
 }
 
 // The pattern of `signature PATTERN`.

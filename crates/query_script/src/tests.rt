@@ -1,5 +1,6 @@
 // Scripts that are read or refused, worked out by hand from the grammar.
 mod conditions;
+mod kept;
 mod printed;
 
 use crate::{MAX_SCRIPT, Placed, PlacedSearch, ScriptError, Statement, read_script};
@@ -12,9 +13,9 @@ use std::fmt::Write;
 use std::process::Abort;
 use std::test::Fail;
 
-// Appends the options of a query that are given, and its pattern.
-fn show_query(alloc: Global, query: &Query, shown: &mut String) -> Result<(), Fail> {
-    write!(shown, "search")?;
+// Appends the name of a statement, the options of its query that are given, and its pattern.
+fn show_query(alloc: Global, name: &str, query: &Query, shown: &mut String) -> Result<(), Fail> {
+    write!(shown, "{name}")?;
     for (given, name) in [
         (query.same, " same"),
         (query.fixed, " fixed"),
@@ -71,7 +72,7 @@ fn show_searches(alloc: Global, searches: &[PlacedSearch], shown: &mut String) -
     for search in searches {
         let line = search.line;
         write!(shown, " ({line} ")?;
-        show_query(alloc, &search.query, shown)?;
+        show_query(alloc, "search", &search.query, shown)?;
         show_filter(&search.filter, shown)?;
         write!(shown, ")")?;
     }
@@ -88,13 +89,14 @@ fn show_statement(alloc: Global, statement: &Statement, shown: &mut String) -> R
         Statement::Wait => write!(shown, "wait")?,
         Statement::Until { number } => write!(shown, "until {number}")?,
         Statement::Search { query, filter } => {
-            show_query(alloc, query, shown)?;
+            show_query(alloc, "search", query, shown)?;
             show_filter(filter, shown)?;
         }
         Statement::Together { searches } => {
             write!(shown, "together")?;
             show_searches(alloc, searches.as_slice(), shown)?;
         }
+        Statement::Kept { query } => show_query(alloc, "kept", query, shown)?,
         Statement::Signature { pattern } => {
             let pattern = std::str::from_utf8(&pattern.bytes)?;
             write!(shown, "signature {pattern}")?;

@@ -97,6 +97,8 @@ module _ (files : List File) (rules : Rules) (serial : IsTrue rules.serial) (s :
       λ i. passed_by (block i).text (state i)
   one-passing line (statement.Search query filter) used more a b next after one none other too =
       one-answer line (statement.Search query filter) one.0 other.0 a b next after one.1 other.1 one.2 other.2 one.4 other.4
+  one-passing line (statement.Kept query) used more a b next after one none other too =
+      one-answer line (statement.Kept query) one.0 other.0 a b next after one.1 other.1 one.2 other.2 one.4 other.4
   one-passing line (statement.Signature pattern) used more a b next after one none other too =
       one-answer line (statement.Signature pattern) one.0 other.0 a b next after one.1 other.1 one.2 other.2 one.4 other.4
   one-passing line statement.Players used more a b next after one none other too =

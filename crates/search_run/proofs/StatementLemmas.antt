@@ -92,6 +92,7 @@ module _ (files : List File) (s : State) (kept : Kept) (is : IsKept s kept) (lin
 
   pub text-answered : (own : Statement) → IsAnswer line (view_of kept) own text → IsStatementText files serial_rules s line own text
   text-answered (statement.Search query filter) of = ([], with_floor s (last_of s), answered-here (statement.Search query filter) of)
+  text-answered (statement.Kept query) of = ([], with_floor s (last_of s), answered-here (statement.Kept query) of)
   text-answered (statement.Signature pattern) of = ([], with_floor s (last_of s), answered-here (statement.Signature pattern) of)
   text-answered statement.Players of = ([], with_floor s (last_of s), answered-here statement.Players of)
   text-answered statement.Doubles of = ([], with_floor s (last_of s), answered-here statement.Doubles of)
@@ -127,6 +128,10 @@ module _ (files : List File) (kept : Kept) (line : ℕ) (text : List ℕ) (befor
 
   pub leads-search : (query : Query) (filter : Filter) → LeadsOn files serial_rules kept line (statement.Search query filter) text kept before now
   leads-search query filter = λ s is of.
+      ([], with_floor s of.2.0, named s of.2.0 is of.2.1.to, (of.2.0, of.2.1, of.2.2, refl, refl), rose_by_none before now later)
+
+  pub leads-kept : (query : Query) → LeadsOn files serial_rules kept line (statement.Kept query) text kept before now
+  leads-kept query = λ s is of.
       ([], with_floor s of.2.0, named s of.2.0 is of.2.1.to, (of.2.0, of.2.1, of.2.2, refl, refl), rose_by_none before now later)
 
   pub leads-signature : (pattern : SigPattern) → LeadsOn files serial_rules kept line (statement.Signature pattern) text kept before now

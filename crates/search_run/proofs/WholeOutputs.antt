@@ -72,6 +72,7 @@ module _ (files : List File) (rules : Rules) where
   passed-on s next line (statement.Until number) used text h is = rw is.4 (named s is.0 h is.1.named.to)
   passed-on s next line (statement.Together searches) used text h is = rw is.3 (named s is.0 h (greatest-named s searches is.0 text is.1))
   passed-on s next line (statement.Search query filter) used text h is = rw is.4 (named s is.0 h is.1.to)
+  passed-on s next line (statement.Kept query) used text h is = rw is.4 (named s is.0 h is.1.to)
   passed-on s next line (statement.Signature pattern) used text h is = rw is.4 (named s is.0 h is.1.to)
   passed-on s next line statement.Players used text h is = rw is.4 (named s is.0 h is.1.to)
   passed-on s next line statement.Doubles used text h is = rw is.4 (named s is.0 h is.1.to)
@@ -115,6 +116,9 @@ module _ (files : List File) (rules : Rules) where
   statement-passes s line (statement.Search query filter) h =
       let found = answered-passes s line (statement.Search query filter) h tt in
       (found.0, ([], with_floor s (last_of s), (last_of s, last_named s h, found.1, refl, refl), refl))
+  statement-passes s line (statement.Kept query) h =
+      let found = answered-passes s line (statement.Kept query) h tt in
+      (found.0, ([], with_floor s (last_of s), (last_of s, last_named s h, found.1, refl, refl), refl))
   statement-passes s line (statement.Signature pattern) h =
       let found = answered-passes s line (statement.Signature pattern) h tt in
       (found.0, ([], with_floor s (last_of s), (last_of s, last_named s h, found.1, refl, refl), refl))
@@ -135,6 +139,7 @@ module _ (files : List File) (rules : Rules) where
   text-passes s line (statement.Until number) text (used, next, is) = (used, next, is, rw is.2 refl)
   text-passes s line (statement.Together searches) text (used, next, is) = (used, next, is, rw is.2 refl)
   text-passes s line (statement.Search query filter) text (used, next, is) = (used, next, is, rw is.3 refl)
+  text-passes s line (statement.Kept query) text (used, next, is) = (used, next, is, rw is.3 refl)
   text-passes s line (statement.Signature pattern) text (used, next, is) = (used, next, is, rw is.3 refl)
   text-passes s line statement.Players text (used, next, is) = (used, next, is, rw is.3 refl)
   text-passes s line statement.Doubles text (used, next, is) = (used, next, is, rw is.3 refl)

@@ -211,6 +211,7 @@ impl Standing {
             }
             Statement::Until { .. } => Ok(self),
             Statement::Search { .. } => Ok(self),
+            Statement::Kept { .. } => Ok(self),
             Statement::Signature { .. } => Ok(self),
             Statement::Players => Ok(self),
             Statement::Doubles => Ok(self),

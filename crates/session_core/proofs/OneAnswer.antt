@@ -15,9 +15,10 @@ use Rattle.sgf_writer.proofs.EachWritten.{each-written}
 use Rattle.sgf_writer.proofs.OneText.{one_text}
 use Rattle.query_script.specs.declared.statement.Statement.{Statement}
 use Rattle.query_script.specs.declared.statement.Statement.TheVariants as statement
-use Rattle.query_script.specs.Texts.{game_head, no_game_text, search_text}
-use Rattle.session_core.specs.Answers.{IsAnswer, IsAnswered, IsGameText, IsSearchText, IsThere, View}
+use Rattle.query_script.specs.Texts.{game_head, kept_text, no_game_text, search_text}
+use Rattle.session_core.specs.Answers.{IsAnswer, IsAnswered, IsGameText, IsKeptText, IsSearchText, IsThere, View}
 use Rattle.search_engine.proofs.HitsExist.{hits-found}
+use Rattle.search_engine.proofs.KeptCounts.{AreKept-unique, kept-found}
 use Rattle.session_core.proofs.ListAnswers.{doubles-one, doubles-text, players-one, players-text, signature-one, signature-text}
 use Rattle.search_engine.proofs.OneListOfHits.{hits-unique}
 
@@ -49,6 +50,17 @@ module _ (line : ℕ) (view : View) (trees : All (λ (g : Game). IsTree g.tree) 
       ∙ ap (λ (t : TableView). search_text line view.version (length view.games) other.hits t) table
       ∙ sym other.text_is
 
+  kept-text : (query : Query) → (text : List ℕ) × IsKeptText line view query text
+  kept-text query =
+      let (kept, are) = kept-found query view.games trees in
+      (kept_text line view.version (length view.games) kept, record { kept = kept; are_kept = are; text_is = refl })
+
+  kept-one : (query : Query) (a b : List ℕ) → IsKeptText line view query a → IsKeptText line view query b → a ≡ b
+  kept-one query a b one other =
+      one.text_is
+      ∙ ap (λ k. kept_text line view.version (length view.games) k) (AreKept-unique query view.games view.games one.kept other.kept one.are_kept other.are_kept refl)
+      ∙ sym other.text_is
+
   game-text : (number : ℕ) → (text : List ℕ) × IsGameText line view number text
   game-text number = elim (cases_lt number (length view.games)) [
     | inl below ↦
@@ -70,6 +82,7 @@ module _ (line : ℕ) (view : View) (trees : All (λ (g : Game). IsTree g.tree) 
 
   pub answer-found : (own : Statement) → IsAnswered own → (text : List ℕ) × IsAnswer line view own text
   answer-found (statement.Search query filter) answered = search-text query filter
+  answer-found (statement.Kept query) answered = kept-text query
   answer-found (statement.Signature pattern) answered = signature-text line view trees pattern.bytes
   answer-found statement.Players answered = players-text line view trees
   answer-found statement.Doubles answered = doubles-text line view trees
@@ -81,6 +94,7 @@ module _ (line : ℕ) (view : View) (trees : All (λ (g : Game). IsTree g.tree) 
 
   pub answer-unique : (own : Statement) (a b : List ℕ) → IsAnswer line view own a → IsAnswer line view own b → a ≡ b
   answer-unique (statement.Search query filter) a b one other = search-one query filter a b one other
+  answer-unique (statement.Kept query) a b one other = kept-one query a b one other
   answer-unique (statement.Signature pattern) a b one other = signature-one line view trees pattern.bytes a b one other
   answer-unique statement.Players a b one other = players-one line view trees a b one other
   answer-unique statement.Doubles a b one other = doubles-one line view trees a b one other

@@ -8,12 +8,13 @@ use Rattle.sgf_writer.specs.Written.{IsWritten}
 use Rattle.query_script.specs.declared.statement.Statement.{Statement}
 use Rattle.query_script.specs.declared.statement.Statement.TheVariants as statement
 use Rattle.query_script.specs.Bytes.{line_feed}
-use Rattle.query_script.specs.Texts.{double_text, doubles_head, game_head, no_game_text, players_text, search_text, signature_head, found_game_text}
+use Rattle.query_script.specs.Texts.{double_text, doubles_head, game_head, kept_text, no_game_text, players_text, search_text, signature_head, found_game_text}
 use Rattle.info_filter.specs.declared.filter.Filter.{Filter}
 use Rattle.info_filter.specs.Players.{IsPlayersTable, TableRow}
 use Rattle.node_position.specs.Games.{Game}
 use Rattle.session_core.specs.Doubles.{AreKeysOf, DoubleKey, Group, groups_of}
 use Rattle.search_engine.specs.Hits.{AreHits}
+use Rattle.search_engine.specs.KeptGames.{AreKept}
 use Rattle.session_core.specs.Signed.{AreGamesFound, FoundGame}
 
 -- What a statement is answered from: the number of a version, and its games.
@@ -46,6 +47,12 @@ pub data IsGameText (line : ℕ) (view : View) (number : ℕ) : List ℕ → Typ
   none : length view.games ≤ number →
       IsGameText line view number (no_game_text line number view.version)
 
+-- the text of a count of kept games
+pub record IsKeptText (line : ℕ) (view : View) (query : Query) (text : List ℕ) : Type 0 where
+  pub kept : ℕ
+  pub are_kept : AreKept query view.games kept
+  pub text_is : text ≡ kept_text line view.version (length view.games) kept
+
 -- the text of the games whose signature matches a pattern
 pub record IsSignatureText (line : ℕ) (view : View) (pattern : List ℕ)
     (text : List ℕ) : Type 0 where
@@ -72,6 +79,7 @@ pub record IsDoublesText (line : ℕ) (view : View) (text : List ℕ) : Type 0 w
 -- The text of a statement over what is seen of the base. Other statements have none.
 abbrev pub IsAnswer : ℕ → View → Statement → List ℕ → Type 0
 IsAnswer line view (statement.Search query filter) text = IsSearchText line view query filter text
+IsAnswer line view (statement.Kept query) text = IsKeptText line view query text
 IsAnswer line view (statement.Signature pattern) text =
     IsSignatureText line view pattern.bytes text
 IsAnswer line view statement.Players text = IsPlayersText line view text
@@ -85,6 +93,7 @@ IsAnswer line view (statement.Together searches) text = ⊥
 -- the statement is answered from the games of a version
 abbrev pub IsAnswered : Statement → Type 0
 IsAnswered (statement.Search query filter) = Unit {0}
+IsAnswered (statement.Kept query) = Unit {0}
 IsAnswered (statement.Signature pattern) = Unit {0}
 IsAnswered statement.Players = Unit {0}
 IsAnswered statement.Doubles = Unit {0}

@@ -17,15 +17,21 @@ ghost use mathlib.Core.List.{IsPrefix};
 ghost use Rattle.sgf_writer.specs.Written.{IsWritten};
 ghost use Rattle.query_script.specs.Bytes.{line_feed};
 ghost use Rattle.query_script.specs.Texts.{game_head};
-ghost use Rattle.session_core.specs.Answers.{IsAnswer, IsAnswered, IsGameText, IsSearchText};
+ghost use Rattle.session_core.specs.Answers.{
+  IsAnswer,
+  IsAnswered,
+  IsGameText,
+  IsKeptText,
+  IsSearchText,
+};
 ghost use Rattle.session_core.specs.Stores.{view_of};
 
 use crate::lists::{append_doubles, append_players, append_signature};
 use info_filter::Filter;
 use kb_geometry::NoMemory;
 use pattern_images::Query;
-use query_script::{Statement, print_game, print_hits, print_no_game};
-use search_engine::{find_game, game_count, search};
+use query_script::{Statement, print_game, print_hits, print_kept, print_no_game};
+use search_engine::{find_game, game_count, kept, search};
 use segment_store::{FinishedGame, Segment};
 use sgf_writer::write;
 use std::alloc::Global;
@@ -43,9 +49,9 @@ impl Session {
         Session {}
     }
 
-    /// Appends the text of a search, of the games whose signature matches a pattern, of the
-    /// players, of the double games or of a game, whose line is this one, over a version. Other
-    /// statements aren't answered from a version.
+    /// Appends the text of a search, of a count of kept games, of the games whose signature matches
+    /// a pattern, of the players, of the double games or of a game, whose line is this one, over a
+    /// version. Other statements aren't answered from a version.
     ///
     /// The only error is `NoMemory`; then `out` begins with what it held.
     pub fn answer<R: Threads + Sync>(
@@ -67,6 +73,7 @@ impl Session {
             Statement::Search { query, filter } => {
                 append_search(rt, alloc, line, query, filter, version, out)
             }
+            Statement::Kept { query } => append_kept(alloc, line, query, version, out),
             Statement::Signature { pattern } => {
                 append_signature(rt, alloc, line, pattern, version, out)
             }
@@ -127,6 +134,23 @@ fn append_search<R: Threads + Sync>(
         &answer.table,
         out,
     )
+}
+
+// Appends the text of a count of kept games.
+fn append_kept(
+    alloc: Global,
+    line: u32,
+    query: &Query,
+    version: &Version<Segment>,
+    out: &mut Vec<u8>,
+) -> Result<(), NoMemory>
+    ensures ok { OnOk result ((text : List ℕ)
+        × IsKeptText line (view_of version.now) query.now text
+        × (out.new.items ≡ out.old.items ++ text)) }
+    ensures refused { OnErr result (out.new.items ≡ out.old.items) }
+{
+    let kept = kept(alloc, version, query)?;
+    print_kept(line, version.number(), game_count(version), kept, out)
 }
 
 // Appends the text of the game with this number, or that the version has no such game.

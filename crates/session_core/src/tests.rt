@@ -1,5 +1,6 @@
 // The texts of statements over games from SGF texts. They were worked out by hand.
 mod filters;
+mod kept;
 mod lists;
 mod made;
 

@@ -210,6 +210,21 @@ pub(crate) fn search_text<R: Threads + Sync + Abort>(
     statement_text(rt, alloc, files, &Statement::Search { query, filter })
 }
 
+// The text of a count of kept games over the games of files.
+pub(crate) fn kept_text<R: Threads + Sync + Abort>(
+    rt: &R,
+    alloc: Global,
+    files: Files,
+    same: bool,
+    fixed: bool,
+    pattern: &str,
+) -> Result<String, Fail> {
+    let mut query = Query::new(read_pattern(alloc, pattern)?);
+    query.same = same;
+    query.fixed = fixed;
+    statement_text(rt, alloc, files, &Statement::Kept { query })
+}
+
 // The text of the game with a number among the games of files.
 pub(crate) fn game_text<R: Threads + Sync + Abort>(
     rt: &R,
