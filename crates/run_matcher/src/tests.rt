@@ -2,11 +2,11 @@
 // too.
 ghost use Rattle.std.specs.Prelude.{◌≡◌, ◌<◌};
 
-use crate::{Gathered, RunMatcher, match_runs};
+use crate::{RunMatcher, match_runs};
 use capture_board::{NodeDeltas, Steps};
 use capture_index::RunIndex;
 use games::{Row, game_of};
-use kb_geometry::{NoMemory, Point, Rect, Shape};
+use kb_geometry::{Point, Rect, Shape};
 use line_matcher::{Occurrence, match_game};
 use pattern_images::{Found, Images, Pattern, PatternCell, Query, images};
 use std::alloc::Global;
@@ -422,97 +422,4 @@ fn boards_and_labels(rt: HostRuntime) -> Result<(), Fail> {
         expect_found(&rt, rt.alloc(), board, game, asked, wanted)?;
     }
     Ok(())
-}
-
-// Adds the occurrences of these placements.
-fn add_all(
-    rt: &impl Abort,
-    gathered: &mut Gathered,
-    runs: &RunIndex,
-    matcher: &RunMatcher,
-    placements: &[usize],
-) -> Result<(), NoMemory>
-    requires { matcher.now.images.now.shape ≡ runs.now.shape }
-{
-    for placement in placements {
-        assert!(rt; *placement < matcher.images.len(), "a placement");
-        gathered.add(runs, matcher, *placement)?;
-    }
-    Ok(())
-}
-
-// The nodes and placements of a game that are gathered for these placements.
-fn gathered_in(
-    rt: &impl Abort,
-    alloc: Global,
-    gathered: &mut Gathered,
-    runs: &RunIndex,
-    matcher: &RunMatcher,
-    placements: &[usize],
-) -> Result<String, Fail> {
-    gathered.clear();
-    assert_eq!(rt; matcher.images.shape(), runs.shape());
-    add_all(rt, gathered, runs, matcher, placements)?;
-    let mut text = String::new(alloc);
-    for Occurrence { node, placement } in gathered.sorted(alloc)? {
-        if !text.is_empty() {
-            text.push_str(", ")?;
-        }
-        write!(text, "{node} {placement}")?;
-    }
-    Ok(text)
-}
-
-// Placements, and what is gathered for them.
-type Case = (&'static [usize], &'static str);
-
-fn expect_gathered(
-    rt: &impl Abort,
-    alloc: Global,
-    gathered: &mut Gathered,
-    runs: &RunIndex,
-    matcher: &RunMatcher,
-    cases: &[Case],
-) -> Result<(), Fail> {
-    for (placements, wanted) in cases {
-        let text = gathered_in(rt, alloc, gathered, runs, matcher, placements)?;
-        assert_eq!(rt; text.as_str(), *wanted);
-    }
-    Ok(())
-}
-
-// In the first game, and in the second one.
-const ALL: [Case; 2] = [(&[0, 1], "0 1, 1 0"), (&[1, 0, 1, 0], "0 1, 1 0")];
-
-const OTHER: [Case; 1] = [(&[0, 1], "1 0")];
-
-// In the first game again.
-const SOME: [Case; 3] = [(&[0], "1 0"), (&[], ""), (&[1], "0 1")];
-
-// Black stones on the board of 2 by 1 in two games: placement 0 is the left point, and 1 the right
-// one.
-fn gather<L: Ledger>(rt: &impl Abort, alloc: Global, blank: Blank) -> Result<(), Fail>
-    requires name { blank.name ≡ L.name }
-    requires parts { blank.parts ≡ L.parts }
-    requires some { 0 < blank.parts }
-{
-    let shape = Shape::new(2, 1).expect(rt, "a board");
-    let mut steps = Steps::<L>::new(blank);
-    let game = [(None, "bba"), (Some(0), "baa"), (Some(0), "eba")];
-    let other = [(None, ""), (Some(0), "baa")];
-    let one = RunIndex::of(alloc, &game_of(rt, alloc, shape, &game, &mut steps)?)?;
-    let two = RunIndex::of(alloc, &game_of(rt, alloc, shape, &other, &mut steps)?)?;
-    let query = query_of(rt, alloc, (BLACK, true, true, ANYWHERE))?;
-    let images = images(alloc, &query, shape)?;
-    let matcher = RunMatcher::new(alloc, &images)?;
-    let mut gathered = Gathered::new(alloc);
-    expect_gathered(rt, alloc, &mut gathered, &one, &matcher, &ALL)?;
-    expect_gathered(rt, alloc, &mut gathered, &two, &matcher, &OTHER)?;
-    expect_gathered(rt, alloc, &mut gathered, &one, &matcher, &SOME)
-}
-
-// Placements in any order and more than once, and lists that serve for another game.
-#[test]
-fn gathered_placement_by_placement(rt: HostRuntime) -> Result<(), Fail> {
-    gather::<Brand>(&rt, rt.alloc(), Blank::new(1))
 }

@@ -44,8 +44,8 @@ use segment_store::FinishedGame;
 use std::alloc::Global;
 use std::sync::ledger::Ledger;
 
-// Of at most so many nodes one is a branch, in a game that is walked.
-const NODES_OF_A_BRANCH: usize = 4;
+// A game with more changes than so many for each point of its board is walked.
+const CHANGES_OF_A_POINT: usize = 16;
 
 // What the occurrences of a game are found with, kept from game to game.
 #[derive(Debug, Drop)]
@@ -64,9 +64,9 @@ impl Room {
     }
 }
 
-// The occurrences in the game at this place of its block, which has these changes. Where the text
-// goes back often, they are found by a walk over its nodes, if it is kept, and else by the runs of
-// its points.
+// The occurrences in the game at this place of its block, which has these changes. Where these are
+// many, the occurrences are found by a walk over the nodes, if the game is kept, and else by the
+// runs of its points.
 pub(crate) fn occurrences<L: Ledger>(
     alloc: Global,
     game: &FinishedGame,
@@ -91,7 +91,7 @@ pub(crate) fn occurrences<L: Ledger>(
         HaveKeptNodes query (game.now ∷ []) n → steps.new ≤ steps.old + n }
     ensures grows { steps.old ≤ steps.new }
 {
-    if goes_back_often(game.runs()) {
+    if are_many(deltas) {
         return by_walk(alloc, game, deltas, matcher, &mut room.walker, steps);
     }
     let Room {
@@ -101,9 +101,18 @@ pub(crate) fn occurrences<L: Ledger>(
     by_runs(alloc, game, deltas, at, &matcher.runs, candidates, gathered)
 }
 
-// Whether the text of a game goes back often.
-fn goes_back_often(runs: &RunIndex) -> bool {
-    runs.branch_count() > runs.node_count() as usize / NODES_OF_A_BRANCH
+// Whether so many changes come for each point that its runs cost more than a walk: a placement is
+// then cut into many stretches.
+fn are_many(deltas: &NodeDeltas) -> bool {
+    let most = usize::from(deltas.shape().count()) * CHANGES_OF_A_POINT;
+    let mut changes = 0usize;
+    for n in 0..deltas.node_count() {
+        changes = changes.saturating_add(deltas.changes(n).len());
+        if changes > most {
+            return true;
+        }
+    }
+    false
 }
 
 // The occurrences in a game, by a walk over its nodes, if it is kept.

@@ -187,7 +187,7 @@ fn sizes_of_pieces(rt: HostRuntime) {
 // A game whose text goes back at half of its nodes, and with a long last variation that lets this
 // be rare. In each a black stone comes to the third point of the third row at nodes 1 and 3.
 #[test]
-fn variations_by_a_walk_and_by_runs(rt: HostRuntime) -> Result<(), Fail> {
+fn variations_that_are_short_and_long(rt: HostRuntime) -> Result<(), Fail> {
     let alloc = rt.alloc();
     for text in [
         "(;SZ[9](;B[cc])(;B[dd])(;B[cc];W[aa]))",
@@ -196,6 +196,26 @@ fn variations_by_a_walk_and_by_runs(rt: HostRuntime) -> Result<(), Fail> {
         let found = seen_in_segment(&rt, alloc, text, 0, ASKED)?;
         let wanted: &[Seen] = &[(0, 1), (0, 3)];
         assert_eq!(rt; found.as_slice(), wanted, "{text}");
+    }
+    Ok(())
+}
+
+// A board of nine points that is set black and white by turns: 16 changes for each point, whose runs
+// are looked at, and 18, by a walk. The third point of the third row is black at each other node.
+#[test]
+fn few_changes_by_runs_and_many_by_a_walk(rt: HostRuntime) -> Result<(), Fail> {
+    let alloc = rt.alloc();
+    for pairs in [8u32, 9] {
+        let mut text = String::new(alloc);
+        let mut wanted: Vec<Seen> = Vec::new(alloc);
+        text.push_str("(;SZ[3]")?;
+        for n in 0..pairs {
+            text.push_str(";AB[aa:cc];AW[aa:cc]")?;
+            wanted.push((0, n.saturating_mul(2).saturating_add(1)))?;
+        }
+        text.push_str(")")?;
+        let found = seen_in_segment(&rt, alloc, text.as_str(), 0, ASKED)?;
+        assert_eq!(rt; found.as_slice(), wanted.as_slice(), "{pairs}");
     }
     Ok(())
 }
