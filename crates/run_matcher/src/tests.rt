@@ -328,97 +328,95 @@ fn half_wildcards_over_set_stones(rt: HostRuntime) -> Result<(), Fail> {
     Ok(())
 }
 
+// A board, a game on it, a search, and what begins to hold.
+type Case = ((u8, u8), &'static [Row], Asked, &'static str);
+
+const WILDCARD: (u8, u8, &str) = (1, 1, "*");
+
+const NO_MOVE: &[Row] = &[(None, "")];
+
+// The only point is black, empty and white.
+const BY_TURNS: &[Row] = &[(None, "baa"), (Some(0), "eaa"), (Some(1), "waa")];
+
+const TWO_VARIATIONS: &[Row] = &[(None, ""), (Some(0), "Baa"), (Some(0), "Bbb")];
+
+const PAIR: &[Row] = &[(None, ""), (Some(0), "Baa"), (Some(1), "Wba")];
+
+const THREE_MOVES: &[Row] = &[
+    (None, ""),
+    (Some(0), "Bcc"),
+    (Some(1), "Wbc"),
+    (Some(2), "Bcb"),
+];
+
+const LAST_POINTS: &[Row] = &[
+    (None, "waa"),
+    (Some(0), "BZZ"),
+    (Some(1), "WYZ"),
+    (Some(2), "eYZ"),
+];
+
+const GREATEST_ROW: &str = "*..................................................X";
+
 // The least board, wildcards alone, which hold at the root, images in order, and the last points of
 // the greatest board.
+const CASES: [Case; 11] = [
+    ((1, 1), NO_MOVE, (EMPTY, true, false, ANYWHERE), "0 0 0 0"),
+    (
+        (1, 1),
+        NO_MOVE,
+        (WILDCARD, false, false, ANYWHERE),
+        "0 0 0 0",
+    ),
+    (
+        (1, 1),
+        NO_MOVE,
+        ((1, 1, "x"), false, false, ANYWHERE),
+        "0 0 0 0, 0 0 0 8",
+    ),
+    ((1, 1), BY_TURNS, (BLACK, true, false, ANYWHERE), "0 0 0 0"),
+    (
+        (1, 1),
+        BY_TURNS,
+        ((1, 1, "o"), true, false, ANYWHERE),
+        "1 0 0 0",
+    ),
+    (
+        (2, 2),
+        TWO_VARIATIONS,
+        (WILDCARD, false, false, ANYWHERE),
+        "0 0 0 0, 0 1 0 0, 0 0 1 0, 0 1 1 0",
+    ),
+    (
+        (2, 2),
+        PAIR,
+        ((2, 1, "XO"), false, false, ANYWHERE),
+        "2 0 0 0",
+    ),
+    ((2, 2), PAIR, ((3, 1, "***"), false, false, ANYWHERE), ""),
+    (
+        (5, 5),
+        THREE_MOVES,
+        (BLACK, false, false, ANYWHERE),
+        "1 2 2 0, 2 1 2 8, 3 2 1 0",
+    ),
+    (
+        (52, 52),
+        LAST_POINTS,
+        (BLACK, true, true, ANYWHERE),
+        "1 51 51 0",
+    ),
+    (
+        (52, 52),
+        LAST_POINTS,
+        ((52, 1, GREATEST_ROW), true, true, ANYWHERE),
+        "1 0 51 0, 3 0 51 0",
+    ),
+];
+
 #[test]
 fn boards_and_labels(rt: HostRuntime) -> Result<(), Fail> {
-    let none = [(None, "")];
-    let set = [(None, "baa"), (Some(0), "eaa"), (Some(1), "waa")];
-    let two = [(None, ""), (Some(0), "Baa"), (Some(0), "Bbb")];
-    let pair = [(None, ""), (Some(0), "Baa"), (Some(1), "Wba")];
-    let three = [
-        (None, ""),
-        (Some(0), "Bcc"),
-        (Some(1), "Wbc"),
-        (Some(2), "Bcb"),
-    ];
-    let last = [
-        (None, "waa"),
-        (Some(0), "BZZ"),
-        (Some(1), "WYZ"),
-        (Some(2), "eYZ"),
-    ];
-    let wildcard = (1u8, 1u8, "*");
-    let row = "*..................................................X";
-    let cases = [
-        (
-            (1, 1),
-            none.as_slice(),
-            (EMPTY, true, false, ANYWHERE),
-            "0 0 0 0",
-        ),
-        (
-            (1, 1),
-            none.as_slice(),
-            (wildcard, false, false, ANYWHERE),
-            "0 0 0 0",
-        ),
-        (
-            (1, 1),
-            none.as_slice(),
-            ((1, 1, "x"), false, false, ANYWHERE),
-            "0 0 0 0, 0 0 0 8",
-        ),
-        (
-            (1, 1),
-            set.as_slice(),
-            (BLACK, true, false, ANYWHERE),
-            "0 0 0 0",
-        ),
-        (
-            (1, 1),
-            set.as_slice(),
-            ((1, 1, "o"), true, false, ANYWHERE),
-            "1 0 0 0",
-        ),
-        (
-            (2, 2),
-            two.as_slice(),
-            (wildcard, false, false, ANYWHERE),
-            "0 0 0 0, 0 1 0 0, 0 0 1 0, 0 1 1 0",
-        ),
-        (
-            (2, 2),
-            pair.as_slice(),
-            ((2, 1, "XO"), false, false, ANYWHERE),
-            "2 0 0 0",
-        ),
-        (
-            (2, 2),
-            pair.as_slice(),
-            ((3, 1, "***"), false, false, ANYWHERE),
-            "",
-        ),
-        (
-            (5, 5),
-            three.as_slice(),
-            (BLACK, false, false, ANYWHERE),
-            "1 2 2 0, 2 1 2 8, 3 2 1 0",
-        ),
-        (
-            (52, 52),
-            last.as_slice(),
-            (BLACK, true, true, ANYWHERE),
-            "1 51 51 0",
-        ),
-        (
-            (52, 52),
-            last.as_slice(),
-            ((52, 1, row), true, true, ANYWHERE),
-            "1 0 51 0, 3 0 51 0",
-        ),
-    ];
-    for (board, game, asked, wanted) in cases {
+    for (board, game, asked, wanted) in CASES {
         expect_found(&rt, rt.alloc(), board, game, asked, wanted)?;
     }
     Ok(())
