@@ -39,7 +39,9 @@ IsFoundTo deltas placements nodes old new =
 
 -- What was found grows by the occurrences at those of the first so many nodes that are among the
 -- given ones.
-abbrev pub IsFoundAmong : Deltas → List Placement → List ℕ → ℕ → List Occurrence → List Occurrence → Type 0
+abbrev pub IsFoundAmong :
+    Deltas → List Placement → List ℕ → ℕ → List Occurrence → List Occurrence → Type 0
 IsFoundAmong deltas placements given nodes old new =
     new ≡ old
-    ++ filter (is_at_one_of given) (flat_map (occurrences_at deltas placements) (range_with_len 0 nodes))
+    ++ filter (is_at_one_of given)
+    (flat_map (occurrences_at deltas placements) (range_with_len 0 nodes))
