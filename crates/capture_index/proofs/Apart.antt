@@ -74,8 +74,12 @@ pub record IsApartTo (stretch : Stretch) (next most : ℕ) (found : List Stretch
   pub from : stretch.from ≤ low
   pub past : (stretch.to ≤ low) ⊎ (next ≤ low)
 
-pub IsApartTo-none : (stretch : Stretch) (next most : ℕ) (found : List Stretch) → stretch.from ≤ stretch.to → AreApart stretch.to most found → IsApartTo stretch next most found
-IsApartTo-none stretch next most found le apart = record { low = stretch.to; apart = apart; from = le; past = inl (omega arith) }
+pub IsApartTo-none : (stretch : Stretch) (next most : ℕ) (found : List Stretch) → stretch.from < stretch.to → AreApart stretch.to most found → IsApartTo stretch next most found
+IsApartTo-none stretch next most found lt apart = record { low = stretch.to; apart = apart; from = omega arith; past = inl (omega arith) }
+
+-- the runs that were passed tell the whole stretch
+pub IsApartTo-end : (stretch : Stretch) (next most : ℕ) (found : List Stretch) → IsApartTo stretch next most found → AreApart stretch.from most found
+IsApartTo-end stretch next most found to = apart-lower to.low stretch.from most found to.from to.apart
 
 module _ (stretch : Stretch) (next most : ℕ) (found after : List Stretch) (start : ℕ) (to : IsApartTo stretch next most found) (pushed : (low lowest : ℕ) → AreApart low most found → (stretch.to ≤ low) ⊎ (next ≤ low) → lowest ≤ low → (lowest ≤ stretch.from) ⊎ (lowest ≤ start) → AreApart lowest most after) where
   sooner : (after_next : ℕ) → after_next ≤ next → (stretch.to ≤ to.low) ⊎ (next ≤ to.low) → (stretch.to ≤ to.low) ⊎ (after_next ≤ to.low)
@@ -124,10 +128,10 @@ AreApartFrom-none stretches most found e = record {
 }
 
 pub AreApartFrom-more : (stretches : List Stretch) (i most : ℕ) (found after : List Stretch) (d : Stretch) → i < length stretches → AreApart 0 most stretches → AreApartFrom stretches i most found →
-    ((get_or stretches i d).from ≤ (get_or stretches i d).to → (get_or stretches i d).to ≤ most → AreApart (get_or stretches i d).to most found → AreApart (get_or stretches i d).from most after) → AreApartFrom stretches (i + 1) most after
+    ((get_or stretches i d).to ≤ most → AreApart (get_or stretches i d).to most found → AreApart (get_or stretches i d).from most after) → AreApartFrom stretches (i + 1) most after
 AreApartFrom-more stretches i most found after d lt listed before cut =
     let here = listed.each i d lt in
-    let now = cut (omega (arith, here.1)) here.2 (apart-above (get_or stretches i d).to most found before.apart (λ k e l. before.above i k d e (omega arith) lt l)) in
+    let now = cut here.2 (apart-above (get_or stretches i d).to most found before.apart (λ k e l. before.above i k d e (omega arith) lt l)) in
     record {
       apart = apart-lower (get_or stretches i d).from 0 most after (omega arith) now;
       above = λ j k e f le l m. omega (arith, listed.falling i j d e (omega arith) l, (now.each k f m).0);

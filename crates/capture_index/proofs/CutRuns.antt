@@ -1,6 +1,6 @@
--- A stretch that is cut at the runs of a point, the latest run first.
+-- Stretches that are cut at the runs of a point, the latest run first.
 use Prim.Native.Nat.{min}
-use Rattle.std.proofs.Common.{◌≡◌, ℕ, ◌+◌, ◌<◌, ◌≤◌, ◌⊎◌, ◌↔◌, Bool, List, [], ◌∷◌, length, get_or, drop, refl, sym, ◌∙◌, ap, subst, arith, inl, inr, add-one, drop-cons}
+use Rattle.std.proofs.Common.{◌≡◌, ℕ, ◌+◌, ◌<◌, ◌≤◌, ◌⊎◌, ◌↔◌, Bool, List, [], ◌∷◌, length, get_or, drop, sym, ◌∙◌, ap, subst, arith, inl, inr, add-one, drop-cons}
 use Rattle.std.proofs.Math.Nat.{min-le_left, min-le_right, le-min}
 use Rattle.std.proofs.lemmas.Bool.{cases_lt}
 use Rattle.std.proofs.lemmas.List.{drop_all, get_or_default}
@@ -8,7 +8,7 @@ use Rattle.std.specs.Prelude.{IsTrue}
 use Rattle.capture_index.specs.declared.run.Run.{Run}
 use Rattle.capture_index.specs.declared.stretch.Stretch.{Stretch}
 use Rattle.capture_index.specs.declared.stretch.Want.{Want}
-use Rattle.capture_index.specs.Runs.{cell_by}
+use Rattle.capture_index.specs.Runs.{AreToldBehind, cell_by}
 use Rattle.capture_index.specs.Lists.{IsInFirst}
 use Rattle.capture_index.specs.Stretches.{IsIn, IsWithin, is_wanted}
 use Rattle.capture_index.proofs.Cells.{cell_by-first, cell_by-rest}
@@ -28,68 +28,90 @@ least_of next start low n e from to =
     ]
 
 -- A stretch is cut at the first so many runs, which tell of the nodes from next on.
-pub record IsCutTo (runs : List Run) (want : Want) (nodes : ℕ) (stretch : Stretch) (before : List Stretch) (count next : ℕ) (after : List Stretch) : Type 0 where
-  pub most : next ≤ nodes
-  pub nodes_of : (n : ℕ) → n < nodes → IsIn after n ↔ (IsIn before n ⊎ (IsWithin n stretch × (next ≤ n) × IsTrue (is_wanted want (cell_by runs n))))
-  pub rest : (n : ℕ) → n < next → cell_by runs n ≡ cell_by (drop count runs) n
+pub record IsCutTo (runs : List Run) (want : Want) (stretch : Stretch) (before : List Stretch) (count next : ℕ) (after : List Stretch) : Type 0 where
+  pub nodes_of : (n : ℕ) → IsIn after n ↔ (IsIn before n ⊎ (IsWithin n stretch × (next ≤ n) × IsTrue (is_wanted want (cell_by runs n))))
+  pub rest : AreToldBehind runs count next
 
-module _ (runs : List Run) (want : Want) (nodes : ℕ) (stretch : Stretch) (before : List Stretch) where
-  pub IsCutTo-none : IsCutTo runs want nodes stretch before 0 nodes before
-  IsCutTo-none = record {
-    most = omega arith;
-    nodes_of = λ n lt. (λ h. inl h, λ h. elim h [ inl there ↦ there | inr behind ↦ absurd (omega (arith, behind.1)) ]);
-    rest = λ n lt. refl;
+-- the next run, and those behind it
+told-step : (runs : List Run) (count node : ℕ) (d : Run) → count < length runs → AreToldBehind runs count node → (n : ℕ) → n < node → cell_by runs n ≡ cell_by (get_or runs count d ∷ drop (count + 1) runs) n
+told-step runs count node d lt told n under =
+    told n under ∙ ap (λ (rs : List Run). cell_by rs n) (drop-cons runs count d lt ∙ ap (λ (i : ℕ). get_or runs count d ∷ drop i runs) (sym (add-one count)))
+
+-- a run that begins at the node or behind it
+pub told-past : (runs : List Run) (count node first : ℕ) (d : Run) → count < length runs → first ≡ (get_or runs count d).first → node ≤ first → AreToldBehind runs count node → AreToldBehind runs (count + 1) node
+told-past runs count node first d lt is le told n under =
+    told-step runs count node d lt told n under ∙ cell_by-rest (get_or runs count d) (drop (count + 1) runs) n (omega (arith, is))
+
+pub told-sooner : (runs : List Run) (count low node : ℕ) → low ≤ node → AreToldBehind runs count node → AreToldBehind runs count low
+told-sooner runs count low node le told n under = told n (omega arith)
+
+module _ (runs : List Run) (want : Want) (stretch : Stretch) (before : List Stretch) where
+  -- the runs that are left tell the cells of the stretch
+  pub IsCutTo-none : (count : ℕ) → AreToldBehind runs count stretch.to → IsCutTo runs want stretch before count stretch.to before
+  IsCutTo-none count told = record {
+    nodes_of = λ n. (λ h. inl h, λ h. elim h [ inl there ↦ there | inr (within, behind, is) ↦ absurd (omega (arith, within.1, behind)) ]);
+    rest = told;
   }
 
-  module _ (count next : ℕ) (now : List Stretch) (cut : IsCutTo runs want nodes stretch before count next now) (after : List Stretch) (start : ℕ) (wanted : Bool) (pushed : (n : ℕ) → IsIn after n ↔ (IsIn now n ⊎ (IsWithin n stretch × (start ≤ n) × (n < next) × IsTrue wanted))) (cell : (n : ℕ) → start ≤ n → n < next → is_wanted want (cell_by runs n) ≡ wanted) where
+  module _ (count next : ℕ) (now : List Stretch) (cut : IsCutTo runs want stretch before count next now) (after : List Stretch) (start : ℕ) (wanted : Bool) (pushed : (n : ℕ) → IsIn after n ↔ (IsIn now n ⊎ (IsWithin n stretch × (start ≤ n) × (n < next) × IsTrue wanted))) (cell : (n : ℕ) → start ≤ n → n < next → is_wanted want (cell_by runs n) ≡ wanted) where
     -- the nodes from start on are decided
-    pub cut-further : (low : ℕ) → low ≤ next → low ≤ start → ((n : ℕ) → low ≤ n → n < next → start ≤ n) → (n : ℕ) → n < nodes → IsIn after n ↔ (IsIn before n ⊎ (IsWithin n stretch × (low ≤ n) × IsTrue (is_wanted want (cell_by runs n))))
-    cut-further low under below least n lt = (
+    pub cut-further : (low : ℕ) → low ≤ next → low ≤ start → ((n : ℕ) → low ≤ n → n < next → start ≤ n) → (n : ℕ) → IsIn after n ↔ (IsIn before n ⊎ (IsWithin n stretch × (low ≤ n) × IsTrue (is_wanted want (cell_by runs n))))
+    cut-further low under below least n = (
       λ h. elim ((pushed n).0 h) [
-        | inl old ↦ elim ((cut.nodes_of n lt).0 old) [
+        | inl old ↦ elim ((cut.nodes_of n).0 old) [
           | inl first ↦ inl first
           | inr (within, from, is) ↦ inr (within, omega arith, is)
         ]
         | inr (within, from, to, is) ↦ inr (within, omega arith, cell n from to ∙ is)
       ],
       λ h. elim h [
-        | inl first ↦ (pushed n).1 (inl ((cut.nodes_of n lt).1 (inl first)))
+        | inl first ↦ (pushed n).1 (inl ((cut.nodes_of n).1 (inl first)))
         | inr (within, from, is) ↦ elim (cases_lt n next) [
           | inl to ↦ let from_start = least n from to in (pushed n).1 (inr (within, from_start, to, sym (cell n from_start to) ∙ is))
-          | inr behind ↦ (pushed n).1 (inl ((cut.nodes_of n lt).1 (inr (within, behind, is))))
+          | inr behind ↦ (pushed n).1 (inl ((cut.nodes_of n).1 (inr (within, behind, is))))
         ]
       ],
     )
 
   -- one run more
-  pub IsCutTo-more : (count next : ℕ) (now after : List Stretch) (d : Run) (start low : ℕ) (wanted : Bool) → count < length runs → IsCutTo runs want nodes stretch before count next now →
+  pub IsCutTo-more : (count next : ℕ) (now after : List Stretch) (d : Run) (start low : ℕ) (wanted : Bool) → count < length runs → IsCutTo runs want stretch before count next now →
       ((n : ℕ) → IsIn after n ↔ (IsIn now n ⊎ (IsWithin n stretch × (start ≤ n) × (n < next) × IsTrue wanted))) →
-      start ≡ (get_or runs count d).first → wanted ≡ is_wanted want (get_or runs count d).cell → low ≡ min next start → IsCutTo runs want nodes stretch before (count + 1) low after
+      start ≡ (get_or runs count d).first → wanted ≡ is_wanted want (get_or runs count d).cell → low ≡ min next start → IsCutTo runs want stretch before (count + 1) low after
   IsCutTo-more count next now after d start low wanted lt cut pushed first_is wanted_is low_is =
       let r = get_or runs count d in
-      let step : drop count runs ≡ r ∷ drop (count + 1) runs = drop-cons runs count d lt ∙ ap (λ (i : ℕ). r ∷ drop i runs) (sym (add-one count)) in
       let under : low ≤ next = omega (arith, low_is, min-le_left next start) in
       let below : low ≤ start = omega (arith, low_is, min-le_right next start) in
       let least : (n : ℕ) → low ≤ n → n < next → start ≤ n = λ n from to. least_of next start low n low_is from to in
       record {
-        most = omega (arith, cut.most);
         nodes_of = cut-further count next now cut after start wanted pushed
-            (λ n from to. ap (is_wanted want) (cut.rest n to ∙ ap (λ (rs : List Run). cell_by rs n) step ∙ cell_by-first r (drop (count + 1) runs) n (omega (arith, first_is))) ∙ sym wanted_is)
+            (λ n from to. ap (is_wanted want) (told-step runs count next d lt cut.rest n to ∙ cell_by-first r (drop (count + 1) runs) n (omega (arith, first_is))) ∙ sym wanted_is)
             low under below least;
-        rest = λ n l. cut.rest n (omega arith) ∙ ap (λ (rs : List Run). cell_by rs n) step ∙ cell_by-rest r (drop (count + 1) runs) n (omega (arith, first_is));
+        rest = told-past runs count low start d lt first_is below (told-sooner runs count low next under cut.rest);
       }
 
+  -- the runs that were passed tell the whole stretch
+  pub IsCutTo-end : (count next : ℕ) (after : List Stretch) → next ≤ stretch.from → IsCutTo runs want stretch before count next after → (n : ℕ) → IsIn after n ↔ (IsIn before n ⊎ (IsWithin n stretch × IsTrue (is_wanted want (cell_by runs n))))
+  IsCutTo-end count next after le cut n = (
+    λ h. elim ((cut.nodes_of n).0 h) [ inl first ↦ inl first | inr (within, from, is) ↦ inr (within, is) ],
+    λ h. (cut.nodes_of n).1 (elim h [ inl first ↦ inl first | inr (within, is) ↦ inr (within, omega (arith, le, within.0), is) ]),
+  )
+
   -- before all runs
-  pub IsCutTo-all : (next : ℕ) (now after : List Stretch) (count : ℕ) → length runs ≤ count → IsCutTo runs want nodes stretch before count next now →
+  pub IsCutTo-all : (next : ℕ) (now after : List Stretch) (count : ℕ) → length runs ≤ count → IsCutTo runs want stretch before count next now →
       ((n : ℕ) → IsIn after n ↔ (IsIn now n ⊎ (IsWithin n stretch × (0 ≤ n) × (n < next) × IsTrue want.empty))) →
-      (n : ℕ) → n < nodes → IsIn after n ↔ (IsIn before n ⊎ (IsWithin n stretch × IsTrue (is_wanted want (cell_by runs n))))
-  IsCutTo-all next now after count all cut pushed n lt =
+      (n : ℕ) → IsIn after n ↔ (IsIn before n ⊎ (IsWithin n stretch × IsTrue (is_wanted want (cell_by runs n))))
+  IsCutTo-all next now after count all cut pushed n =
       let whole = cut-further count next now cut after 0 want.empty pushed
       (λ m from to. ap (is_wanted want) (cut.rest m to ∙ ap (λ (rs : List Run). cell_by rs m) (drop_all count runs all)))
-      0 (omega arith) (omega arith) (λ m from to. omega arith) n lt in (
+      0 (omega arith) (omega arith) (λ m from to. omega arith) n in (
         λ h. elim (whole.0 h) [ inl first ↦ inl first | inr (within, from, is) ↦ inr (within, is) ],
         λ h. whole.1 (elim h [ inl first ↦ inl first | inr (within, is) ↦ inr (within, omega arith, is) ]),
       )
+
+-- where all runs were passed
+pub told-all : (runs : List Run) (count node : ℕ) → length runs ≤ count → AreToldBehind runs count node → AreToldBehind runs (length runs) node
+told-all runs count node all told n under =
+    told n under ∙ ap (λ (rs : List Run). cell_by rs n) (drop_all count runs all ∙ sym (drop_all (length runs) runs (omega arith)))
 
 -- ---- all stretches of a list
 module _ (stretches : List Stretch) (i : ℕ) (d : Stretch) (n : ℕ) (lt : i < length stretches) where

@@ -95,6 +95,13 @@ module _ (index : PackedRuns) (base : ℕ) (wants : List Want) (i : ℕ) (lt : i
     λ (first, all). (here n in_range).1 ((cut n in_range).1 (first, λ k l. all k (omega arith)), all i (omega arith)),
   )
 
+-- no stretch is left for the other wants
+pub IsCutBy-empty : (index : PackedRuns) (base : ℕ) (wants : List Want) (i : ℕ) → i ≤ length wants → (start after : List Stretch) → length after ≡ 0 → IsCutBy index base wants i start after → IsCutBy index base wants (length wants) start after
+IsCutBy-empty index base wants i le start after none cut n in_range = (
+  λ (k, d, lt, within). absurd (omega (arith, lt, none)),
+  λ (first, all). (cut n in_range).1 (first, λ k l. all k (omega arith)),
+)
+
 -- ---- one want
 module _ (index : PackedRuns) (base : ℕ) (want : Want) (time : Time) (is : time ≡ time_at index (base + want.offset)) where
   -- a point with a word is passed over

@@ -1,6 +1,6 @@
 -- The runs of a point: from the first node of a run on the point has the run's cell, until the next
 -- one begins.
-use Rattle.std.specs.Prelude.{ℕ, ◌≤◌, nat_le, List, [], ◌∷◌, if◌then◌else◌, map, slice_index_or, All}
+use Rattle.std.specs.Prelude.{◌≡◌, ℕ, ◌<◌, ◌≤◌, nat_le, List, [], ◌∷◌, if◌then◌else◌, map, drop, slice_index_or, All}
 use Rattle.kb_geometry.specs.declared.stone.Cell.{Cell}
 use Rattle.kb_geometry.specs.declared.stone.Cell.TheVariants as stone
 use Rattle.kb_geometry.specs.Capture.{Position}
@@ -12,6 +12,10 @@ use Rattle.capture_index.specs.declared.run.Run.{Run}
 abbrev pub cell_by : List Run → ℕ → Cell
 cell_by [] n = stone.Empty
 cell_by (r ∷ rs) n = if nat_le r.first n then r.cell else cell_by rs n
+
+-- at the nodes before this one the runs behind the first so many tell the cells
+abbrev pub AreToldBehind : List Run → ℕ → ℕ → Type 0
+AreToldBehind runs count node = (n : ℕ) → n < node → cell_by runs n ≡ cell_by (drop count runs) n
 
 -- no run begins behind the node
 abbrev pub BeginsBy : ℕ → List Run → Type 0

@@ -95,14 +95,18 @@ impl PackedRuns {
         found: &mut Vec<Stretch>,
         spare: &mut Vec<Stretch>,
     ) -> Result<(), NoMemory>
-        requires { All (λ (w : Want). base + w.offset < point_count self.now.shape) wants.now }
+        requires on_board { All (λ (w : Want). base + w.offset < point_count self.now.shape)
+            wants.now }
+        requires apart { AreApart 0 self.now.nodes found.old.items }
         ensures nodes { OnOk result (IsCutBy self.now base wants.now (length wants.now)
             found.old.items found.new.items) }
-        ensures apart { OnOk result ((most : ℕ) → AreApart 0 most found.old.items →
-            AreApart 0 most found.new.items) }
+        ensures apart { OnOk result (AreApart 0 self.now.nodes found.new.items) }
     {
         for want in wants {
             self.cut_want(base, *want, found, spare)?;
+            if found.is_empty() {
+                return Ok(());
+            }
         }
         Ok(())
     }
@@ -115,16 +119,16 @@ impl PackedRuns {
         found: &mut Vec<Stretch>,
         spare: &mut Vec<Stretch>,
     ) -> Result<(), NoMemory>
-        requires { base + want.offset < point_count self.now.shape }
+        requires on_board { base + want.offset < point_count self.now.shape }
+        requires apart { AreApart 0 self.now.nodes found.old.items }
         ensures nodes { OnOk result (IsCutAt self.now base want found.old.items found.new.items) }
-        ensures apart { OnOk result ((most : ℕ) → AreApart 0 most found.old.items →
-            AreApart 0 most found.new.items) }
+        ensures apart { OnOk result (AreApart 0 self.now.nodes found.new.items) }
     {
         let time = self.time_of(base, want.offset);
         if !time.is_many() {
             return Ok(());
         }
-        cut(self.list(time.list()), want, self.nodes, found, spare)?;
+        cut(self.list(time.list()), want, found, spare)?;
         Ok(())
     }
 }

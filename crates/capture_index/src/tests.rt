@@ -5,7 +5,7 @@ mod made;
 mod wanted;
 
 use crate::{RunIndex, Stretch, Want};
-use kb_geometry::Cell;
+use kb_geometry::{Cell, NoMemory};
 use made::{Row, made, made_line};
 use std::alloc::Global;
 use std::marker::Brand;
@@ -306,6 +306,65 @@ fn lines_of_many_nodes(rt: HostRuntime) -> Result<(), Fail> {
         assert_eq!(rt; cell(&index, 360, last), Some(EMPTY));
     }
     Ok(())
+}
+
+// What the first, the second and the third move of each variation change.
+const MOVES: [&'static [(u16, Cell)]; 3] = [&[(0, BLACK)], &[(1, WHITE)], &[(4, BLACK)]];
+
+// Forty variations of the same three moves at the root.
+fn forty_variations(alloc: Global) -> Result<Vec<Row<'static>>, NoMemory> {
+    let mut rows: Vec<Row<'static>> = Vec::new(alloc);
+    rows.push((None, &[]))?;
+    for k in 0..40u32 {
+        rows.push((Some(0), MOVES[0]))?;
+        rows.push((Some(3 * k + 1), MOVES[1]))?;
+        rows.push((Some(3 * k + 2), MOVES[2]))?;
+    }
+    Ok(rows)
+}
+
+// Adds the nodes of a move of each variation: the first, the second or the third.
+fn push_moves(number: u32, nodes: &mut Vec<u32>) -> Result<(), NoMemory>
+    requires { number < 4 }
+{
+    for k in 0..40u32 {
+        nodes.push(3 * k + number)?;
+    }
+    Ok(())
+}
+
+// Each move but the first is taken back at the next variation, so its point has a run for each
+// variation, and the search a stretch for each.
+#[test]
+fn many_variations_of_three_moves(rt: HostRuntime) -> Result<(), Fail> {
+    let alloc = rt.alloc();
+    let rows = forty_variations(alloc)?;
+    let deltas = made::<Brand>(&rt, alloc, 3, 3, &rows, Blank::new(1))?;
+    let index = RunIndex::of(alloc, &deltas)?;
+    let mut second = Vec::new(alloc);
+    push_moves(2, &mut second)?;
+    let mut third = Vec::new(alloc);
+    push_moves(3, &mut third)?;
+    let mut both = Vec::new(alloc);
+    push_moves(2, &mut both)?;
+    push_moves(3, &mut both)?;
+    let empty = want(1, true, false, false);
+    let white = want(1, false, false, true);
+    let empty_below = want(4, true, false, false);
+    let black_below = want(4, false, true, false);
+    let any_below = want(4, true, true, true);
+    expect_found(
+        &rt,
+        alloc,
+        &index,
+        0,
+        [white, empty_below],
+        &second,
+        &second,
+    )?;
+    expect_found(&rt, alloc, &index, 0, [white, black_below], &third, &third)?;
+    expect_found(&rt, alloc, &index, 0, [white, any_below], &both, &second)?;
+    expect_found(&rt, alloc, &index, 0, [empty, black_below], &[], &[])
 }
 
 // A game without a node has no node for any answer.

@@ -1,8 +1,12 @@
+use Rattle.capture_index.proofs.BegunNodes.{falling-apart}
 use Rattle.capture_index.proofs.Narrowing.{IsCutAt-list}
 use Rattle.capture_index.proofs.packed_runs.PackedRuns.cut_want.Goals as goal
+
+pub cut-requires : goal.cut-requires
+cut-requires c = falling-apart c.args.self.now.nodes c.args.found.now.items c.requires.apart
 
 pub returns-clause-nodes : goal.returns-clause-nodes
 returns-clause-nodes c =
     IsCutAt-list c.args.self.now c.args.base c.args.want c.time_of-time.result
     c.time_of-time.ensures
-    c.list-2.result.now c.list.result c.args.found.now.items c.cut.new.found.items (c.is_many.ensures.0 c.if-not-is_many.false) c.list.ensures c.list-2.ensures c.in_ok-cut.ensures.nodes
+    c.list-2.result.now c.list.result c.args.found.now.items c.cut.new.found.items (c.is_many.ensures.0 c.if-not-is_many.false) c.list.ensures c.list-2.ensures (λ n lt. c.in_ok-cut.ensures.nodes n)

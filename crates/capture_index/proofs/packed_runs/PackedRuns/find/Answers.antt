@@ -16,9 +16,9 @@ returns-then-not-bounds-clause-nodes c =
 pub returns-then-not-bounds-clause-apart : goal.returns-then-not-bounds-clause-apart
 returns-then-not-bounds-clause-apart c = apart-one c.args.self.now.nodes c.clear.new.self.items c.push.new.self.items _ c.clear.ensures.items c.in_ok-push.ensures.items c.if-bounds.false c.bounds-bounds.ensures.most
 
+pub cut_all-requires-clause-apart : goal.cut_all-requires-clause-apart
+cut_all-requires-clause-apart c = apart-one c.args.self.now.nodes c.clear.new.self.items c.push.new.self.items _ c.clear.ensures.items c.in_ok-push.ensures.items c.if-bounds.false c.bounds-bounds.ensures.most
+
 pub returns-clause-nodes : goal.returns-clause-nodes
 returns-clause-nodes c =
     found-more c.args.self.now c.args.base c.args.wants.now c.bounds-bounds.result c.bounds-bounds.ensures c.clear.new.self.items c.push.new.self.items c.clear.ensures.items c.in_ok-push.ensures.items c.cut_all.new.found.items c.in_ok-cut_all.ensures.nodes
-
-pub returns-clause-apart : goal.returns-clause-apart
-returns-clause-apart c = c.in_ok-cut_all.ensures.apart c.args.self.now.nodes (apart-one c.args.self.now.nodes c.clear.new.self.items c.push.new.self.items _ c.clear.ensures.items c.in_ok-push.ensures.items c.if-bounds.false c.bounds-bounds.ensures.most)
