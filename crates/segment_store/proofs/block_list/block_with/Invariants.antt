@@ -1,6 +1,6 @@
 use Rattle.std.proofs.Common.{◌-◌, ◌<◌, ◌≤◌, length, take}
 use Rattle.segment_store.specs.Blocks.{games_in}
-use Rattle.segment_store.proofs.segment.block_with.Given as goal
+use Rattle.segment_store.proofs.block_list.block_with.Given as goal
 
 abbrev pub invariant-loop-high : goal.invariant-loop-high
 invariant-loop-high l = record {

@@ -1,7 +1,7 @@
 use Rattle.std.proofs.Common.{ap, sym, subst, ◌∙◌}
 use Rattle.segment_store.specs.Blocks.{AreNumbered, games_in}
 use Rattle.segment_store.proofs.GamesInBlocks.{found_by_number}
-use Rattle.segment_store.proofs.segment.Segment.finished.Goals as goal
+use Rattle.segment_store.proofs.block_list.BlockList.finished.Goals as goal
 
 pub returns : goal.returns
 returns c =
