@@ -6,7 +6,7 @@ use Rattle.std.proofs.lemmas.Bool.{cases_lt}
 use Rattle.std.proofs.lemmas.List.{get_or-drop, get_or-take, get_or_default, length-drop, length-take-le}
 use Rattle.std.proofs.lemmas.List.FromFn.{get_or-map-range_with_len, length-map-range_with_len}
 use Rattle.corner_index.specs.CornerGames.{Entry, entry}
-use Rattle.corner_index.specs.Entries.{AreOrdered, AreRising, IsFirstBehind, IsFirstFrom, entries_of}
+use Rattle.corner_index.specs.Entries.{AreOrdered, AreRising, IsFirstBehind, IsFirstFrom, StandsBelow, entries_of}
 
 pub rising : (keys games : List ℕ) → AreOrdered keys games → AreRising keys
 rising keys games are i j lt within = elim (are.ordered i j lt within) [
@@ -25,18 +25,14 @@ module _ (keys games : List ℕ) where
   entry_there : (i : ℕ) (d : Entry) → i < length keys → get_or (entries_of keys games) i d ≡ entry_at i
   entry_there i d lt = let here : 0 + i ≡ i = omega arith in get_or-map-range_with_len entry_at 0 (length keys) i i d lt here
 
-  -- where an entry stands
-  abbrev pub StandsAt : ℕ → ℕ → ℕ → Type 0
-  StandsAt key g i = (i < length keys) × (get_or keys i 0 ≡ key) × (get_or games i 0 ≡ g)
-
-  pub stands : (key g : ℕ) → Contains (entries_of keys games) (entry key g) → (i : ℕ) × StandsAt key g i
+  pub stands : (key g : ℕ) → Contains (entries_of keys games) (entry key g) → StandsBelow keys games (length keys) key g
   stands key g (i, lt, is) =
       let within : i < length keys = omega (arith, lt, length-entries) in
       let same : entry_at i ≡ entry key g = sym (entry_there i (entry key g) within) ∙ is in
-      (i, (within, ap (λ (e : Entry). e.key) same, ap (λ (e : Entry). e.game) same))
+      (i, within, ap (λ (e : Entry). e.key) same, ap (λ (e : Entry). e.game) same)
 
-  pub stood : (key g i : ℕ) → StandsAt key g i → Contains (entries_of keys games) (entry key g)
-  stood key g i (lt, key_is, game_is) =
+  pub stood : (key g : ℕ) → StandsBelow keys games (length keys) key g → Contains (entries_of keys games) (entry key g)
+  stood key g (i, lt, key_is, game_is) =
       let within : i < length (entries_of keys games) = omega (arith, lt, length-entries) in
       (i, within, entry_there i (entry key g) lt ∙ ap (λ k. entry k (get_or games i 0)) key_is ∙ ap (λ h. entry key h) game_is)
 
@@ -85,9 +81,9 @@ module _ (keys games : List ℕ) (are : AreOrdered keys games) (key first end : 
     λ (k, lt, is).
         let below : k < end - first = omega (arith, lt, length-found) in
         let in_keys : first + k < length keys = omega (arith, below, behind.most, first_le) in
-        stood keys games key g (first + k) (in_keys, is_key (first + k) (omega arith) (omega (arith, below, first_le)), sym (found_there k g below) ∙ is),
+        stood keys games key g (first + k, in_keys, is_key (first + k) (omega arith) (omega (arith, below, first_le)), sym (found_there k g below) ∙ is),
     λ h.
-        let (i, (lt, key_is, game_is)) = stands keys games key g h in
+        let (i, lt, key_is, game_is) = stands keys games key g h in
         let (low, high) = within_range i lt key_is in
         let below : i - first < end - first = omega (arith, low, high) in
         let back : first + (i - first) ≡ i = omega (arith, low) in

@@ -102,9 +102,18 @@ module _ (deltas : Deltas) (corner : ℕ) where
     most = omega arith;
   }
 
-  module _ (numbers sorted kept : List ℕ) (are : numbers ≡ numbers_to deltas corner (node_count deltas)) (has : HasCorners deltas.shape) (most : node_count deltas ≤ 65536) (moved : IsPermutation numbers sorted) (rises : IsSorted nat_cmp sorted) (filtered : IsFiltered (DiffersFromLast eqb) [] sorted kept) (less : length kept ≤ length sorted) where
+  module _ (numbers changing sorted kept : List ℕ) (are : numbers ≡ numbers_to deltas corner (node_count deltas)) (has : HasCorners deltas.shape) (most : node_count deltas ≤ 65536) (thinned : IsFiltered (DiffersFromLast eqb) [] numbers changing) (fewer : length changing ≤ length numbers) (moved : IsPermutation changing sorted) (rises : IsSorted nat_cmp sorted) (filtered : IsFiltered (DiffersFromLast eqb) [] sorted kept) (less : length kept ≤ length sorted) where
     is_dedup : kept ≡ dedup eqb sorted
     is_dedup = dedup_is eqb sorted kept filtered
+
+    is_thinned : changing ≡ dedup eqb numbers
+    is_thinned = dedup_is eqb numbers changing thinned
+
+    thinned_from : (key : ℕ) → Contains changing key → Contains numbers key
+    thinned_from key h = Contains-from_dedup eqb numbers key (subst (λ xs. Contains xs key) is_thinned h)
+
+    thinned_to : (key : ℕ) → Contains numbers key → Contains changing key
+    thinned_to key h = subst (λ xs. Contains xs key) (sym is_thinned) (Contains-dedup_nat numbers key h)
 
     abbrev HadAt : ℕ → Type 0
     HadAt key = (n : ℕ) × (n < node_count deltas) × (number_of_node_in n ≡ key)
@@ -125,8 +134,8 @@ module _ (deltas : Deltas) (corner : ℕ) where
     AreNumbersOf-sorted = record {
       ascending = subst IsStrictlyIncreasing (sym is_dedup) (IsStrictlyIncreasing-dedup sorted rises);
       exact = λ key. (
-        λ h. (has, listed key (Contains-permutation sorted numbers key (IsPermutation-sym numbers sorted moved) (Contains-from_dedup eqb sorted key (subst (λ xs. Contains xs key) is_dedup h)))),
-        λ h. subst (λ xs. Contains xs key) (sym is_dedup) (Contains-dedup_nat sorted key (Contains-permutation numbers sorted key moved (unlisted key h.1))),
+        λ h. (has, listed key (thinned_from key (Contains-permutation sorted changing key (IsPermutation-sym changing sorted moved) (Contains-from_dedup eqb sorted key (subst (λ xs. Contains xs key) is_dedup h))))),
+        λ h. subst (λ xs. Contains xs key) (sym is_dedup) (Contains-dedup_nat sorted key (Contains-permutation changing sorted key moved (thinned_to key (unlisted key h.1)))),
       );
-      most = omega (arith, most, less, length_permutation numbers sorted moved, length-numbers_to deltas corner (node_count deltas) numbers are);
+      most = omega (arith, most, less, fewer, length_permutation changing sorted moved, length-numbers_to deltas corner (node_count deltas) numbers are);
     }

@@ -1,5 +1,5 @@
 -- Which games of a list had which number in a corner.
-use Rattle.std.specs.Prelude.{ℕ, ◌<◌, ◌↔◌, List, [], length, slice_index_or, Contains}
+use Rattle.std.specs.Prelude.{◌≡◌, ℕ, ◌+◌, ◌<◌, ◌⊎◌, ◌↔◌, List, [], length, slice_index_or, Contains}
 use Rattle.corner_index.specs.Corners.{keys_of}
 
 -- a number of a corner, and a game that had it there, by its place in the list
@@ -25,3 +25,22 @@ entries_in index corner = slice_index_or index corner []
 abbrev pub IsIndexOf : List (List (List ℕ)) → List (List Entry) → Type 0
 IsIndexOf games index = (corner : ℕ) → corner < 4 →
     AreEntriesOf games corner (entries_in index corner)
+
+-- the games of all entries are below this number
+abbrev pub AreBelow : List Entry → ℕ → Type 0
+AreBelow entries count = (key g : ℕ) → Contains entries (entry key g) → g < count
+
+-- those of each corner
+abbrev pub HaveGamesBelow : List (List Entry) → ℕ → Type 0
+HaveGamesBelow index count = (corner : ℕ) → corner < 4 → AreBelow (entries_in index corner) count
+
+-- the entries are those of two lists, where the games of the second are moved on by so many
+abbrev pub AreJoined : List Entry → List Entry → ℕ → List Entry → Type 0
+AreJoined a b first joined = (key g : ℕ) → Contains joined (entry key g)
+    ↔ (Contains a (entry key g)
+    ⊎ ((h : ℕ) × Contains b (entry key h) × (g ≡ first + h)))
+
+-- those of each corner
+abbrev pub IsJoined : List (List Entry) → List (List Entry) → ℕ → List (List Entry) → Type 0
+IsJoined a b first joined = (corner : ℕ) → corner < 4 →
+    AreJoined (entries_in a corner) (entries_in b corner) first (entries_in joined corner)

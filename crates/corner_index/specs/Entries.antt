@@ -1,16 +1,7 @@
 -- How the entries of a corner are kept: words for private functions.
-use Rattle.std.specs.Prelude.{◌≡◌, ℕ, ◌+◌, ◌*◌, ◌<◌, ◌≤◌, ◌⊎◌, ◌↔◌, List, [], length, map, slice_index, slice_index_or, Contains}
+use Rattle.std.specs.Prelude.{◌≡◌, ℕ, ◌+◌, ◌<◌, ◌≤◌, ◌⊎◌, ◌↔◌, List, length, map, slice_index}
 use Rattle.std.specs.List.{range_with_len}
-use Rattle.corner_index.specs.Corners.{keys_of}
 use Rattle.corner_index.specs.CornerGames.{Entry, entry}
-
--- the number behind which those of games begin
-abbrev pub most_games : ℕ
-most_games = 4294967296
-
--- a number of a corner and a game in one
-abbrev pub packed : ℕ → ℕ → ℕ
-packed key game = key * most_games + game
 
 -- the entries of numbers and games at the same places
 abbrev pub entries_of : List ℕ → List ℕ → List Entry
@@ -24,16 +15,22 @@ pub record AreOrdered (keys games : List ℕ) : Type 0 where
       (slice_index keys i < slice_index keys j)
       ⊎ ((slice_index keys i ≡ slice_index keys j) × (slice_index games i < slice_index games j))
 
--- the packed entries of a corner in the first games
-abbrev pub ArePackedTo : List (List (List ℕ)) → ℕ → ℕ → List ℕ → Type 0
-ArePackedTo games corner count pairs = (p : ℕ) → Contains pairs p
-    ↔ ((key : ℕ) × (g : ℕ) × (g < count)
-    × Contains (keys_of (slice_index_or games g []) corner) key × (p ≡ packed key g))
+-- an entry with this number and this game stands there, at a place before this one
+abbrev pub StandsBelow : List ℕ → List ℕ → ℕ → ℕ → ℕ → Type 0
+StandsBelow keys games end key g = (k : ℕ) × (k < end)
+    × (slice_index keys k ≡ key) × (slice_index games k ≡ g)
 
--- the packed entries of the first numbers of a game are added
-abbrev pub ArePackedAdded : List ℕ → ℕ → List ℕ → List ℕ → Type 0
-ArePackedAdded keys game old new = (p : ℕ) → Contains new p
-    ↔ (Contains old p ⊎ ((key : ℕ) × Contains keys key × (p ≡ packed key game)))
+-- the entries are those of two pairs of lists, where the games of the second are moved on by so
+-- many
+abbrev pub AreListsJoined : List ℕ → List ℕ → List ℕ → List ℕ → ℕ → List ℕ → List ℕ → Type 0
+AreListsJoined a_keys a_games b_keys b_games first keys games = (key g : ℕ) →
+    StandsBelow keys games (length keys) key g
+    ↔ (StandsBelow a_keys a_games (length a_keys) key g
+    ⊎ ((h : ℕ) × StandsBelow b_keys b_games (length b_keys) key h × (g ≡ first + h)))
+
+-- each of these games is below this number
+abbrev pub AreAllBelow : List ℕ → ℕ → Type 0
+AreAllBelow games count = (k : ℕ) → k < length games → slice_index games k < count
 
 -- the numbers ascend, perhaps with equal ones
 abbrev pub AreRising : List ℕ → Type 0

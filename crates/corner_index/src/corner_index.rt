@@ -1,7 +1,13 @@
 // Which games of a list had which number in which corner.
-ghost use Rattle.std.specs.Prelude.{◌≡◌, ℕ, ◌<◌, ◌≤◌, ◌↔◌, Contains, IfOk, length};
+ghost use Rattle.std.specs.Prelude.{◌≡◌, ℕ, ◌<◌, ◌-◌, ◌↔◌, List, [], ◌∷◌, ◌++◌, Contains, IfOk, length};
 ghost use Rattle.std.specs.List.Sorted.{IsStrictlyIncreasing};
-ghost use Rattle.corner_index.specs.CornerGames.{IsIndexOf, entries_in, entry};
+ghost use Rattle.corner_index.specs.CornerGames.{
+  HaveGamesBelow,
+  IsIndexOf,
+  IsJoined,
+  entries_in,
+  entry,
+};
 
 use crate::corner_games::CornerGames;
 use crate::corner_keys::CornerKeys;
@@ -29,16 +35,51 @@ impl Model for CornerIndex {
 }
 
 impl CornerIndex {
-    /// The games of a list, at most 400,000. The only error is `NoMemory`.
-    pub fn of(alloc: Global, games: &[CornerKeys]) -> Result<CornerIndex, NoMemory>
-        requires { length games.now ≤ 400000 }
-        ensures { IfOk result (λ index. IsIndexOf games.now index) }
+    /// Of no game. It takes no memory.
+    pub fn empty(alloc: Global) -> CornerIndex
+        ensures { IsIndexOf [] result }
+    {
+        CornerIndex {
+            upper_left: CornerGames::empty(alloc),
+            upper_right: CornerGames::empty(alloc),
+            lower_left: CornerGames::empty(alloc),
+            lower_right: CornerGames::empty(alloc),
+        }
+    }
+
+    /// Of a list of one game, with these numbers. The only error is `NoMemory`.
+    pub fn of_game(alloc: Global, keys: &CornerKeys) -> Result<CornerIndex, NoMemory>
+        ensures { IfOk result (λ index. IsIndexOf (keys.now ∷ []) index) }
     {
         Ok(CornerIndex {
-            upper_left: CornerGames::of(alloc, games, 0)?,
-            upper_right: CornerGames::of(alloc, games, 1)?,
-            lower_left: CornerGames::of(alloc, games, 2)?,
-            lower_right: CornerGames::of(alloc, games, 3)?,
+            upper_left: CornerGames::of(alloc, keys.of_corner(0))?,
+            upper_right: CornerGames::of(alloc, keys.of_corner(1))?,
+            lower_left: CornerGames::of(alloc, keys.of_corner(2))?,
+            lower_right: CornerGames::of(alloc, keys.of_corner(3))?,
+        })
+    }
+
+    /// The games of the first list, then those of the second: `first` is the length of the first
+    /// list, and both together have at most 400,000 games. The time is linear in the entries. The
+    /// only error is `NoMemory`.
+    pub fn join(
+        alloc: Global,
+        a: &CornerIndex,
+        b: &CornerIndex,
+        first: u32,
+    ) -> Result<CornerIndex, NoMemory>
+        requires before { HaveGamesBelow a.now first }
+        requires fits { HaveGamesBelow b.now (400000 - first) }
+        ensures joined { IfOk result (IsJoined a.now b.now first) }
+        ensures index { IfOk result (λ joined. (one other : List (List (List ℕ))) →
+            IsIndexOf one a.now → length one ≡ first → IsIndexOf other b.now →
+            IsIndexOf (one ++ other) joined) }
+    {
+        Ok(CornerIndex {
+            upper_left: CornerGames::join(alloc, &a.upper_left, &b.upper_left, first)?,
+            upper_right: CornerGames::join(alloc, &a.upper_right, &b.upper_right, first)?,
+            lower_left: CornerGames::join(alloc, &a.lower_left, &b.lower_left, first)?,
+            lower_right: CornerGames::join(alloc, &a.lower_right, &b.lower_right, first)?,
         })
     }
 

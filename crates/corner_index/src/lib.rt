@@ -8,6 +8,7 @@
 mod corner_games;
 mod corner_index;
 mod corner_keys;
+mod entry_lists;
 mod laws;
 mod numbers;
 

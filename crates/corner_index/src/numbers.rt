@@ -1,13 +1,14 @@
 // The number of a corner at each node, from that at its parent and what the node changes.
 ghost use Rattle.std.specs.Prelude.{◌≡◌, ◌<◌, ◌↔◌, ℕ, IfOk, IfSome, IsTrue, Some, slice_set};
-ghost use Rattle.kb_geometry.specs.Board.{point_count};
+ghost use Rattle.kb_geometry.specs.Board.{IsOnBoard, point_count};
 ghost use Rattle.kb_geometry.specs.Capture.{Position};
+ghost use Rattle.kb_geometry.specs.Symmetry.{moved};
 ghost use Rattle.capture_board.specs.Deltas.{node_count, parent_of, position_at, position_where};
 ghost use Rattle.corner_index.specs.Corners.{HasCorners, corner_number, digit_of};
 ghost use Rattle.corner_index.specs.Keys.{AreNumbersOf, StandsBefore, numbers_to, point_on};
 
 use capture_board::NodeDeltas;
-use kb_geometry::{Cell, Change, NoMemory, Shape, Symmetry, apply};
+use kb_geometry::{Cell, Change, NoMemory, Point, Shape};
 use std::alloc::Global;
 
 // How many columns and rows a corner has.
@@ -26,6 +27,8 @@ pub(crate) fn numbers_of(
         return Ok(Vec::new(alloc));
     }
     let mut numbers = numbers_at_nodes(alloc, deltas, corner)?;
+    // Most numbers are those of the node before.
+    numbers.dedup();
     numbers.sort_unstable();
     numbers.dedup();
     Ok(numbers)
@@ -110,12 +113,31 @@ fn place_of(shape: Shape, corner: u8, point: u16) -> Option<u8>
     ensures below { IfSome result (λ place. place < 36) }
     ensures there { (k : ℕ) → k < 36 → (result ≡ Some k) ↔ (point_on corner shape k ≡ point) }
 {
-    let symmetry = Symmetry::new(corner)?;
-    let at = apply(symmetry, shape, shape.point(point));
+    let at = in_frame(shape, corner, shape.point(point));
     if at.x < SIDE && at.y < SIDE {
         Some(at.y * SIDE + at.x)
     } else {
         None
+    }
+}
+
+// Where a point of the board stands in a corner's frame.
+fn in_frame(shape: Shape, corner: u8, at: Point) -> Point
+    requires corner { corner < 4 }
+    requires on_board { IsOnBoard shape at }
+    ensures { result ≡ moved corner shape at }
+{
+    let right = shape.cols() - 1;
+    let bottom = shape.rows() - 1;
+    let Point { x, y } = at;
+    match corner {
+        0 => at,
+        1 => Point { x: right - x, y },
+        2 => Point { x, y: bottom - y },
+        _ => Point {
+            x: right - x,
+            y: bottom - y,
+        },
     }
 }
 

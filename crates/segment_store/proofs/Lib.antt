@@ -2,3 +2,4 @@ mod GamesInBlocks
 mod GamesOfPlanes
 mod OneTree
 mod ShapesOfGames
+pub mod CornersOfGames

@@ -7,8 +7,8 @@ use Rattle.capture_board.specs.Deltas.{Deltas}
 use Rattle.final_index.specs.declared.ever_sets.EverSets.{EverSets}
 use Rattle.final_index.specs.Ever.{AreSetsOf}
 use Rattle.capture_index.specs.NodePositions.{NodePositions, positions_of}
-use Rattle.corner_index.specs.Corners.{AreNumbersOfGame}
-use Rattle.node_position.specs.Games.{AreNodeChanges}
+use Rattle.corner_index.specs.Corners.{AreNumbersOfGame, HadNumber}
+use Rattle.node_position.specs.Games.{AreNodeChanges, Game}
 use Rattle.info_filter.specs.Day.{IsDayOf}
 use Rattle.dyer_signature.specs.Images.{IsCanonicalForm}
 use Rattle.dyer_signature.specs.Signatures.{IsSignatureOf, IsSignatureOn}
@@ -33,6 +33,11 @@ AreRunsOfTree tree seen = (changes : Deltas) → AreNodeChanges tree changes →
 abbrev pub AreCornersOfTree : Tree → List (List ℕ) → Type 0
 AreCornersOfTree tree keys = (changes : Deltas) → AreNodeChanges tree changes →
     AreNumbersOfGame changes keys
+
+-- a corner of the game's board had this number at some node of its tree
+abbrev pub HadCornerNumber : Game → ℕ → ℕ → Type 0
+HadCornerNumber game corner key = (changes : Deltas) → AreNodeChanges game.tree changes →
+    HadNumber changes corner key
 
 -- What is kept beside a tree is the tree's: its changes, its day, the class of its result, and the
 -- canonical form of its signature.

@@ -1,5 +1,6 @@
 -- Words that contracts of public functions rest on.
 pub mod Blocks
 pub mod BoardShapes
+pub mod CornersOfGames
 pub mod Finished
 pub mod Planes

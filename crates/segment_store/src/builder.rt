@@ -4,7 +4,7 @@ ghost use Rattle.std.specs.Arc.{arc_str_bytes};
 ghost use Rattle.node_position.specs.Games.{AreNodeChanges};
 
 use crate::finished::FinishedGame;
-use crate::segment::{Segment, in_blocks};
+use crate::segment::Segment;
 use capture_board::NodeDeltas;
 use game_tree::GameTree;
 use kb_geometry::NoMemory;
@@ -107,7 +107,7 @@ impl SegmentBuilder {
     pub fn finish(self, alloc: Global) -> Result<Segment, NoMemory>
         ensures { IfOk result (λ segment. segment ≡ self) }
     {
-        in_blocks(alloc, self.games.as_slice())
+        Segment::of(alloc, self.games.as_slice())
     }
 }
 

@@ -6,13 +6,16 @@
 //! [`Part`](version_publisher::Part) a [`Segment`] is. Contracts see a segment, and a builder, as
 //! its list of games. The layers above use that a segment's games are those that were added, in
 //! order, that [`merge`] gives the games of the one and then those of the other, that what is kept
-//! beside a tree is the tree's, and that the planes of a block are those of its games.
+//! beside a tree is the tree's, that the planes of a block are those of its games, and that
+//! [`Segment::with_corner`] tells exactly the games in which a corner had a number.
 #![tactic(auto)]
 
 mod block;
+mod block_list;
 mod block_planes;
 mod builder;
 mod finished;
+mod game_corners;
 mod indexes;
 mod laws;
 mod segment;

@@ -5,16 +5,17 @@ ghost use Rattle.std.specs.Prelude.{
   ◌≤◌,
   ◌+◌,
   ◌++◌,
-  [],
+  ◌↔◌,
+  ℕ,
   length,
   map,
-  take,
+  Contains,
   Some,
   IfOk,
-  OnOk,
 };
 ghost use Rattle.std.specs.Arc.{arc_value};
 ghost use Rattle.std.specs.List.{slice_get};
+ghost use Rattle.std.specs.List.Sorted.{IsStrictlyIncreasing};
 ghost use Rattle.std.specs.Option.{IsSomeAnd};
 ghost use Rattle.game_tree.specs.Result.{outcome_of};
 ghost use Rattle.info_filter.specs.Day.{IsDayOf};
@@ -23,21 +24,23 @@ ghost use Rattle.segment_store.specs.Finished.{
   AreCornersOfTree,
   AreRunsOfTree,
   AreSetsOfTree,
+  HadCornerNumber,
   IsCanonicalOf,
 };
-ghost use Rattle.segment_store.specs.Blocks.{AreNumbered, games_in, games_of};
+ghost use Rattle.segment_store.specs.Blocks.{AreNumbered, games_in};
 
-use crate::block::{Block, MAX_BLOCK, NumberedBlock};
+use crate::block::NumberedBlock;
+use crate::block_list::{BlockList, in_blocks, merged};
 use crate::finished::FinishedGame;
+use crate::game_corners::corner_index_of;
 use capture_board::NodeDeltas;
 use capture_index::RunIndex;
-use corner_index::CornerKeys;
+use corner_index::{CornerIndex, CornerKeys};
 use dyer_signature::Signature;
 use final_index::EverSets;
 use game_tree::GameTree;
 use kb_geometry::{NoMemory, Outcome};
 use std::alloc::Global;
-use std::cmp::min;
 use std::marker::Model;
 use std::sync::Arc;
 use version_publisher::Part;
@@ -49,55 +52,35 @@ pub const MAX_BASE_GAMES: u32 = 400_000;
 // The games stand in blocks, which segments share.
 #[derive(Debug, Drop)]
 pub struct Segment {
-    blocks: Vec<NumberedBlock>,
-    count: u32,
+    blocks: BlockList,
+    // Which of the games had which number in which corner.
+    corner_index: CornerIndex,
 }
 
 impl Model for Segment {
     ghost use Rattle.std.specs.Prelude.{List};
     ghost use Rattle.node_position.specs.Games.{Game};
-    ghost use Rattle.segment_store.specs.Blocks.{AreBlocks, games_in};
+    ghost use Rattle.segment_store.specs.CornersOfGames.{AreCornersOfGames};
 
     ghost Value = { List Game };
 
-    ghost view = { λ s. games_in s.blocks.items };
+    ghost view = { λ s. s.blocks };
 
-    ghost invariant = { λ s. AreBlocks s.blocks.items s.count };
+    ghost invariant = { λ s. AreCornersOfGames s.blocks s.corner_index };
 }
 
 impl Segment {
-    // No game. It takes no memory.
-    fn empty(alloc: Global) -> Segment
-        ensures { result ≡ [] }
+    // The games of a list, at most 400,000.
+    pub(crate) fn of(alloc: Global, games: &[Arc<FinishedGame>]) -> Result<Segment, NoMemory>
+        requires { length games.now ≤ 400000 }
+        ensures { IfOk result (λ segment. segment ≡ map arc_value games.now) }
     {
-        Segment {
-            blocks: Vec::new(alloc),
-            count: 0,
-        }
-    }
-
-    // The games of a block behind.
-    fn push(&mut self, block: Arc<Block>) -> Result<(), NoMemory>
-        requires { length self.old + length (arc_value block) ≤ 400000 }
-        ensures { OnOk result (self.new ≡ self.old ++ arc_value block) }
-    {
-        let more = block.len() as u32;
-        let first = self.count;
-        self.blocks.push(NumberedBlock { first, block })?;
-        self.count += more;
-        Ok(())
-    }
-
-    // The games of these blocks behind. The blocks are shared.
-    fn append(&mut self, blocks: &[NumberedBlock]) -> Result<(), NoMemory>
-        requires { length self.old + length (games_in blocks.now) ≤ 400000 }
-        ensures { OnOk result (self.new ≡ self.old ++ games_in blocks.now) }
-    {
-        for n in 0..blocks.len() {
-            let block = Arc::try_clone(&blocks[n].block)?;
-            self.push(block)?;
-        }
-        Ok(())
+        let blocks = in_blocks(alloc, games)?;
+        let corner_index = corner_index_of(alloc, games)?;
+        Ok(Segment {
+            blocks,
+            corner_index,
+        })
     }
 
     /// Its blocks, one behind another. Each has the number of its first game.
@@ -113,7 +96,7 @@ impl Segment {
         ensures value { result ≡ length self.now }
         ensures most { length self.now ≤ 400000 }
     {
-        self.count
+        self.blocks.game_count()
     }
 
     /// The game with this number, from 0.
@@ -121,10 +104,7 @@ impl Segment {
         requires { g < length self.now }
         ensures { slice_get self.now g ≡ Some result.now }
     {
-        let blocks = self.blocks.as_slice();
-        let numbered = &blocks[block_with(blocks, g)];
-        let block: &Block = &*numbered.block;
-        block.get((g - numbered.first) as usize)
+        self.blocks.finished(g)
     }
 
     /// The tree of a game.
@@ -187,6 +167,17 @@ impl Segment {
         self.finished(g).corners()
     }
 
+    /// The games whose boards had this number in this corner at some node, by their numbers,
+    /// ascending. The corners and their numbers are those of [`CornerKeys`]. Nothing is allocated.
+    pub fn with_corner(&self, corner: u8, key: u64) -> &[u32]
+        requires { corner < 4 }
+        ensures exact { (g : ℕ) → Contains result.now g
+            ↔ IsSomeAnd (slice_get self.now g) (λ game. HadCornerNumber game corner key) }
+        ensures ascending { IsStrictlyIncreasing result.now }
+    {
+        self.corner_index.games_with(corner, key)
+    }
+
     /// The day of a game, as [`day_of`](info_filter::day_of) gives it for its date.
     pub fn day(&self, g: u32) -> Option<i32>
         requires { g < length self.now }
@@ -221,87 +212,13 @@ pub fn merge(alloc: Global, a: &Segment, b: &Segment) -> Result<Segment, NoMemor
     requires { length a.now + length b.now ≤ 400000 }
     ensures { IfOk result (λ merged. merged ≡ a.now ++ b.now) }
 {
-    let (a, b) = (a.blocks.as_slice(), b.blocks.as_slice());
-    let [before @ .., last] = a else {
-        return merge_apart(alloc, a, b);
-    };
-    let [first, behind @ ..] = b else {
-        return merge_apart(alloc, a, b);
-    };
-    if last.block.len() + first.block.len() > MAX_BLOCK {
-        return merge_apart(alloc, a, b);
-    }
-    merge_joined(alloc, before, last, first, behind)
-}
-
-// The games of the first blocks, then those of the second.
-fn merge_apart(alloc: Global, a: &[NumberedBlock], b: &[NumberedBlock]) -> Result<Segment, NoMemory>
-    requires { length (games_in a.now) + length (games_in b.now) ≤ 400000 }
-    ensures { IfOk result (λ merged. merged ≡ games_in a.now ++ games_in b.now) }
-{
-    let mut merged = Segment::empty(alloc);
-    merged.append(a)?;
-    merged.append(b)?;
-    Ok(merged)
-}
-
-// The same, where the last block of the one and the first of the other become one block.
-fn merge_joined(
-    alloc: Global,
-    before: &[NumberedBlock],
-    last: &NumberedBlock,
-    first: &NumberedBlock,
-    behind: &[NumberedBlock],
-) -> Result<Segment, NoMemory>
-    requires few { length (games_of last.now) + length (games_of first.now) ≤ 64 }
-    requires fits { length (games_in before.now) + length (games_of last.now)
-        + length (games_of first.now) + length (games_in behind.now) ≤ 400000 }
-    ensures { IfOk result (λ merged. merged ≡ games_in before.now
-        ++ (games_of last.now ++ games_of first.now) ++ games_in behind.now) }
-{
-    let block = Block::join(alloc, &*last.block, &*first.block)?;
-    let mut merged = Segment::empty(alloc);
-    merged.append(before)?;
-    merged.push(Arc::new(alloc, block)?)?;
-    merged.append(behind)?;
-    Ok(merged)
-}
-
-// The games of a list, at most 400,000, in blocks of 64. The last block may have fewer.
-pub(crate) fn in_blocks(alloc: Global, games: &[Arc<FinishedGame>]) -> Result<Segment, NoMemory>
-    requires { length games.now ≤ 400000 }
-    ensures { IfOk result (λ segment. segment ≡ map arc_value games.now) }
-{
-    let mut segment = Segment::empty(alloc);
-    let mut from = 0;
-    while from < games.len() {
-        let to = min(from + MAX_BLOCK, games.len());
-        let block = Block::of(alloc, &games[from..to])?;
-        segment.push(Arc::new(alloc, block)?)?;
-        from = to;
-    }
-    Ok(segment)
-}
-
-// The place of the block with this game.
-fn block_with(blocks: &[NumberedBlock], g: u32) -> usize
-    requires numbered { AreNumbered blocks.now }
-    requires in_range { g < length (games_in blocks.now) }
-    ensures there { result < length blocks.now }
-    ensures low { length (games_in (take result blocks.now)) ≤ g }
-    ensures high { g < length (games_in (take (result + 1) blocks.now)) }
-{
-    let mut low = 0;
-    let mut high = blocks.len();
-    while high - low > 1 {
-        let middle = low + (high - low) / 2;
-        if blocks[middle].first <= g {
-            low = middle;
-        } else {
-            high = middle;
-        }
-    }
-    low
+    let blocks = merged(alloc, &a.blocks, &b.blocks)?;
+    let first = a.blocks.game_count();
+    let corner_index = CornerIndex::join(alloc, &a.corner_index, &b.corner_index, first)?;
+    Ok(Segment {
+        blocks,
+        corner_index,
+    })
 }
 
 impl Part for Segment {

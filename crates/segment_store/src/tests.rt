@@ -1,4 +1,5 @@
 // Segments of games from SGF texts. The values were worked out by hand.
+mod corner_games;
 mod indexes;
 
 ghost use Rattle.std.specs.Prelude.{◌≡◌, IfOk};

@@ -1,7 +1,11 @@
 // Which games of a list had a number in a corner, worked out by hand.
-use super::{BLACK, TWO_MOVES, keys_made};
-use crate::CornerIndex;
+ghost use Rattle.std.specs.Prelude.{◌+◌, ◌≤◌, IfOk, length};
+ghost use Rattle.corner_index.specs.CornerGames.{IsIndexOf};
+
+use super::{BLACK, TWO_MOVES, WHITE, keys_made};
 use crate::tests::made::Row;
+use crate::{CornerIndex, CornerKeys};
+use std::alloc::Global;
 use std::test::Fail;
 
 const NO_STONE: [Row<'static>; 1] = [(None, &[])];
@@ -25,6 +29,19 @@ const FOUND: [(u8, u64, &[u32]); 12] = [
     (3, 18_446_744_073_709_551_615, &[]),
 ];
 
+// The index of these games, made of those of one game each.
+fn index_of(alloc: Global, games: &[CornerKeys]) -> Result<CornerIndex, Fail>
+    requires { length games.now ≤ 400000 }
+    ensures { IfOk result (λ index. IsIndexOf games.now index) }
+{
+    let mut index = CornerIndex::empty(alloc);
+    for n in 0..games.len() {
+        let next = CornerIndex::of_game(alloc, &games[n])?;
+        index = CornerIndex::join(alloc, &index, &next, n as u32)?;
+    }
+    Ok(index)
+}
+
 #[test]
 fn games_with_a_number_are_told_in_order(rt: HostRuntime) -> Result<(), Fail> {
     let alloc = rt.alloc();
@@ -38,7 +55,7 @@ fn games_with_a_number_are_told_in_order(rt: HostRuntime) -> Result<(), Fail> {
         games.push(keys_made(&rt, alloc, side, side, nodes)?)?;
     }
     assert!(&rt; games.len() <= 400_000);
-    let index = CornerIndex::of(alloc, games.as_slice())?;
+    let index = index_of(alloc, games.as_slice())?;
     for (corner, key, wanted) in FOUND {
         assert!(&rt; corner < 4);
         let found = index.games_with(corner, key);
@@ -47,9 +64,60 @@ fn games_with_a_number_are_told_in_order(rt: HostRuntime) -> Result<(), Fail> {
     Ok(())
 }
 
+// Games of the second list have their places behind those of the first, also where both lists have
+// the number, and where it is the greatest or the least.
+const JOINED: [(u8, u64, &[u32]); 9] = [
+    (0, 0, &[0, 1, 2, 4]),
+    (0, 1, &[0, 4]),
+    (0, 2, &[2]),
+    (0, 3, &[]),
+    (0, 7, &[0]),
+    (1, 0, &[0, 1, 2, 4]),
+    (1, 243, &[0, 4]),
+    (1, 405, &[0]),
+    (1, 486, &[2]),
+];
+
+// `(;SZ[6];W[aa])`
+const WHITE_MOVE: [Row<'static>; 2] = [(None, &[]), (Some(0), &[(0, WHITE)])];
+
+#[test]
+fn the_games_of_two_lists_are_told_in_order(rt: HostRuntime) -> Result<(), Fail> {
+    let alloc = rt.alloc();
+    let mut one = Vec::new(alloc);
+    for nodes in [&TWO_MOVES[..], &NO_STONE[..]] {
+        one.push(keys_made(&rt, alloc, 6, 6, nodes)?)?;
+    }
+    let mut other = Vec::new(alloc);
+    for (side, nodes) in [
+        (6, &WHITE_MOVE[..]),
+        (5, &TWO_MOVES[..]),
+        (6, &ONE_MOVE[..]),
+    ] {
+        other.push(keys_made(&rt, alloc, side, side, nodes)?)?;
+    }
+    assert!(&rt; one.len() == 2 && other.len() == 3);
+    let index = both_of(alloc, one.as_slice(), other.as_slice())?;
+    for (corner, key, wanted) in JOINED {
+        assert!(&rt; corner < 4);
+        let found = index.games_with(corner, key);
+        assert_eq!(&rt; found, wanted, "{key} in corner {corner}");
+    }
+    Ok(())
+}
+
+// The index of two lists of games, one behind the other.
+fn both_of(alloc: Global, one: &[CornerKeys], other: &[CornerKeys]) -> Result<CornerIndex, Fail>
+    requires { length one.now + length other.now ≤ 400000 }
+{
+    let a = index_of(alloc, one)?;
+    let b = index_of(alloc, other)?;
+    Ok(CornerIndex::join(alloc, &a, &b, one.len() as u32)?)
+}
+
 #[test]
 fn no_game_has_a_number_where_there_is_none(rt: HostRuntime) -> Result<(), Fail> {
-    let index = CornerIndex::of(rt.alloc(), &[])?;
+    let index = CornerIndex::empty(rt.alloc());
     for corner in 0..4u8 {
         assert_eq!(&rt; index.games_with(corner, 0), &[][..], "corner {corner}");
     }

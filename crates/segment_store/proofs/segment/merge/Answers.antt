@@ -1,12 +1,18 @@
-use Rattle.std.proofs.Common.{arith, ap, ◌∙◌}
-use Rattle.std.proofs.lemmas.Result.{IfOk-weaker}
-use Rattle.segment_store.specs.Blocks.{games_in}
-use Rattle.segment_store.proofs.GamesInBlocks.{games_joined}
+use Rattle.std.proofs.Common.{◌+◌, ◌≤◌, List, length, sym, ap, subst, arith}
+use Rattle.node_position.specs.Games.{Game}
+use Rattle.segment_store.specs.CornersOfGames.{AreCornersOfGames}
+use Rattle.segment_store.proofs.CornersOfGames.{AreCornersOfGames-below, AreCornersOfGames-joined}
 use Rattle.segment_store.proofs.segment.merge.Goals as goal
 
-pub returns : goal.returns
-returns c =
-    let one = c.as_slice-a.result.now in
-    let other = c.as_slice-b.result.now in
-    let all = games_joined one other c.last-item.result c.first-item.result c.args.a.now c.args.b.now (omega (arith, c.in-len1-up.len_at_least)) (omega (arith, c.in-len1-up-b.len_at_least)) c.last-item.is c.first-item.is (ap games_in c.as_slice-a.ensures.value ∙ c.a.view_is) (ap games_in c.as_slice-b.ensures.value ∙ c.b.view_is) in
-    IfOk-weaker c.merge_joined.result _ _ (λ merged is. is ∙ all) c.merge_joined.ensures
+pub join-requires-clause-before : goal.join-requires-clause-before
+join-requires-clause-before c = AreCornersOfGames-below c.a.inside.blocks c.a.inside.corner_index _ c.a.invariant (omega (arith, c.game_count-first.ensures.value))
+
+pub join-requires-clause-fits : goal.join-requires-clause-fits
+join-requires-clause-fits c =
+    let fits : length c.a.inside.blocks + length c.b.inside.blocks ≤ 400000 = omega (arith, ap length c.a.view_is, ap length c.b.view_is, c.requires) in
+    AreCornersOfGames-below c.b.inside.blocks c.b.inside.corner_index _ c.b.invariant (omega (arith, c.game_count-first.ensures.value, fits))
+
+pub invariant_of-result : goal.invariant_of-result
+invariant_of-result c =
+    subst (λ (games : List Game). AreCornersOfGames games c.in_ok-corner_index.corner_index) (sym c.in_ok-blocks.ensures)
+    (AreCornersOfGames-joined c.a.inside.blocks c.b.inside.blocks c.a.inside.corner_index c.b.inside.corner_index c.a.invariant c.b.invariant c.in_ok-corner_index.corner_index c.game_count-first.result c.game_count-first.ensures.value c.in_ok-corner_index.ensures.joined)

@@ -1,6 +1,0 @@
-use Rattle.std.proofs.Common.{◌≡◌, ◌/◌, map, take}
-use Rattle.corner_index.specs.Entries.{most_games}
-use Rattle.corner_index.proofs.corner_games.keys_of_pairs.Given as goal
-
-abbrev pub invariant-loop-pair : goal.invariant-loop-pair
-invariant-loop-pair l = l.keys.items ≡ map (λ p. p / most_games) (take l.pair-index l.pairs)
