@@ -21,7 +21,7 @@ use Rattle.candidate_sieve.specs.declared.candidates.Candidate.{Candidate}
 use Rattle.candidate_sieve.specs.Candidates.{AreCandidatesAdded}
 use Rattle.candidate_sieve.specs.Candidates.{MeetsCells}
 use Rattle.segment_store.specs.Planes.{ArePlanesOf, ArePlanesOn, IsGameOfPlanes}
-use Rattle.search_engine.specs.BlockCandidates.{AreAccepted, AreAddedOn, AreCandidatesOf, AreComplete, AreCompleteFor, AreInRange, IsCandidate, candidate_at, no_candidate}
+use Rattle.search_engine.specs.BlockCandidates.{AreAccepted, AreAddedOn, AreCandidatesOf, AreComplete, AreCompleteFor, AreInRange, IsCandidate}
 use Rattle.search_engine.specs.Searching.{AreCovered, IsCovered}
 use Rattle.search_engine.proofs.PossibleGames.{not_none, on_shape_where_there, possible_where_it_holds}
 
@@ -34,7 +34,7 @@ Any-behind : {X : Type 0} (P : X → Type 0) (xs ys : List X) → Any P ys → A
 Any-behind P xs ys (k, x, lt, at, p) = (length xs + k, x, omega (arith, lt, length-append xs ys), get_or-append-add xs ys k x ∙ at, p)
 
 -- a candidate that is contained is one of its game
-candidate_is : (found : List Candidate) (c : Candidate) (g : ℕ) → Contains found c → bit_at c.games g ≡ 1 → IsCandidate found c.placement g
+candidate_is : (found : List Candidate) (c : Candidate) (g : ℕ) → Contains found c → bit_at c.games g ≡ 1 → IsCandidate found g c.placement
 candidate_is found c g (k, lt, at) bit = (k, c, lt, at, (refl, bit))
 
 -- ---- what is added for one shape
@@ -71,13 +71,13 @@ module _ (query : Query) (shapes : List Shape) (planes : PlaneGames) (asked : �
 module _ (query : Query) (shapes : List Shape) (games : List Game) (asked : ℕ) where
   -- what is found for the first so many planes
   pub record AreFoundTo (planes : List PlaneGames) (k : ℕ) (found : List Candidate) : Type 0 where
-    pub in_range : AreInRange query games found
+    pub in_range : AreInRange query games (IsCandidate found)
     pub asked_for : (c : Candidate) (g : ℕ) → Contains found c → g < 64 → bit_at c.games g ≡ 1 → bit_at asked g ≡ 1
-    pub complete : (j g : ℕ) (d : PlaneGames) (game : Game) → IsCovered query shapes game.tree.shape → j < k → slice_get games g ≡ Some game → bit_at asked g ≡ 1 → (get_or planes j d).shape ≡ game.tree.shape → AreCompleteFor query game.tree g found
+    pub complete : (j g : ℕ) (d : PlaneGames) (game : Game) → IsCovered query shapes game.tree.shape → j < k → slice_get games g ≡ Some game → bit_at asked g ≡ 1 → (get_or planes j d).shape ≡ game.tree.shape → AreCompleteFor query game.tree (IsCandidate found g)
 
   pub AreFoundTo-start : (planes : List PlaneGames) (found : List Candidate) → found ≡ [] → AreFoundTo planes 0 found
   AreFoundTo-start planes found none = subst (AreFoundTo planes 0) (sym none) (record {
-    in_range = λ g game at ps are c (k, lt, is) bit. absurd (omega (arith, lt));
+    in_range = λ g game at ps are i (k, c, lt, is). absurd (omega (arith, lt));
     asked_for = λ c g (k, lt, is) below bit. absurd (omega (arith, lt));
     complete = λ j g d game covered lt. absurd (omega (arith, lt));
   })
@@ -86,9 +86,9 @@ module _ (query : Query) (shapes : List Shape) (games : List Game) (asked : ℕ)
     below_64 : (g : ℕ) (game : Game) → slice_get games g ≡ Some game → g < 64
     below_64 g game there = omega (arith, few, slice_get_within games g game there)
 
-    in_range : AreInRange query games (old ++ added.more)
-    in_range g game there ps are c is_in bit = elim (Contains-append_cases old added.more c is_in) [
-      | inl before ↦ so_far.in_range g game there ps are c before bit
+    in_range : AreInRange query games (IsCandidate (old ++ added.more))
+    in_range g game there ps are i (n, c, lt, place, is) = elim (Contains-append_cases old added.more c (n, lt, place)) [
+      | inl before ↦ so_far.in_range g game there ps are i (subst (IsCandidate old g) is.0 (candidate_is old c g before is.1))
       | inr here ↦
           let within = slice_get_within games g game there in
           let told = subst (λ (h : Game). IsGameOfPlanes p.shape h.tree (get_or p.games g None)) (get_or_from_slice_get games g game game there) (on.1 g game within) in
@@ -102,7 +102,7 @@ module _ (query : Query) (shapes : List Shape) (games : List Game) (asked : ℕ)
       | inr here ↦ (added.there c g here below bit).0
     ]
 
-    complete_here : (g : ℕ) (game : Game) → IsCovered query shapes game.tree.shape → slice_get games g ≡ Some game → bit_at asked g ≡ 1 → p.shape ≡ game.tree.shape → AreCompleteFor query game.tree g (old ++ added.more)
+    complete_here : (g : ℕ) (game : Game) → IsCovered query shapes game.tree.shape → slice_get games g ≡ Some game → bit_at asked g ≡ 1 → p.shape ≡ game.tree.shape → AreCompleteFor query game.tree (IsCandidate (old ++ added.more) g)
     complete_here g game covered there bit same changes ps of are i n in_list node holds =
         let within = slice_get_within games g game there in
         let read = get_or_from_slice_get games g game game there in
@@ -113,7 +113,7 @@ module _ (query : Query) (shapes : List Shape) (games : List Game) (asked : ℕ)
         Any-behind (λ (c : Candidate). (c.placement ≡ i) × (bit_at c.games g ≡ 1)) old added.more
         (added.complete covers ps (subst (λ (s : Shape). ArePlacements query s ps) (sym same) are) i g in_list (below_64 g game there) bit possible)
 
-    complete : (j g : ℕ) (d : PlaneGames) (game : Game) → IsCovered query shapes game.tree.shape → j < k + 1 → slice_get games g ≡ Some game → bit_at asked g ≡ 1 → (get_or planes j d).shape ≡ game.tree.shape → AreCompleteFor query game.tree g (old ++ added.more)
+    complete : (j g : ℕ) (d : PlaneGames) (game : Game) → IsCovered query shapes game.tree.shape → j < k + 1 → slice_get games g ≡ Some game → bit_at asked g ≡ 1 → (get_or planes j d).shape ≡ game.tree.shape → AreCompleteFor query game.tree (IsCandidate (old ++ added.more) g)
     complete j g d game covered less there bit same = elim (cases_eq j k) [
       | inr ne ↦ λ changes ps of are i n in_list node holds.
           Any-front (λ (c : Candidate). (c.placement ≡ i) × (bit_at c.games g ≡ 1)) old added.more (so_far.complete j g d game covered (omega (arith, less, ne)) there bit same changes ps of are i n in_list node holds)
@@ -127,10 +127,10 @@ module _ (query : Query) (shapes : List Shape) (games : List Game) (asked : ℕ)
 
   -- all planes of the block
   module _ (few : length games ≤ 64) (planes : List PlaneGames) (k : ℕ) (found : List Candidate) (le : length planes ≤ k) (are : ArePlanesOf games planes) (so_far : AreFoundTo planes k found) where
-    asked_within : (c : Candidate) (g : ℕ) (game : Game) → slice_get games g ≡ Some game → Contains found c → bit_at c.games g ≡ 1 → bit_at asked g ≡ 1
-    asked_within c g game there is_in bit = so_far.asked_for c g is_in (omega (arith, few, slice_get_within games g game there)) bit
+    asked_within : (g : ℕ) (game : Game) → slice_get games g ≡ Some game → (i : ℕ) → IsCandidate found g i → bit_at asked g ≡ 1
+    asked_within g game there i (n, c, lt, place, is) = so_far.asked_for c g (n, lt, place) (omega (arith, few, slice_get_within games g game there)) is.1
 
-    complete_all : (g : ℕ) (game : Game) → slice_get games g ≡ Some game → bit_at asked g ≡ 1 → IsCovered query shapes game.tree.shape → AreCompleteFor query game.tree g found
+    complete_all : (g : ℕ) (game : Game) → slice_get games g ≡ Some game → bit_at asked g ≡ 1 → IsCovered query shapes game.tree.shape → AreCompleteFor query game.tree (IsCandidate found g)
     complete_all g game there bit covered =
         let within = slice_get_within games g game there in
         let read = get_or_from_slice_get games g game game there in
@@ -141,14 +141,12 @@ module _ (query : Query) (shapes : List Shape) (games : List Game) (asked : ℕ)
         so_far.complete j g none game covered (omega (arith, inside, le)) there bit
         (sym (get_or-map (λ (q : PlaneGames). q.shape) planes j none game.tree.shape inside) ∙ at)
 
-    pub AreComplete-all : AreComplete query shapes games found
-    AreComplete-all g game there (j, lt, bit) shape_there =
-        let c = candidate_at found j in
-        complete_all g game there (asked_within c g game there (j, lt, get_or_default found j c no_candidate lt) bit) (λ looks. shape_there)
+    pub AreComplete-all : AreComplete query shapes games (IsCandidate found)
+    AreComplete-all g game there i may shape_there = complete_all g game there (asked_within g game there i may) (λ looks. shape_there)
 
-    pub AreCandidatesOf-all : (filter : Filter) → AreAccepted filter games asked → AreCovered query shapes games → AreCandidatesOf query filter games found
+    pub AreCandidatesOf-all : (filter : Filter) → AreAccepted filter games asked → AreCovered query shapes games → AreCandidatesOf query filter games (IsCandidate found)
     AreCandidatesOf-all filter accepted covered g game there = record {
-      accepted = λ c is_in bit. (accepted g game there).0 (asked_within c g game there is_in bit);
+      accepted = λ i may. (accepted g game there).0 (asked_within g game there i may);
       complete = λ accepts.
           let covers = subst (λ (h : Game). IsCovered query shapes h.tree.shape) (get_or_from_slice_get games g game game there) (covered g game (slice_get_within games g game there)) in
           complete_all g game there ((accepted g game there).1 accepts) covers;

@@ -1,5 +1,5 @@
 // Which placements the games of a block may have.
-ghost use Rattle.std.specs.Prelude.{OnOk, length};
+ghost use Rattle.std.specs.Prelude.{OnOk};
 ghost use Rattle.info_filter.specs.declared.filter.Filter.{Filter};
 ghost use Rattle.search_engine.specs.BlockCandidates.{
   AreAccepted,
@@ -7,7 +7,7 @@ ghost use Rattle.search_engine.specs.BlockCandidates.{
   AreCandidatesOf,
   AreComplete,
   AreInRange,
-  HasGamesOf,
+  IsCandidate,
 };
 ghost use Rattle.search_engine.specs.Searching.{AreCovered};
 
@@ -25,12 +25,13 @@ pub(crate) fn find_candidates(
     asked: u64,
     found: &mut Vec<Candidate>,
 ) -> Result<(), NoMemory>
-    ensures in_range { OnOk result (AreInRange matchers.now.query block.now found.new.items) }
+    ensures in_range { OnOk result (AreInRange matchers.now.query block.now
+        (IsCandidate found.new.items)) }
     ensures complete { OnOk result (AreComplete matchers.now.query matchers.now.shapes block.now
-        found.new.items) }
+        (IsCandidate found.new.items)) }
     ensures found { OnOk result ((filter : Filter) → AreAccepted filter block.now asked →
         AreCovered matchers.now.query matchers.now.shapes block.now →
-        AreCandidatesOf matchers.now.query filter block.now found.new.items) }
+        AreCandidatesOf matchers.now.query filter block.now (IsCandidate found.new.items)) }
 {
     let _count = block.len();
     found.clear();
@@ -54,16 +55,5 @@ fn add_on_shape(
     let Some(matcher) = matchers.find(planes.shape()) else {
         return Ok(());
     };
-    add_candidates(planes, matcher.images, matcher.runs.wants(), asked, found)
-}
-
-// The games that have a candidate, a bit for each.
-pub(crate) fn games_of(candidates: &[Candidate]) -> u64
-    ensures { HasGamesOf candidates.now (length candidates.now) result }
-{
-    let mut games = 0;
-    for candidate in candidates {
-        games |= candidate.games;
-    }
-    games
+    add_candidates(planes, matcher.images, matcher.wants(), asked, found)
 }
