@@ -70,12 +70,12 @@ module _ (query : Query) (game : tree.Tree) (list : List ℕ) (changes : Deltas)
   -- the occurrences of the listed placements are all occurrences
   pub begins_among : All (λ i. i < length placements) list → (o : Occurrence) → BeginsAmong changes placements list (length list) o ↔ Contains (occurrences_in changes placements) o
   begins_among in_range o = (
-    λ (j, lt, is, node, begins). (occurrences-are changes placements o).1 (begins-occurs changes placements o (get_or list j 0) is node (in_range j 0 lt) begins),
+    λ (j, lt, (is, node, begins)). (occurrences-are changes placements o).1 (begins-occurs changes placements o (get_or list j 0) is node (in_range j 0 lt) begins),
     λ is_in.
         let occurs = (occurrences-are changes placements o).0 is_in in
         let (j, lt, at) = occurs_as o is_in in
         let here : get_or list j 0 ≡ o.placement = get_or_default list j 0 o.placement lt ∙ at in
-        (j, lt, sym here, occurs.node_there, occurs-begins changes placements o (get_or list j 0) (sym here) occurs),
+        (j, lt, (sym here, occurs.node_there, occurs-begins changes placements o (get_or list j 0) (sym here) occurs)),
   )
 
   -- without a placement there is no occurrence
@@ -106,8 +106,12 @@ none_listed [] none = refl
 none_listed (x ∷ xs) none = absurd (omega (arith, none))
 
 pub some_listed : (list : List ℕ) (test : Bool) → test ≡ nat_eq (length list) 0 → test ≡ false → (i : ℕ) × Contains list i
-some_listed [] test is no = absurd (false≢true (sym no ∙ is))
-some_listed (x ∷ xs) test is no = (x, Contains-first x xs)
+some_listed [] test is not = absurd (false≢true (sym not ∙ is))
+some_listed (x ∷ xs) test is not = (x, Contains-first x xs)
+
+-- what is true of each listed number
+pub all_listed : (list : List ℕ) (P : ℕ → Type 0) → ((i : ℕ) → Contains list i → P i) → All P list
+all_listed list P each k d lt = each (get_or list k d) (k, lt, get_or_default list k (get_or list k d) d lt)
 
 -- ---- gathering one placement after another
 

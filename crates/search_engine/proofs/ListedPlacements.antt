@@ -1,5 +1,5 @@
 -- Candidates of a block, and the same as a list of placements for each game.
-use Rattle.std.proofs.Common.{◌≡◌, ℕ, ◌<◌, ◌≤◌, ◌↔◌, List, Some, ap, length, sym, ◌∙◌, arith}
+use Rattle.std.proofs.Common.{◌≡◌, ℕ, ◌<◌, ◌≤◌, ◌↔◌, List, Some, ap, length, ◌∙◌, arith}
 use Rattle.std.specs.Int.{bit_at}
 use Rattle.std.specs.List.{slice_get}
 use Rattle.std.proofs.lemmas.List.{get_or_default}
@@ -9,7 +9,7 @@ use Rattle.node_position.specs.Games.{Game}
 use Rattle.pattern_images.specs.declared.query.Query.{Query}
 use Rattle.info_filter.specs.declared.filter.Filter.{Filter}
 use Rattle.candidate_sieve.specs.declared.candidates.Candidate.{Candidate}
-use Rattle.search_engine.specs.BlockCandidates.{AreByGame, AreCandidatesOf, AreComplete, AreCompleteFor, AreInRange, IsAmong, IsCandidate, IsListed, candidate_at, no_candidate}
+use Rattle.search_engine.specs.BlockCandidates.{AreAllowed, AreByGame, AreCandidatesOf, AreComplete, AreCompleteFor, AreInRange, IsAmong, IsCandidate, IsListed, candidate_at, no_candidate}
 
 among_all : (found : List Candidate) (g i : ℕ) → IsAmong found (length found) g i ↔ IsCandidate found g i
 among_all found g i = (
@@ -41,3 +41,9 @@ module _ (query : Query) (games : List Game) (few : length games ≤ 64) (found 
     accepted = λ i listed. (are g game there).accepted i ((is_listed g game there i).0 listed);
     complete = λ accepts. complete_for g game there ((are g game there).complete accepts);
   }
+
+  pub allowed-listed : (shapes : List Shape) (asked : ℕ) → AreAllowed query shapes games asked (IsCandidate found) → AreAllowed query shapes games asked (IsListed lists)
+  allowed-listed shapes asked allowed g game there bit covered changes placements of some are i in_list =
+      let is = is_listed g game there i in
+      let told = allowed g game there bit covered changes placements of some are i in_list in
+      (λ listed. told.0 (is.0 listed), λ were. is.1 (told.1 were))

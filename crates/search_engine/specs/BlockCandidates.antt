@@ -16,6 +16,7 @@ use Rattle.line_matcher.specs.Occurrences.{HoldsAt}
 use Rattle.final_index.specs.Planes.{PlaneGames}
 use Rattle.candidate_sieve.specs.declared.candidates.Candidate.{Candidate}
 use Rattle.candidate_sieve.specs.Candidates.{IsPossibleIn}
+use Rattle.candidate_sieve.specs.Kept.{WereAllowed}
 use Rattle.run_matcher.specs.PlacementOccurrences.{IsOccurrenceOf}
 use Rattle.search_engine.specs.Searching.{IsCovered}
 
@@ -52,6 +53,13 @@ AreCompleteFor query tree may_have = (changes : Deltas) (placements : List Place
     i < length placements → n < node_count changes →
     HoldsAt changes (placement_at placements i) n → may_have i
 
+-- they are exactly those placements of which each cell was allowed at some node
+abbrev pub AreAllowedFor : Query → Tree → (ℕ → Type 0) → Type 0
+AreAllowedFor query tree may_have = (changes : Deltas) (placements : List Placement) →
+    AreNodeChanges tree changes → 0 < node_count changes →
+    ArePlacements query tree.shape placements → (i : ℕ) → i < length placements →
+    may_have i ↔ WereAllowed changes (placement_at placements i)
+
 -- They are those for a filter: there is none, if the filter refuses the game, and else each
 -- placement that holds in it is one.
 pub record AreCandidatesFor (query : Query) (filter : Filter) (tree : Tree)
@@ -77,6 +85,13 @@ abbrev pub AreCandidatesOf : Query → Filter → List Game → (ℕ → ℕ →
 AreCandidatesOf query filter games may_have = (g : ℕ) (game : Game) →
     slice_get games g ≡ Some game → AreCandidatesFor query filter game.tree (may_have g)
 
+-- those of each game that is asked for and on a board of one of the shapes are those of which each
+-- cell was allowed
+abbrev pub AreAllowed : Query → List Shape → List Game → ℕ → (ℕ → ℕ → Type 0) → Type 0
+AreAllowed query shapes games asked may_have = (g : ℕ) (game : Game) →
+    slice_get games g ≡ Some game → bit_at asked g ≡ 1 → IsCovered query shapes game.tree.shape →
+    AreAllowedFor query game.tree (may_have g)
+
 -- ---- candidates
 
 -- the placement with number i is a candidate of game g
@@ -93,8 +108,8 @@ abbrev pub candidate_at : List Candidate → ℕ → Candidate
 candidate_at found j = slice_index_or found j no_candidate
 
 -- The list grows by candidates of games on boards of the shape of some planes: by placements on
--- these boards, for games that are there and asked for. If the shape is covered, all that are
--- possible are added.
+-- these boards, for games that are there and asked for and may have them. If the shape is covered,
+-- all that are possible are added.
 pub record AreAddedOn (query : Query) (shapes : List Shape) (planes : PlaneGames) (asked : ℕ)
     (old new : List Candidate) : Type 0 where
   pub more : List Candidate
@@ -103,6 +118,9 @@ pub record AreAddedOn (query : Query) (shapes : List Shape) (planes : PlaneGames
       (c : Candidate) → Contains more c → c.placement < length placements
   pub there : (c : Candidate) (g : ℕ) → Contains more c → g < 64 → bit_at c.games g ≡ 1 →
       (bit_at asked g ≡ 1) × (slice_index_or planes.games g None ≢ None)
+  pub sound : (placements : List Placement) → ArePlacements query planes.shape placements →
+      (c : Candidate) (g : ℕ) → Contains more c → g < 64 → bit_at c.games g ≡ 1 →
+      IsPossibleIn planes g (placement_at placements c.placement)
   pub complete : IsCovered query shapes planes.shape → (placements : List Placement) →
       ArePlacements query planes.shape placements → (i g : ℕ) → i < length placements → g < 64 →
       bit_at asked g ≡ 1 → IsPossibleIn planes g (placement_at placements i) → IsCandidate more g i

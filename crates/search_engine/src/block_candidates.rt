@@ -4,22 +4,49 @@ ghost use Rattle.info_filter.specs.declared.filter.Filter.{Filter};
 ghost use Rattle.search_engine.specs.BlockCandidates.{
   AreAccepted,
   AreAddedOn,
+  AreAllowed,
   AreCandidatesOf,
   AreComplete,
   AreInRange,
   IsCandidate,
+  IsListed,
 };
 ghost use Rattle.search_engine.specs.Searching.{AreCovered};
 
+use crate::game_placements::GamePlacements;
 use crate::matchers::Matchers;
 use candidate_sieve::{Candidate, add_candidates};
 use final_index::Planes;
 use kb_geometry::NoMemory;
 use segment_store::Block;
 
-// Finds the placements that games of a block may have, among the games that are asked for. What was
-// in the list before is gone.
-pub(crate) fn find_candidates(
+// Finds the placements that each game of a block may have, among the games that are asked for. What
+// was found before is gone.
+pub(crate) fn find_placements(
+    matchers: &Matchers,
+    block: &Block,
+    asked: u64,
+    candidates: &mut Vec<Candidate>,
+    placements: &mut GamePlacements,
+) -> Result<(), NoMemory>
+    ensures in_range { OnOk result (AreInRange matchers.now.query block.now
+        (IsListed placements.new)) }
+    ensures complete { OnOk result (AreComplete matchers.now.query matchers.now.shapes block.now
+        (IsListed placements.new)) }
+    ensures allowed { OnOk result (AreAllowed matchers.now.query matchers.now.shapes block.now asked
+        (IsListed placements.new)) }
+    ensures found { OnOk result ((filter : Filter) → AreAccepted filter block.now asked →
+        AreCovered matchers.now.query matchers.now.shapes block.now →
+        AreCandidatesOf matchers.now.query filter block.now (IsListed placements.new)) }
+{
+    let _count = block.len();
+    find_candidates(matchers, block, asked, candidates)?;
+    placements.fill(candidates)
+}
+
+// Finds the placements that games of a block may have, each with these games, among the games that
+// are asked for. What was in the list before is gone.
+fn find_candidates(
     matchers: &Matchers,
     block: &Block,
     asked: u64,
@@ -28,6 +55,8 @@ pub(crate) fn find_candidates(
     ensures in_range { OnOk result (AreInRange matchers.now.query block.now
         (IsCandidate found.new.items)) }
     ensures complete { OnOk result (AreComplete matchers.now.query matchers.now.shapes block.now
+        (IsCandidate found.new.items)) }
+    ensures allowed { OnOk result (AreAllowed matchers.now.query matchers.now.shapes block.now asked
         (IsCandidate found.new.items)) }
     ensures found { OnOk result ((filter : Filter) → AreAccepted filter block.now asked →
         AreCovered matchers.now.query matchers.now.shapes block.now →

@@ -5,7 +5,6 @@ ghost use Rattle.info_filter.specs.declared.filter.Filter.{Filter};
 ghost use Rattle.info_filter.specs.Filter.{Accepts};
 ghost use Rattle.node_position.specs.Games.{Game};
 ghost use Rattle.search_engine.specs.BlockCandidates.{
-  AreAccepted,
   AreCandidatesFor,
   AreCandidatesOf,
   AreComplete,
@@ -23,7 +22,7 @@ ghost use Rattle.search_engine.specs.Searching.{
 };
 
 use crate::accepted::accepted_games;
-use crate::block_candidates::find_candidates;
+use crate::block_candidates::find_placements;
 use crate::game_hits::add_hits_in;
 use crate::game_placements::GamePlacements;
 use crate::item::Item;
@@ -89,29 +88,8 @@ fn add_block(
         placements,
         gathered,
     } = room;
-    find_placements(matchers, item, accepted, candidates, placements)?;
+    find_placements(matchers, item.block, accepted, candidates, placements)?;
     add_found(alloc, matchers, item, &*placements, gathered, hits)
-}
-
-// Finds the placements that each game of a block may have, among the games that are asked for.
-fn find_placements(
-    matchers: &Matchers,
-    item: &Item,
-    asked: u64,
-    candidates: &mut Vec<Candidate>,
-    placements: &mut GamePlacements,
-) -> Result<(), NoMemory>
-    ensures in_range { OnOk result (AreInRange matchers.now.query item.now.block.now
-        (IsListed placements.new)) }
-    ensures complete { OnOk result (AreComplete matchers.now.query matchers.now.shapes
-        item.now.block.now (IsListed placements.new)) }
-    ensures found { OnOk result ((filter : Filter) → AreAccepted filter item.now.block.now asked →
-        AreCovered matchers.now.query matchers.now.shapes item.now.block.now →
-        AreCandidatesOf matchers.now.query filter item.now.block.now (IsListed placements.new)) }
-{
-    let _count = item.block.len();
-    find_candidates(matchers, item.block, asked, candidates)?;
-    placements.fill(candidates)
 }
 
 // Adds the hits of the games of a block, of which it is known what placements they may have.

@@ -1,4 +1,4 @@
-use Rattle.std.proofs.Common.{arith, ◌≡◌}
+use Rattle.std.proofs.Common.{arith}
 use Rattle.search_engine.proofs.PlacementLists.{next_bit-found, next_bit-none}
 use Rattle.search_engine.proofs.bits.next_bit.Goals as goal
 

@@ -1,5 +1,5 @@
 use Rattle.std.proofs.Common.{arith, get_or, refl, subst}
-use Rattle.search_engine.proofs.Gathering.{IsGathered, IsGathered-more, IsGathered-start}
+use Rattle.search_engine.proofs.Gathering.{IsGathered, IsGathered-more}
 use Rattle.search_engine.proofs.occurrences.gather.Goals as goal
 
 pub loop-placement-preserved : goal.loop-placement-preserved

@@ -3,7 +3,7 @@ use Rattle.std.specs.Prelude.{Contains}
 use Rattle.game_tree.specs.Tree.{Tree}
 use Rattle.pattern_images.specs.declared.query.Query.{Query}
 use Rattle.pattern_images.specs.Query.{IsForBoard}
-use Rattle.search_engine.specs.BlockCandidates.{AreCompleteFor}
+use Rattle.search_engine.specs.BlockCandidates.{AreCompleteFor, AreInRangeFor}
 use Rattle.search_engine.specs.Hits.{AreHitsIn}
 use Rattle.search_engine.specs.Searching.{AreHitsAdded}
 use Rattle.search_engine.proofs.AddedHits.{OnOk-then}
@@ -31,3 +31,7 @@ add_hits_in-requires-clause-complete c =
     let shape = c.shape.ensures.value ∙ ap (λ (t : Tree). t.shape) c.tree.ensures in
     subst (λ (q : Query). AreCompleteFor q c.args.game.now.tree (Contains c.args.placements.now)) (sym c.query.ensures)
     (c.requires.complete (subst (Contains c.args.matchers.now.shapes) shape c.in-Some.ensures.there))
+
+pub add_hits_in-requires-clause-in_range : goal.add_hits_in-requires-clause-in_range
+add_hits_in-requires-clause-in_range c =
+    subst (λ (q : Query). AreInRangeFor q c.args.game.now.tree (Contains c.args.placements.now)) (sym c.query.ensures) c.requires.in_range

@@ -1,4 +1,4 @@
-use Rattle.std.proofs.Common.{◌≡◌, ◌+◌, ◌∙◌, arith, length, subst, sym}
+use Rattle.std.proofs.Common.{◌≡◌, ◌+◌, ◌∙◌, length, subst, sym}
 use Rattle.std.proofs.lemmas.Bool.{eqb-true}
 use Rattle.game_tree.specs.Tree.{IsTree, Tree}
 use Rattle.node_position.specs.Games.{Game}
@@ -40,3 +40,6 @@ pub add_on_its_board-requires-clause-complete : goal.add_on_its_board-requires-c
 add_on_its_board-requires-clause-complete c there =
     let one = some_listed c.args.placements.now c.is_empty.result c.is_empty.ensures c.if-is_empty.false in
     c.requires.complete c.get-game.result.now c.get-game.ensures one.0 one.1 there
+
+pub add_on_its_board-requires-clause-in_range : goal.add_on_its_board-requires-clause-in_range
+add_on_its_board-requires-clause-in_range c = c.requires.in_range c.get-game.result.now c.get-game.ensures

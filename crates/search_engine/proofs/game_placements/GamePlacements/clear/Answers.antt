@@ -1,4 +1,4 @@
-use Rattle.std.proofs.Common.{◌≡◌, ℕ, ◌<◌, [], Contains, length, map, slice_set, arith, length-set, inl, inr, ◌∙◌, subst, ap}
+use Rattle.std.proofs.Common.{map, slice_set, arith, length-set, inl, inr, ◌∙◌, ap}
 use Rattle.std.proofs.lemmas.Bool.{cases_eq}
 use Rattle.search_engine.specs.BlockCandidates.{list_of}
 use Rattle.search_engine.proofs.PlacementLists.{list_of-set_other, list_of-set_same}
