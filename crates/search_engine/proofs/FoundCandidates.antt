@@ -9,7 +9,9 @@ use Rattle.std.proofs.lemmas.List.{append-nil, get_or-append-add, get_or-map, ge
 use Rattle.std.proofs.lemmas.List.Elements.{All-contains, Contains-append_cases}
 use Rattle.std.proofs.lemmas.Option.{get_or_from_slice_get, slice_get_within}
 use Rattle.kb_geometry.specs.declared.shape.Shape.{Shape}
-use Rattle.node_position.specs.Games.{Game}
+use Rattle.game_tree.specs.Tree.{Tree}
+use Rattle.capture_board.specs.Deltas.{Deltas, node_count}
+use Rattle.node_position.specs.Games.{AreNodeChanges, Game}
 use Rattle.pattern_images.specs.declared.query.Query.{Query}
 use Rattle.pattern_images.specs.ImageList.{IsPlacedOn, no_placement, placement_at}
 use Rattle.pattern_images.specs.Placements.{ArePlacements, Placement}
@@ -19,11 +21,13 @@ use Rattle.info_filter.specs.declared.filter.Filter.{Filter}
 use Rattle.final_index.specs.Planes.{PlaneGames}
 use Rattle.candidate_sieve.specs.declared.candidates.Candidate.{Candidate}
 use Rattle.candidate_sieve.specs.Candidates.{AreCandidatesAdded}
-use Rattle.candidate_sieve.specs.Candidates.{MeetsCells}
+use Rattle.candidate_sieve.specs.Candidates.{IsPossibleIn, MeetsCells}
+use Rattle.candidate_sieve.specs.Kept.{WereAllowed}
+use Rattle.candidate_sieve.proofs.CellsTold.{holds-were}
 use Rattle.segment_store.specs.Planes.{ArePlanesOf, ArePlanesOn, IsGameOfPlanes}
-use Rattle.search_engine.specs.BlockCandidates.{AreAccepted, AreAddedOn, AreCandidatesOf, AreComplete, AreCompleteFor, AreInRange, IsCandidate, candidate_at, no_candidate}
+use Rattle.search_engine.specs.BlockCandidates.{AreAccepted, AreAddedOn, AreAllowed, AreCandidatesOf, AreComplete, AreCompleteFor, AreInRange, IsCandidate}
 use Rattle.search_engine.specs.Searching.{AreCovered, IsCovered}
-use Rattle.search_engine.proofs.PossibleGames.{not_none, on_shape_where_there, possible_where_it_holds}
+use Rattle.search_engine.proofs.PossibleGames.{allowed_where_possible, not_none, on_shape_where_there, possible_where_allowed}
 
 -- ---- more candidates
 
@@ -34,7 +38,7 @@ Any-behind : {X : Type 0} (P : X → Type 0) (xs ys : List X) → Any P ys → A
 Any-behind P xs ys (k, x, lt, at, p) = (length xs + k, x, omega (arith, lt, length-append xs ys), get_or-append-add xs ys k x ∙ at, p)
 
 -- a candidate that is contained is one of its game
-candidate_is : (found : List Candidate) (c : Candidate) (g : ℕ) → Contains found c → bit_at c.games g ≡ 1 → IsCandidate found c.placement g
+candidate_is : (found : List Candidate) (c : Candidate) (g : ℕ) → Contains found c → bit_at c.games g ≡ 1 → IsCandidate found g c.placement
 candidate_is found c g (k, lt, at) bit = (k, c, lt, at, (refl, bit))
 
 -- ---- what is added for one shape
@@ -47,6 +51,7 @@ module _ (query : Query) (shapes : List Shape) (planes : PlaneGames) (asked : �
     added = same ∙ sym (append-nil old);
     in_range = λ ps are c (k, lt, at). absurd (omega (arith, lt));
     there = λ c g (k, lt, at) below bit. absurd (omega (arith, lt));
+    sound = λ ps are c g (k, lt, at) below bit. absurd (omega (arith, lt));
     complete = λ covered ps are i g lt below bit possible. absurd (not (covered (are.sound i no_placement lt).board));
   }
 
@@ -60,6 +65,10 @@ module _ (query : Query) (shapes : List Shape) (planes : PlaneGames) (asked : �
         let lt = All-contains (λ (d : Candidate). d.placement < length placements) found.more c found.are.in_range there in
         let is = (found.are.exact c.placement g lt below).0 (candidate_is found.more c g there bit) in
         (is.0, not_none (get_or planes.games g None) (λ sets. MeetsCells planes.shape sets (placement_at placements c.placement)) is.1);
+    sound = λ ps too c g there below bit.
+        let lt = All-contains (λ (d : Candidate). d.placement < length placements) found.more c found.are.in_range there in
+        let is = (found.are.exact c.placement g lt below).0 (candidate_is found.more c g there bit) in
+        subst (λ (qs : List Placement). IsPossibleIn planes g (placement_at qs c.placement)) (one_list query planes.shape placements ps are too) is.1;
     complete = λ covered ps too i g lt below bit possible.
         let same = one_list query planes.shape ps placements too are in
         (found.are.exact i g (subst (λ (qs : List Placement). i < length qs) same lt) below).1
@@ -69,16 +78,22 @@ module _ (query : Query) (shapes : List Shape) (planes : PlaneGames) (asked : �
 -- ---- one shape after another
 
 module _ (query : Query) (shapes : List Shape) (games : List Game) (asked : ℕ) where
+  -- each placement of which each cell was allowed in a game is a candidate of it
+  abbrev AreAllFor : Tree → (ℕ → Type 0) → Type 0
+  AreAllFor tree may_have = (changes : Deltas) (ps : List Placement) → AreNodeChanges tree changes → ArePlacements query tree.shape ps → (i : ℕ) → i < length ps → WereAllowed changes (placement_at ps i) → may_have i
+
   -- what is found for the first so many planes
   pub record AreFoundTo (planes : List PlaneGames) (k : ℕ) (found : List Candidate) : Type 0 where
-    pub in_range : AreInRange query games found
+    pub in_range : AreInRange query games (IsCandidate found)
     pub asked_for : (c : Candidate) (g : ℕ) → Contains found c → g < 64 → bit_at c.games g ≡ 1 → bit_at asked g ≡ 1
-    pub complete : (j g : ℕ) (d : PlaneGames) (game : Game) → IsCovered query shapes game.tree.shape → j < k → slice_get games g ≡ Some game → bit_at asked g ≡ 1 → (get_or planes j d).shape ≡ game.tree.shape → AreCompleteFor query game.tree g found
+    pub sound : (g : ℕ) (game : Game) → slice_get games g ≡ Some game → (changes : Deltas) (ps : List Placement) → AreNodeChanges game.tree changes → 0 < node_count changes → ArePlacements query game.tree.shape ps → (i : ℕ) → IsCandidate found g i → WereAllowed changes (placement_at ps i)
+    pub complete : (j g : ℕ) (d : PlaneGames) (game : Game) → IsCovered query shapes game.tree.shape → j < k → slice_get games g ≡ Some game → bit_at asked g ≡ 1 → (get_or planes j d).shape ≡ game.tree.shape → AreAllFor game.tree (IsCandidate found g)
 
   pub AreFoundTo-start : (planes : List PlaneGames) (found : List Candidate) → found ≡ [] → AreFoundTo planes 0 found
   AreFoundTo-start planes found none = subst (AreFoundTo planes 0) (sym none) (record {
-    in_range = λ g game at ps are c (k, lt, is) bit. absurd (omega (arith, lt));
+    in_range = λ g game at ps are i (k, c, lt, place, is). absurd (omega (arith, lt));
     asked_for = λ c g (k, lt, is) below bit. absurd (omega (arith, lt));
+    sound = λ g game at changes ps of some are i (k, c, lt, place, is). absurd (omega (arith, lt));
     complete = λ j g d game covered lt. absurd (omega (arith, lt));
   })
 
@@ -86,14 +101,18 @@ module _ (query : Query) (shapes : List Shape) (games : List Game) (asked : ℕ)
     below_64 : (g : ℕ) (game : Game) → slice_get games g ≡ Some game → g < 64
     below_64 g game there = omega (arith, few, slice_get_within games g game there)
 
-    in_range : AreInRange query games (old ++ added.more)
-    in_range g game there ps are c is_in bit = elim (Contains-append_cases old added.more c is_in) [
-      | inl before ↦ so_far.in_range g game there ps are c before bit
-      | inr here ↦
-          let within = slice_get_within games g game there in
-          let told = subst (λ (h : Game). IsGameOfPlanes p.shape h.tree (get_or p.games g None)) (get_or_from_slice_get games g game game there) (on.1 g game within) in
-          let same = on_shape_where_there p.shape game.tree (get_or p.games g None) told (added.there c g here (below_64 g game there) bit).1 in
-          added.in_range ps (subst (λ (s : Shape). ArePlacements query s ps) same are) c here
+    -- what the planes have for a game
+    told : (g : ℕ) (game : Game) → slice_get games g ≡ Some game → IsGameOfPlanes p.shape game.tree (get_or p.games g None)
+    told g game there = subst (λ (h : Game). IsGameOfPlanes p.shape h.tree (get_or p.games g None)) (get_or_from_slice_get games g game game there) (on.1 g game (slice_get_within games g game there))
+
+    -- a game with a candidate that is added is on a board of their shape
+    on_shape : (g : ℕ) (game : Game) → slice_get games g ≡ Some game → (c : Candidate) → Contains added.more c → bit_at c.games g ≡ 1 → game.tree.shape ≡ p.shape
+    on_shape g game there c here bit = on_shape_where_there p.shape game.tree (get_or p.games g None) (told g game there) (added.there c g here (below_64 g game there) bit).1
+
+    in_range : AreInRange query games (IsCandidate (old ++ added.more))
+    in_range g game there ps are i (n, c, lt, place, is) = elim (Contains-append_cases old added.more c (n, lt, place)) [
+      | inl before ↦ so_far.in_range g game there ps are i (subst (IsCandidate old g) is.0 (candidate_is old c g before is.1))
+      | inr here ↦ subst (λ (m : ℕ). m < length ps) is.0 (added.in_range ps (subst (λ (s : Shape). ArePlacements query s ps) (on_shape g game there c here is.1) are) c here)
     ]
 
     asked_for : (c : Candidate) (g : ℕ) → Contains (old ++ added.more) c → g < 64 → bit_at c.games g ≡ 1 → bit_at asked g ≡ 1
@@ -102,36 +121,42 @@ module _ (query : Query) (shapes : List Shape) (games : List Game) (asked : ℕ)
       | inr here ↦ (added.there c g here below bit).0
     ]
 
-    complete_here : (g : ℕ) (game : Game) → IsCovered query shapes game.tree.shape → slice_get games g ≡ Some game → bit_at asked g ≡ 1 → p.shape ≡ game.tree.shape → AreCompleteFor query game.tree g (old ++ added.more)
-    complete_here g game covered there bit same changes ps of are i n in_list node holds =
-        let within = slice_get_within games g game there in
-        let read = get_or_from_slice_get games g game game there in
-        let told = subst (λ (h : Game). IsGameOfPlanes p.shape h.tree (get_or p.games g None)) read (on.1 g game within) in
+    sound : (g : ℕ) (game : Game) → slice_get games g ≡ Some game → (changes : Deltas) (ps : List Placement) → AreNodeChanges game.tree changes → 0 < node_count changes → ArePlacements query game.tree.shape ps → (i : ℕ) → IsCandidate (old ++ added.more) g i → WereAllowed changes (placement_at ps i)
+    sound g game there changes ps of some are i (n, c, lt, place, is) = elim (Contains-append_cases old added.more c (n, lt, place)) [
+      | inl before ↦ so_far.sound g game there changes ps of some are i (subst (IsCandidate old g) is.0 (candidate_is old c g before is.1))
+      | inr here ↦
+          let possible = added.sound ps (subst (λ (s : Shape). ArePlacements query s ps) (on_shape g game there c here is.1) are) c g here (below_64 g game there) is.1 in
+          subst (λ (m : ℕ). WereAllowed changes (placement_at ps m)) is.0
+          (allowed_where_possible p.shape game.tree (get_or p.games g None) (told g game there) changes of some (placement_at ps c.placement) possible)
+    ]
+
+    complete_here : (g : ℕ) (game : Game) → IsCovered query shapes game.tree.shape → slice_get games g ≡ Some game → bit_at asked g ≡ 1 → p.shape ≡ game.tree.shape → AreAllFor game.tree (IsCandidate (old ++ added.more) g)
+    complete_here g game covered there bit same changes ps of are i in_list were =
         let covers = subst (IsCovered query shapes) (sym same) covered in
         let placed : IsPlacedOn game.tree.shape (placement_at ps i) = IsPlacedOn-result query game.tree.shape (placement_at ps i) (are.sound i no_placement in_list) in
-        let possible = possible_where_it_holds p.shape game.tree (get_or p.games g None) told (sym same) changes of (placement_at ps i) n placed node holds in
+        let possible = possible_where_allowed p.shape game.tree (get_or p.games g None) (told g game there) (sym same) changes of (placement_at ps i) placed were in
         Any-behind (λ (c : Candidate). (c.placement ≡ i) × (bit_at c.games g ≡ 1)) old added.more
         (added.complete covers ps (subst (λ (s : Shape). ArePlacements query s ps) (sym same) are) i g in_list (below_64 g game there) bit possible)
 
-    complete : (j g : ℕ) (d : PlaneGames) (game : Game) → IsCovered query shapes game.tree.shape → j < k + 1 → slice_get games g ≡ Some game → bit_at asked g ≡ 1 → (get_or planes j d).shape ≡ game.tree.shape → AreCompleteFor query game.tree g (old ++ added.more)
+    complete : (j g : ℕ) (d : PlaneGames) (game : Game) → IsCovered query shapes game.tree.shape → j < k + 1 → slice_get games g ≡ Some game → bit_at asked g ≡ 1 → (get_or planes j d).shape ≡ game.tree.shape → AreAllFor game.tree (IsCandidate (old ++ added.more) g)
     complete j g d game covered less there bit same = elim (cases_eq j k) [
-      | inr ne ↦ λ changes ps of are i n in_list node holds.
-          Any-front (λ (c : Candidate). (c.placement ≡ i) × (bit_at c.games g ≡ 1)) old added.more (so_far.complete j g d game covered (omega (arith, less, ne)) there bit same changes ps of are i n in_list node holds)
+      | inr ne ↦ λ changes ps of are i in_list were.
+          Any-front (λ (c : Candidate). (c.placement ≡ i) × (bit_at c.games g ≡ 1)) old added.more (so_far.complete j g d game covered (omega (arith, less, ne)) there bit same changes ps of are i in_list were)
       | inl this ↦
           let here : get_or planes j d ≡ p = ap (λ n. get_or planes n d) this ∙ get_or_default planes k d p lt ∙ sym at in
           complete_here g game covered there bit (ap (λ (q : PlaneGames). q.shape) (sym here) ∙ same)
     ]
 
     pub AreFoundTo-more : AreFoundTo planes (k + 1) new
-    AreFoundTo-more = subst (AreFoundTo planes (k + 1)) (sym added.added) (record { in_range = in_range; asked_for = asked_for; complete = complete })
+    AreFoundTo-more = subst (AreFoundTo planes (k + 1)) (sym added.added) (record { in_range = in_range; asked_for = asked_for; sound = sound; complete = complete })
 
   -- all planes of the block
   module _ (few : length games ≤ 64) (planes : List PlaneGames) (k : ℕ) (found : List Candidate) (le : length planes ≤ k) (are : ArePlanesOf games planes) (so_far : AreFoundTo planes k found) where
-    asked_within : (c : Candidate) (g : ℕ) (game : Game) → slice_get games g ≡ Some game → Contains found c → bit_at c.games g ≡ 1 → bit_at asked g ≡ 1
-    asked_within c g game there is_in bit = so_far.asked_for c g is_in (omega (arith, few, slice_get_within games g game there)) bit
+    asked_within : (g : ℕ) (game : Game) → slice_get games g ≡ Some game → (i : ℕ) → IsCandidate found g i → bit_at asked g ≡ 1
+    asked_within g game there i (n, c, lt, place, is) = so_far.asked_for c g (n, lt, place) (omega (arith, few, slice_get_within games g game there)) is.1
 
-    complete_all : (g : ℕ) (game : Game) → slice_get games g ≡ Some game → bit_at asked g ≡ 1 → IsCovered query shapes game.tree.shape → AreCompleteFor query game.tree g found
-    complete_all g game there bit covered =
+    all_for : (g : ℕ) (game : Game) → slice_get games g ≡ Some game → bit_at asked g ≡ 1 → IsCovered query shapes game.tree.shape → AreAllFor game.tree (IsCandidate found g)
+    all_for g game there bit covered =
         let within = slice_get_within games g game there in
         let read = get_or_from_slice_get games g game game there in
         let in_games : Contains (map (λ (h : Game). h.tree.shape) games) game.tree.shape = (g, omega (arith, within, length-map games (λ (h : Game). h.tree.shape)), get_or-map (λ (h : Game). h.tree.shape) games g game game.tree.shape within ∙ ap (λ (h : Game). h.tree.shape) read) in
@@ -141,14 +166,18 @@ module _ (query : Query) (shapes : List Shape) (games : List Game) (asked : ℕ)
         so_far.complete j g none game covered (omega (arith, inside, le)) there bit
         (sym (get_or-map (λ (q : PlaneGames). q.shape) planes j none game.tree.shape inside) ∙ at)
 
-    pub AreComplete-all : AreComplete query shapes games found
-    AreComplete-all g game there (j, lt, bit) shape_there =
-        let c = candidate_at found j in
-        complete_all g game there (asked_within c g game there (j, lt, get_or_default found j c no_candidate lt) bit) (λ looks. shape_there)
+    complete_all : (g : ℕ) (game : Game) → slice_get games g ≡ Some game → bit_at asked g ≡ 1 → IsCovered query shapes game.tree.shape → AreCompleteFor query game.tree (IsCandidate found g)
+    complete_all g game there bit covered changes ps of are i n in_list node holds = all_for g game there bit covered changes ps of are i in_list (holds-were changes (placement_at ps i) n node holds)
 
-    pub AreCandidatesOf-all : (filter : Filter) → AreAccepted filter games asked → AreCovered query shapes games → AreCandidatesOf query filter games found
+    pub AreAllowed-all : AreAllowed query shapes games asked (IsCandidate found)
+    AreAllowed-all g game there bit covered changes ps of some are i in_list = (so_far.sound g game there changes ps of some are i, all_for g game there bit covered changes ps of are i in_list)
+
+    pub AreComplete-all : AreComplete query shapes games (IsCandidate found)
+    AreComplete-all g game there i may shape_there = complete_all g game there (asked_within g game there i may) (λ looks. shape_there)
+
+    pub AreCandidatesOf-all : (filter : Filter) → AreAccepted filter games asked → AreCovered query shapes games → AreCandidatesOf query filter games (IsCandidate found)
     AreCandidatesOf-all filter accepted covered g game there = record {
-      accepted = λ c is_in bit. (accepted g game there).0 (asked_within c g game there is_in bit);
+      accepted = λ i may. (accepted g game there).0 (asked_within g game there i may);
       complete = λ accepts.
           let covers = subst (λ (h : Game). IsCovered query shapes h.tree.shape) (get_or_from_slice_get games g game game there) (covered g game (slice_get_within games g game there)) in
           complete_all g game there ((accepted g game there).1 accepts) covers;

@@ -1,15 +1,14 @@
 -- Words with a bit for each game of a block.
-use Rattle.std.proofs.Common.{◌≡◌, ◌≢◌, ◌⊎◌, inl, inr, ℕ, ◌+◌, ◌*◌, ◌^◌, ◌%◌, ◌<◌, ◌≤◌, ◌↔◌, List, Some, bit_or, length, max, refl, sym, ◌∙◌, subst, arith}
+use Rattle.std.proofs.Common.{◌≡◌, ◌≢◌, inl, inr, ℕ, ◌+◌, ◌*◌, ◌^◌, ◌%◌, ◌<◌, ◌≤◌, ◌↔◌, List, Some, bit_or, length, refl, sym, ◌∙◌, subst, arith}
 use Rattle.std.specs.Int.{bit_at, w64}
 use Rattle.std.specs.List.{slice_get}
 use Rattle.std.proofs.lemmas.Bool.{cases_eq}
-use Rattle.std.proofs.lemmas.Nat.Bits.{bit_at-lt, bit_at-zero, bit_at_or, bit_at_set_other, bit_at_set_same}
+use Rattle.std.proofs.lemmas.Nat.Bits.{bit_at-zero, bit_at_set_other, bit_at_set_same}
 use Rattle.std.proofs.lemmas.Option.{get_or_from_slice_get, slice_get_within}
 use Rattle.node_position.specs.Games.{Game}
 use Rattle.info_filter.specs.declared.filter.Filter.{Filter}
 use Rattle.info_filter.specs.Filter.{Accepts}
-use Rattle.candidate_sieve.specs.declared.candidates.Candidate.{Candidate}
-use Rattle.search_engine.specs.BlockCandidates.{AreAccepted, HasGamesOf, IsWithBit, candidate_at}
+use Rattle.search_engine.specs.BlockCandidates.{AreAccepted, IsWithBit}
 
 pub IsWithBit-set : (word at : ℕ) (set : Type 0) → set → at < 64 → IsWithBit word at set (bit_or word (1 * 2 ^ at % 2 ^ 64))
 IsWithBit-set word at set s lt = record {
@@ -52,27 +51,3 @@ module _ (filter : Filter) (games : List Game) where
 
   pub AreAcceptedTo-all : (k word : ℕ) → length games ≤ k → AreAcceptedTo filter games k word → AreAccepted filter games word
   AreAcceptedTo-all k word le so_far g game at = so_far.told g game (omega (arith, le, slice_get_within games g game at)) at
-
--- ---- which games have a candidate
-
-either : (a b : ℕ) → a < 2 → b < 2 → (max a b ≡ 1) ↔ ((a ≡ 1) ⊎ (b ≡ 1))
-either a b la lb = (
-  λ e. elim (cases_eq a 1) [ inl one ↦ inl one | inr other ↦ inr (omega (arith, e, la, lb, other)) ],
-  λ h. elim h [ inl one ↦ omega (arith, one, lb) | inr one ↦ omega (arith, one, la) ],
-)
-
-pub HasGamesOf-start : (found : List Candidate) → HasGamesOf found 0 0
-HasGamesOf-start found g = (λ e. absurd (omega (arith, bit_at-zero g, e)), λ h. absurd (omega (arith, h.1)))
-
-pub HasGamesOf-more : (found : List Candidate) (k word : ℕ) (c : Candidate) → c ≡ candidate_at found k → HasGamesOf found k word → HasGamesOf found (k + 1) (bit_or word c.games)
-HasGamesOf-more found k word c at so_far g =
-    let both = either (bit_at word g) (bit_at c.games g) (bit_at-lt word g) (bit_at-lt c.games g) in (
-      λ e. elim (both.0 (sym (bit_at_or word c.games g) ∙ e)) [
-        | inl before ↦ let h = (so_far g).0 before in (h.0, omega (arith, h.1), h.2)
-        | inr here ↦ (k, omega arith, subst (λ (d : Candidate). bit_at d.games g ≡ 1) at here)
-      ],
-      λ h. bit_at_or word c.games g ∙ both.1 (elim (cases_eq h.0 k) [
-        | inr ne ↦ inl ((so_far g).1 (h.0, omega (arith, h.1, ne), h.2))
-        | inl same ↦ inr (subst (λ (d : Candidate). bit_at d.games g ≡ 1) (sym at) (subst (λ j. bit_at (candidate_at found j).games g ≡ 1) same h.2))
-      ]),
-    )

@@ -1,14 +1,13 @@
--- The occurrences in a game, from the candidates that have its bit.
-use Rattle.std.proofs.Common.{◌≡◌, ◌⊎◌, ℕ, true, false, inl, inr, not, ◌+◌, ◌<◌, ◌↔◌, List, [], ◌∷◌, Option, Some, None, Contains, length, refl, sym, ap, ◌∙◌, subst, arith}
-use Rattle.std.specs.Int.{bit_at}
+-- The occurrences in a game, from the placements that it may have.
+use Rattle.std.proofs.Common.{◌≡◌, ◌⊎◌, ℕ, Bool, nat_eq, true, false, inl, inr, not, ◌+◌, ◌<◌, ◌↔◌, List, [], ◌∷◌, Option, Some, None, Contains, get_or, length, refl, sym, ap, ◌∙◌, subst, arith}
 use Rattle.std.specs.Option.{option_map_or}
-use Rattle.std.specs.Prelude.{IfSome}
+use Rattle.std.specs.Prelude.{All, IfSome}
 use Rattle.std.proofs.lemmas.Bool.{and_from, and_parts, cases_eq, false≢true, false_from_ne_true}
 use Rattle.std.proofs.lemmas.List.{get_or_default}
 use Rattle.kb_geometry.proofs.Lists.{Contains-first}
 use Rattle.game_tree.specs.Tree as tree
 use Rattle.capture_board.specs.Deltas.{Deltas, node_count, parent_of, position_at}
-use Rattle.node_position.specs.Games.{AreNodeChanges, Game}
+use Rattle.node_position.specs.Games.{AreNodeChanges}
 use Rattle.pattern_images.specs.declared.hit.Hit.{Hit}
 use Rattle.pattern_images.specs.declared.query.Query.{Query}
 use Rattle.pattern_images.specs.ImageList.{placement_at}
@@ -19,16 +18,12 @@ use Rattle.line_matcher.specs.declared.occurrence.Occurrence.{Occurrence}
 use Rattle.line_matcher.specs.Occurrences.{HoldsAt, Occurs, begins_at, holds_at, occurrences_in}
 use Rattle.line_matcher.proofs.HoldsLaw.{holds-decides}
 use Rattle.line_matcher.proofs.OccurrenceLaw.{occurrences-are}
-use Rattle.candidate_sieve.specs.declared.candidates.Candidate.{Candidate}
-use Rattle.candidate_sieve.specs.Kept.{IsKept}
-use Rattle.candidate_sieve.proofs.OccurrencesKept.{occurs-kept}
-use Rattle.search_engine.specs.BlockCandidates.{AreCandidatesFor, AreCompleteFor, BeginsAmong, BeginsAs, HasGamesOf, IsCandidate, candidate_at, no_candidate}
+use Rattle.run_matcher.specs.PlacementOccurrences.{IsOccurrenceOf}
+use Rattle.search_engine.specs.BlockCandidates.{AreCandidatesFor, AreCompleteFor, BeginsAmong}
 use Rattle.search_engine.specs.Hits.{AreGameHits, AreHitsOf}
-use Rattle.search_engine.specs.KeptGames.{HaveKeptNodes, IsKeptGame}
 use Rattle.search_engine.specs.Searching.{AreHitsAdded}
 use Rattle.search_engine.proofs.AddedHits.{AreHitsAdded-none}
 use Rattle.search_engine.proofs.HitsExist.{asks-or-not}
-use Rattle.search_engine.proofs.KeptCounts.{KeptNodes-unique}
 
 -- a list without a member
 none_in : {X : Type 0} (xs : List X) → ((x : X) → Contains xs x → ⊥) → xs ≡ []
@@ -66,50 +61,36 @@ module _ (changes : Deltas) (placements : List Placement) where
       subst (λ k. begins_at changes (placed k) o.node ≡ true) is
       (and_from (holds_at changes (placed o.placement) o.node) before holds (at_none o.placement (parent_of changes o.node) occurs.not_before))
 
--- a candidate of a game at its place in the list
-candidate_place : (found : List Candidate) (i g : ℕ) → IsCandidate found i g → (j : ℕ) × (j < length found) × ((candidate_at found j).placement ≡ i) × (bit_at (candidate_at found j).games g ≡ 1)
-candidate_place found i g (j, c, lt, at, is) =
-    let here : candidate_at found j ≡ c = get_or_default found j no_candidate c lt ∙ at in
-    (j, lt, ap (λ (d : Candidate). d.placement) here ∙ is.0, ap (λ (d : Candidate). bit_at d.games g) here ∙ is.1)
-
-module _ (query : Query) (game : tree.Tree) (g : ℕ) (found : List Candidate) (changes : Deltas) (of : AreNodeChanges game changes) (placements : List Placement) (are : ArePlacements query game.shape placements) (complete : AreCompleteFor query game g found) where
-  occurs_as : (o : Occurrence) → Contains (occurrences_in changes placements) o → IsCandidate found o.placement g
+module _ (query : Query) (game : tree.Tree) (list : List ℕ) (changes : Deltas) (of : AreNodeChanges game changes) (placements : List Placement) (are : ArePlacements query game.shape placements) (complete : AreCompleteFor query game (Contains list)) where
+  occurs_as : (o : Occurrence) → Contains (occurrences_in changes placements) o → Contains list o.placement
   occurs_as o is_in =
       let occurs = (occurrences-are changes placements o).0 is_in in
       complete changes placements of are o.placement o.node occurs.placement_there occurs.node_there occurs.holds_there
 
-  -- those that begin as some candidate are the occurrences
-  pub begins_among : ((c : Candidate) → Contains found c → bit_at c.games g ≡ 1 → c.placement < length placements) → (o : Occurrence) → BeginsAmong changes placements g found (length found) o ↔ Contains (occurrences_in changes placements) o
+  -- the occurrences of the listed placements are all occurrences
+  pub begins_among : All (λ i. i < length placements) list → (o : Occurrence) → BeginsAmong changes placements list (length list) o ↔ Contains (occurrences_in changes placements) o
   begins_among in_range o = (
-    λ (j, lt, begins).
-        let c = candidate_at found j in
-        let within = in_range c (j, lt, get_or_default found j c no_candidate lt) begins.bit in
-        (occurrences-are changes placements o).1 (begins-occurs changes placements o c.placement begins.placement begins.node within begins.begins),
+    λ (j, lt, (is, node, begins)). (occurrences-are changes placements o).1 (begins-occurs changes placements o (get_or list j 0) is node (in_range j 0 lt) begins),
     λ is_in.
         let occurs = (occurrences-are changes placements o).0 is_in in
-        let (j, lt, is, bit) = candidate_place found o.placement g (occurs_as o is_in) in
-        (j, lt, record { bit = bit; placement = sym is; node = occurs.node_there; begins = occurs-begins changes placements o (candidate_at found j).placement (sym is) occurs }),
+        let (j, lt, at) = occurs_as o is_in in
+        let here : get_or list j 0 ≡ o.placement = get_or_default list j 0 o.placement lt ∙ at in
+        (j, lt, (sym here, occurs.node_there, occurs-begins changes placements o (get_or list j 0) (sym here) occurs)),
   )
 
-  -- without a candidate there is no occurrence
-  pub none_occurs : (word : ℕ) → HasGamesOf found (length found) word → ¬ (bit_at word g ≡ 1) → occurrences_in changes placements ≡ []
-  none_occurs word has none =
-      none_in (occurrences_in changes placements) (λ o is_in. let (j, lt, is, bit) = candidate_place found o.placement g (occurs_as o is_in) in none ((has g).1 (j, lt, bit)))
+  -- without a placement there is no occurrence
+  pub none_occurs : list ≡ [] → occurrences_in changes placements ≡ []
+  none_occurs none = none_in (occurrences_in changes placements) (λ o is_in. let (j, lt, at) = occurs_as o is_in in omega (arith, lt, ap length none))
 
--- a game that isn't kept has no occurrence
-pub none_kept : (changes : Deltas) (placements : List Placement) → ¬ IsKept changes placements → occurrences_in changes placements ≡ []
-none_kept changes placements not =
-    none_in (occurrences_in changes placements) (λ o is_in. let occurs = (occurrences-are changes placements o).0 is_in in not (occurs-kept changes placements o occurs))
-
--- the hits of a game without a candidate
-pub no_hits : (query : Query) (filter : Filter) (number : ℕ) (game : tree.Tree) → tree.IsTree game → (changes : Deltas) → AreNodeChanges game changes → (g : ℕ) (found : List Candidate) → AreCandidatesFor query filter game g found
-    → (word : ℕ) → HasGamesOf found (length found) word → ¬ (bit_at word g ≡ 1) → (hits : List Hit) → AreHitsAdded (AreGameHits query filter number game) hits hits
-no_hits query filter number game is_tree changes of g found are word has none hits =
+-- the hits of a game without a placement that it may have
+pub no_hits : (query : Query) (filter : Filter) (number : ℕ) (game : tree.Tree) → tree.IsTree game → (changes : Deltas) → AreNodeChanges game changes → (list : List ℕ) → AreCandidatesFor query filter game (Contains list)
+    → list ≡ [] → (hits : List Hit) → AreHitsAdded (AreGameHits query filter number game) hits hits
+no_hits query filter number game is_tree changes of list are none hits =
     AreHitsAdded-none (AreGameHits query filter number game) hits (elim (asks-or-not query filter game) [
       | inr not ↦ AreGameHits.not_asked not
       | inl asks ↦
           let placements = some_list query game.shape in
-          let empty = none_occurs query game g found changes of placements.0 placements.1 (are.complete asks.1) word has none in
+          let empty = none_occurs query game list changes of placements.0 placements.1 (are.complete asks.1) none in
           AreGameHits.asked asks (record {
             changes = changes;
             are_changes = of;
@@ -119,28 +100,37 @@ no_hits query filter number game is_tree changes of g found are word has none hi
           })
     ])
 
--- the nodes of a kept game are among those of kept games
-pub one_kept : (query : Query) (game : Game) (n : ℕ) → HaveKeptNodes query (game ∷ []) n → IsKeptGame query game.tree → tree.node_count game.tree ≡ n
-one_kept query game n have is = let same = KeptNodes-unique query (game ∷ []) (game ∷ []) (0 + tree.node_count game.tree) n (HaveKeptNodes.kept game HaveKeptNodes.nothing is) have refl in omega (arith, same)
+-- a list that is told to be empty, and one that isn't
+pub none_listed : (list : List ℕ) → length list ≡ 0 → list ≡ []
+none_listed [] none = refl
+none_listed (x ∷ xs) none = absurd (omega (arith, none))
 
--- ---- gathering one candidate after another
+pub some_listed : (list : List ℕ) (test : Bool) → test ≡ nat_eq (length list) 0 → test ≡ false → (i : ℕ) × Contains list i
+some_listed [] test is not = absurd (false≢true (sym not ∙ is))
+some_listed (x ∷ xs) test is not = (x, Contains-first x xs)
 
-module _ (changes : Deltas) (placements : List Placement) (g : ℕ) (found : List Candidate) where
-  -- exactly what begins as one of the first so many candidates is gathered
+-- what is true of each listed number
+pub all_listed : (list : List ℕ) (P : ℕ → Type 0) → ((i : ℕ) → Contains list i → P i) → All P list
+all_listed list P each k d lt = each (get_or list k d) (k, lt, get_or_default list k (get_or list k d) d lt)
+
+-- ---- gathering one placement after another
+
+module _ (changes : Deltas) (placements : List Placement) (list : List ℕ) where
+  -- exactly the occurrences of the first so many placements of the list are gathered
   abbrev pub IsGathered : ℕ → List Occurrence → Type 0
-  IsGathered k gathered = (o : Occurrence) → Contains gathered o ↔ BeginsAmong changes placements g found k o
+  IsGathered k gathered = (o : Occurrence) → Contains gathered o ↔ BeginsAmong changes placements list k o
 
   pub IsGathered-start : (gathered : List Occurrence) → gathered ≡ [] → IsGathered 0 gathered
   IsGathered-start gathered none o = (λ is_in. absurd (omega (arith, is_in.1, ap length none)), λ h. absurd (omega (arith, h.1)))
 
-  pub IsGathered-more : (k : ℕ) (c : Candidate) (old new : List Occurrence) → c ≡ candidate_at found k → IsGathered k old → ((o : Occurrence) → Contains new o ↔ (Contains old o ⊎ BeginsAs changes placements g c o)) → IsGathered (k + 1) new
-  IsGathered-more k c old new at so_far added o = (
+  pub IsGathered-more : (k i : ℕ) (old new : List Occurrence) → i ≡ get_or list k 0 → IsGathered k old → ((o : Occurrence) → Contains new o ↔ (Contains old o ⊎ IsOccurrenceOf changes placements i o)) → IsGathered (k + 1) new
+  IsGathered-more k i old new at so_far added o = (
     λ is_in. elim ((added o).0 is_in) [
       | inl before ↦ let (j, lt, begins) = (so_far o).0 before in (j, omega (arith, lt), begins)
-      | inr here ↦ (k, omega arith, subst (λ (d : Candidate). BeginsAs changes placements g d o) at here)
+      | inr here ↦ (k, omega arith, subst (λ n. IsOccurrenceOf changes placements n o) at here)
     ],
     λ (j, lt, begins). (added o).1 (elim (cases_eq j k) [
       | inr ne ↦ inl ((so_far o).1 (j, omega (arith, lt, ne), begins))
-      | inl same ↦ inr (subst (λ (d : Candidate). BeginsAs changes placements g d o) (sym at) (subst (λ i. BeginsAs changes placements g (candidate_at found i) o) same begins))
+      | inl same ↦ inr (subst (λ n. IsOccurrenceOf changes placements n o) (sym at) (subst (λ m. IsOccurrenceOf changes placements (get_or list m 0) o) same begins))
     ]),
   )

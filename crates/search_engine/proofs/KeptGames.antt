@@ -1,6 +1,8 @@
 -- Whether a game is kept, and games one after another.
 use Rattle.std.proofs.Common.{◌≡◌, ℕ, Bool, true, false, ◌+◌, ◌<◌, ◌≤◌, ◌↔◌, IsTrue, List, [], ◌∷◌, ◌++◌, Some, length, length-append, get_or, take, refl, sym, ap, ◌∙◌, subst, arith}
 use Rattle.std.specs.List.{slice_get}
+use Rattle.std.specs.Prelude.{All, Any, Contains}
+use Rattle.std.proofs.lemmas.List.Elements.{All-contains}
 use mir.Val.{bool_byte}
 use Rattle.std.proofs.lemmas.List.{take_more}
 use Rattle.std.proofs.lemmas.Option.{get_or_from_slice_get}
@@ -8,10 +10,12 @@ use Rattle.game_tree.specs.Tree as tree
 use Rattle.capture_board.specs.Deltas as deltas
 use Rattle.node_position.specs.Games.{AreNodeChanges, Game}
 use Rattle.pattern_images.specs.declared.query.Query.{Query}
+use Rattle.pattern_images.specs.ImageList.{placement_at}
 use Rattle.pattern_images.specs.Placements.{ArePlacements, Placement}
 use Rattle.pattern_images.specs.Query.{IsForBoard}
 use Rattle.pattern_images.proofs.OneList.{one_list}
-use Rattle.candidate_sieve.specs.Kept.{IsKept}
+use Rattle.candidate_sieve.specs.Kept.{HadCorners, IsKept, WereAllowed}
+use Rattle.candidate_sieve.proofs.KeptPlacements.{kept-at, kept-by}
 use Rattle.search_engine.specs.declared.item.Item.{Item}
 use Rattle.search_engine.specs.Items.{AreNumberedFrom, games_of}
 use Rattle.search_engine.specs.KeptGames.{AreKept, IsKeptGame}
@@ -34,6 +38,19 @@ module _ (query : Query) (game : tree.Tree) where
   -- a kept game is on a board on which the query looks
   pub kept_on_board : IsKeptGame query game → IsForBoard query game.shape
   kept_on_board is = (is.are_placements.sound is.kept.0 is.kept.1 is.kept.2).board
+
+-- a game is kept where one of the placements of which each cell was allowed covers only corners that stood so
+pub kept_listed : (changes : deltas.Deltas) (placements : List Placement) (list : List ℕ) → ((i : ℕ) → i < length placements → Contains list i ↔ WereAllowed changes (placement_at placements i)) → All (λ i. i < length placements) list
+    → Any (λ i. HadCorners changes (placement_at placements i)) list ↔ IsKept changes placements
+kept_listed changes placements list allowed in_range = (
+  λ (k, i, lt, at, corners).
+      let below = All-contains (λ i. i < length placements) list i in_range (k, lt, at) in
+      kept-by changes placements i below (record { cells = (allowed i below).0 (k, lt, at); corners = corners }),
+  λ is.
+      let (i, below, kept) = kept-at changes placements is in
+      let (k, lt, at) = (allowed i below).1 kept.cells in
+      (k, i, lt, at, kept.corners),
+)
 
 -- how many of the first games are kept, one game more
 pub AreKept-game : (query : Query) (games : List Game) (k : ℕ) (game : Game) (count : ℕ) (test : Bool) (more new : ℕ) → k < length games → slice_get games k ≡ Some game

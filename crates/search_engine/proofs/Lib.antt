@@ -6,10 +6,12 @@ mod GameHits
 mod GamesSearched
 mod ImagesOnShapes
 mod ItemLists
+mod ListedPlacements
+mod PlacementLists
+mod HitsKept
 pub mod KeptCounts
 mod KeptGames
 mod PossibleGames
-mod KeptSteps
 mod Gathering
 pub mod ToldKept
 mod JoinedPieces

@@ -1,5 +1,5 @@
--- The sets of a block's games on boards of one shape: a placement that holds at a node of a game is possible in it.
-use Rattle.std.proofs.Common.{◌≡◌, ℕ, ◌<◌, Option, Some, None, refl, sym, subst, ◌∙◌}
+-- The sets of a block's games on boards of one shape: a placement is possible in a game exactly where each of its cells was allowed.
+use Rattle.std.proofs.Common.{◌≡◌, ◌<◌, Option, Some, None, refl, sym, subst, ◌∙◌}
 use Rattle.std.specs.Option.{IsSomeAnd}
 use Rattle.kb_geometry.specs.declared.shape.Shape.{Shape}
 use Rattle.game_tree.specs.Tree.{Tree}
@@ -7,20 +7,26 @@ use Rattle.capture_board.specs.Deltas.{Deltas, node_count}
 use Rattle.node_position.specs.Games.{AreNodeChanges}
 use Rattle.pattern_images.specs.ImageList.{IsPlacedOn}
 use Rattle.pattern_images.specs.Placements.{Placement}
-use Rattle.line_matcher.specs.Occurrences.{HoldsAt}
 use Rattle.final_index.specs.declared.ever_sets.EverSets.{EverSets}
 use Rattle.candidate_sieve.specs.Candidates.{MeetsCells}
-use Rattle.candidate_sieve.proofs.CellsTold.{holds-were, were-meets}
+use Rattle.candidate_sieve.specs.Kept.{WereAllowed}
+use Rattle.candidate_sieve.proofs.CellsTold.{meets-were, were-meets}
 use Rattle.segment_store.specs.Planes.{IsGameOfPlanes}
 
 -- of the sets of a block's games on boards of one shape, those of a game on such a board
-pub possible_where_it_holds : (shape : Shape) (tree : Tree) (o : Option EverSets) → IsGameOfPlanes shape tree o → tree.shape ≡ shape → (changes : Deltas) → AreNodeChanges tree changes → (placement : Placement) (n : ℕ) → IsPlacedOn tree.shape placement → n < node_count changes → HoldsAt changes placement n
+pub possible_where_allowed : (shape : Shape) (tree : Tree) (o : Option EverSets) → IsGameOfPlanes shape tree o → tree.shape ≡ shape → (changes : Deltas) → AreNodeChanges tree changes → (placement : Placement) → IsPlacedOn tree.shape placement → WereAllowed changes placement
     → IsSomeAnd o (λ sets. MeetsCells shape sets placement)
-possible_where_it_holds shape tree None not same changes of placement n placed lt holds = absurd (not same)
-possible_where_it_holds shape tree (Some sets) is same changes of placement n placed lt holds =
+possible_where_allowed shape tree None not same changes of placement placed were = absurd (not same)
+possible_where_allowed shape tree (Some sets) is same changes of placement placed were =
     let on : changes.shape ≡ shape = of.lead.same_shape ∙ same in
     subst (λ (s : Shape). MeetsCells s sets placement) on
-    (were-meets changes sets (is.1 changes of) placement (subst (λ (s : Shape). IsPlacedOn s placement) (sym of.lead.same_shape) placed) (holds-were changes placement n lt holds))
+    (were-meets changes sets (is.1 changes of) placement (subst (λ (s : Shape). IsPlacedOn s placement) (sym of.lead.same_shape) placed) were)
+
+pub allowed_where_possible : (shape : Shape) (tree : Tree) (o : Option EverSets) → IsGameOfPlanes shape tree o → (changes : Deltas) → AreNodeChanges tree changes → 0 < node_count changes → (placement : Placement) → IsSomeAnd o (λ sets. MeetsCells shape sets placement) → WereAllowed changes placement
+allowed_where_possible shape tree None not changes of some placement possible = absurd possible
+allowed_where_possible shape tree (Some sets) is changes of some placement possible =
+    let on : changes.shape ≡ shape = of.lead.same_shape ∙ is.0 in
+    meets-were changes sets (is.1 changes of) placement some (subst (λ (s : Shape). MeetsCells s sets placement) (sym on) possible)
 
 -- a game whose sets are there is on a board of the shape
 pub on_shape_where_there : (shape : Shape) (tree : Tree) (o : Option EverSets) → IsGameOfPlanes shape tree o → ¬ (o ≡ None) → tree.shape ≡ shape

@@ -1,5 +1,5 @@
 -- Which placements the games of a block may have: words of the private functions that search a block.
-use Rattle.std.specs.Prelude.{◌≡◌, ◌≢◌, ℕ, ◌<◌, ◌⊎◌, ◌↔◌, ◌++◌, Any, Contains, List, None, Some, length, slice_index_or, true}
+use Rattle.std.specs.Prelude.{◌≡◌, ◌≢◌, ℕ, ◌<◌, ◌≤◌, ◌⊎◌, ◌↔◌, ◌++◌, [], Any, Contains, List, None, Some, length, slice_index_or}
 use Rattle.std.specs.Int.{bit_at}
 use Rattle.std.specs.List.{slice_get}
 use Rattle.kb_geometry.specs.declared.shape.Shape.{Shape}
@@ -12,11 +12,15 @@ use Rattle.pattern_images.specs.Placements.{ArePlacements, Placement}
 use Rattle.info_filter.specs.declared.filter.Filter.{Filter}
 use Rattle.info_filter.specs.Filter.{Accepts}
 use Rattle.line_matcher.specs.declared.occurrence.Occurrence.{Occurrence}
-use Rattle.line_matcher.specs.Occurrences.{HoldsAt, begins_at}
+use Rattle.line_matcher.specs.Occurrences.{HoldsAt}
 use Rattle.final_index.specs.Planes.{PlaneGames}
 use Rattle.candidate_sieve.specs.declared.candidates.Candidate.{Candidate}
 use Rattle.candidate_sieve.specs.Candidates.{IsPossibleIn}
+use Rattle.candidate_sieve.specs.Kept.{WereAllowed}
+use Rattle.run_matcher.specs.PlacementOccurrences.{IsOccurrenceOf}
 use Rattle.search_engine.specs.Searching.{IsCovered}
+
+-- ---- words with a bit for each game
 
 -- the bit of a place is set, if it is to be set, and the others are as before
 pub record IsWithBit (before at : ℕ) (set : Type 0) (after : ℕ) : Type 0 where
@@ -28,9 +32,71 @@ abbrev pub AreAccepted : Filter → List Game → ℕ → Type 0
 AreAccepted filter games word = (g : ℕ) (game : Game) → slice_get games g ≡ Some game →
     (bit_at word g ≡ 1) ↔ Accepts filter game.tree.info
 
+-- the place is that of the first bit of a word from another place on
+pub record IsNextBit (word from at : ℕ) : Type 0 where
+  pub below : at < 64
+  pub there : from ≤ at
+  pub set : bit_at word at ≡ 1
+  pub first : (g : ℕ) → from ≤ g → g < at → bit_at word g ≡ 0
+
+-- ---- the placements that a game may have, told by a property of their numbers
+
+-- they are placements on the game's board
+abbrev pub AreInRangeFor : Query → Tree → (ℕ → Type 0) → Type 0
+AreInRangeFor query tree may_have = (placements : List Placement) →
+    ArePlacements query tree.shape placements → (i : ℕ) → may_have i → i < length placements
+
+-- each placement that holds at a node of the game is among them
+abbrev pub AreCompleteFor : Query → Tree → (ℕ → Type 0) → Type 0
+AreCompleteFor query tree may_have = (changes : Deltas) (placements : List Placement) →
+    AreNodeChanges tree changes → ArePlacements query tree.shape placements → (i n : ℕ) →
+    i < length placements → n < node_count changes →
+    HoldsAt changes (placement_at placements i) n → may_have i
+
+-- they are exactly those placements of which each cell was allowed at some node
+abbrev pub AreAllowedFor : Query → Tree → (ℕ → Type 0) → Type 0
+AreAllowedFor query tree may_have = (changes : Deltas) (placements : List Placement) →
+    AreNodeChanges tree changes → 0 < node_count changes →
+    ArePlacements query tree.shape placements → (i : ℕ) → i < length placements →
+    may_have i ↔ WereAllowed changes (placement_at placements i)
+
+-- They are those for a filter: there is none, if the filter refuses the game, and else each
+-- placement that holds in it is one.
+pub record AreCandidatesFor (query : Query) (filter : Filter) (tree : Tree)
+    (may_have : ℕ → Type 0) : Type 0 where
+  pub accepted : (i : ℕ) → may_have i → Accepts filter tree.info
+  pub complete : Accepts filter tree.info → AreCompleteFor query tree may_have
+
+-- ---- the same for the games of a block, by their places
+
+-- those of each game are placements on its board
+abbrev pub AreInRange : Query → List Game → (ℕ → ℕ → Type 0) → Type 0
+AreInRange query games may_have = (g : ℕ) (game : Game) → slice_get games g ≡ Some game →
+    AreInRangeFor query game.tree (may_have g)
+
+-- those of each game that has one are complete, if its board's shape is among these
+abbrev pub AreComplete : Query → List Shape → List Game → (ℕ → ℕ → Type 0) → Type 0
+AreComplete query shapes games may_have = (g : ℕ) (game : Game) → slice_get games g ≡ Some game →
+    (i : ℕ) → may_have g i → Contains shapes game.tree.shape →
+    AreCompleteFor query game.tree (may_have g)
+
+-- those of each game are those for the filter
+abbrev pub AreCandidatesOf : Query → Filter → List Game → (ℕ → ℕ → Type 0) → Type 0
+AreCandidatesOf query filter games may_have = (g : ℕ) (game : Game) →
+    slice_get games g ≡ Some game → AreCandidatesFor query filter game.tree (may_have g)
+
+-- those of each game that is asked for and on a board of one of the shapes are those of which each
+-- cell was allowed
+abbrev pub AreAllowed : Query → List Shape → List Game → ℕ → (ℕ → ℕ → Type 0) → Type 0
+AreAllowed query shapes games asked may_have = (g : ℕ) (game : Game) →
+    slice_get games g ≡ Some game → bit_at asked g ≡ 1 → IsCovered query shapes game.tree.shape →
+    AreAllowedFor query game.tree (may_have g)
+
+-- ---- candidates
+
 -- the placement with number i is a candidate of game g
 abbrev pub IsCandidate : List Candidate → ℕ → ℕ → Type 0
-IsCandidate found i g =
+IsCandidate found g i =
     Any (λ (c : Candidate). (c.placement ≡ i) × (bit_at c.games g ≡ 1)) found
 
 -- no candidate at all
@@ -41,50 +107,9 @@ no_candidate = record { placement = 0; games = 0 }
 abbrev pub candidate_at : List Candidate → ℕ → Candidate
 candidate_at found j = slice_index_or found j no_candidate
 
--- one of the first so many candidates has the bit of game g
-abbrev pub HaveBit : List Candidate → ℕ → ℕ → Type 0
-HaveBit found k g = (j : ℕ) × (j < k) × (bit_at (candidate_at found j).games g ≡ 1)
-
--- the candidates of game g, which has this tree, are placements on its board
-abbrev pub AreInRangeFor : Query → Tree → ℕ → List Candidate → Type 0
-AreInRangeFor query tree g found = (placements : List Placement) →
-    ArePlacements query tree.shape placements → (c : Candidate) → Contains found c →
-    bit_at c.games g ≡ 1 → c.placement < length placements
-
--- each placement that holds at a node of game g, which has this tree, is a candidate of it
-abbrev pub AreCompleteFor : Query → Tree → ℕ → List Candidate → Type 0
-AreCompleteFor query tree g found = (changes : Deltas) (placements : List Placement) →
-    AreNodeChanges tree changes → ArePlacements query tree.shape placements → (i n : ℕ) →
-    i < length placements → n < node_count changes →
-    HoldsAt changes (placement_at placements i) n → IsCandidate found i g
-
--- the candidates of each game are placements on its board
-abbrev pub AreInRange : Query → List Game → List Candidate → Type 0
-AreInRange query games found = (g : ℕ) (game : Game) → slice_get games g ≡ Some game →
-    AreInRangeFor query game.tree g found
-
--- The candidates of game g, which has this tree, are those for a filter: it has none, if the filter
--- refuses it, and else each placement that holds in it is one.
-pub record AreCandidatesFor (query : Query) (filter : Filter) (tree : Tree) (g : ℕ)
-    (found : List Candidate) : Type 0 where
-  pub accepted : (c : Candidate) → Contains found c → bit_at c.games g ≡ 1 →
-      Accepts filter tree.info
-  pub complete : Accepts filter tree.info → AreCompleteFor query tree g found
-
--- the candidates of each game are those for the filter
-abbrev pub AreCandidatesOf : Query → Filter → List Game → List Candidate → Type 0
-AreCandidatesOf query filter games found = (g : ℕ) (game : Game) → slice_get games g ≡ Some game →
-    AreCandidatesFor query filter game.tree g found
-
--- the candidates of each game that has one are complete, if its board's shape is among these
-abbrev pub AreComplete : Query → List Shape → List Game → List Candidate → Type 0
-AreComplete query shapes games found = (g : ℕ) (game : Game) → slice_get games g ≡ Some game →
-    HaveBit found (length found) g → Contains shapes game.tree.shape →
-    AreCompleteFor query game.tree g found
-
 -- The list grows by candidates of games on boards of the shape of some planes: by placements on
--- these boards, for games that are there and asked for. If the shape is covered, all that are
--- possible are added.
+-- these boards, for games that are there and asked for and may have them. If the shape is covered,
+-- all that are possible are added.
 pub record AreAddedOn (query : Query) (shapes : List Shape) (planes : PlaneGames) (asked : ℕ)
     (old new : List Candidate) : Type 0 where
   pub more : List Candidate
@@ -93,23 +118,38 @@ pub record AreAddedOn (query : Query) (shapes : List Shape) (planes : PlaneGames
       (c : Candidate) → Contains more c → c.placement < length placements
   pub there : (c : Candidate) (g : ℕ) → Contains more c → g < 64 → bit_at c.games g ≡ 1 →
       (bit_at asked g ≡ 1) × (slice_index_or planes.games g None ≢ None)
+  pub sound : (placements : List Placement) → ArePlacements query planes.shape placements →
+      (c : Candidate) (g : ℕ) → Contains more c → g < 64 → bit_at c.games g ≡ 1 →
+      IsPossibleIn planes g (placement_at placements c.placement)
   pub complete : IsCovered query shapes planes.shape → (placements : List Placement) →
       ArePlacements query planes.shape placements → (i g : ℕ) → i < length placements → g < 64 →
-      bit_at asked g ≡ 1 → IsPossibleIn planes g (placement_at placements i) → IsCandidate more i g
+      bit_at asked g ≡ 1 → IsPossibleIn planes g (placement_at placements i) → IsCandidate more g i
 
--- the word has the bits of the games with one of the first so many candidates
-abbrev pub HasGamesOf : List Candidate → ℕ → ℕ → Type 0
-HasGamesOf found k word = (g : ℕ) → (bit_at word g ≡ 1) ↔ HaveBit found k g
+-- ---- lists of placements, one for each game
 
--- the occurrence is of a candidate of game g, and begins in the game with these changes
-pub record BeginsAs (changes : Deltas) (placements : List Placement) (g : ℕ) (c : Candidate)
-    (o : Occurrence) : Type 0 where
-  pub bit : bit_at c.games g ≡ 1
-  pub placement : o.placement ≡ c.placement
-  pub node : o.node < node_count changes
-  pub begins : begins_at changes (placement_at placements c.placement) o.node ≡ true
+-- the list of a game
+abbrev pub list_of : List (List ℕ) → ℕ → List ℕ
+list_of lists g = slice_index_or lists g []
 
--- the occurrence is of one of the first so many candidates
-abbrev pub BeginsAmong : Deltas → List Placement → ℕ → List Candidate → ℕ → Occurrence → Type 0
-BeginsAmong changes placements g found k o =
-    (j : ℕ) × (j < k) × BeginsAs changes placements g (candidate_at found j) o
+-- the placement with number i is in the list of game g
+abbrev pub IsListed : List (List ℕ) → ℕ → ℕ → Type 0
+IsListed lists g i = Contains (list_of lists g) i
+
+-- one of the first so many candidates has the bit of game g, and is this placement
+abbrev pub IsAmong : List Candidate → ℕ → ℕ → ℕ → Type 0
+IsAmong found k g i = (j : ℕ) × (j < k) × ((candidate_at found j).placement ≡ i)
+    × (bit_at (candidate_at found j).games g ≡ 1)
+
+-- each game has the placements of the first so many candidates with its bit
+abbrev pub AreByGame : List Candidate → ℕ → List (List ℕ) → Type 0
+AreByGame found k lists = (g i : ℕ) → g < 64 → IsListed lists g i ↔ IsAmong found k g i
+
+-- a candidate is added to the lists of the games with a bit below a place
+abbrev pub IsAddedBelow : Candidate → ℕ → List (List ℕ) → List (List ℕ) → Type 0
+IsAddedBelow c end old new = (g i : ℕ) → g < 64 → IsListed new g i ↔
+    (IsListed old g i ⊎ ((g < end) × (bit_at c.games g ≡ 1) × (i ≡ c.placement)))
+
+-- the occurrence is of one of the first so many placements of a list
+abbrev pub BeginsAmong : Deltas → List Placement → List ℕ → ℕ → Occurrence → Type 0
+BeginsAmong changes placements list k o =
+    (j : ℕ) × (j < k) × IsOccurrenceOf changes placements (slice_index_or list j 0) o

@@ -1,14 +1,21 @@
 // Bits of a word, one for each game of a block.
-ghost use Rattle.std.specs.Prelude.{◌≡◌, ◌<◌, ◌↔◌, IsTrue};
+ghost use Rattle.std.specs.Prelude.{◌≡◌, ◌<◌, ◌≤◌, ℕ, IfNone, IfSome, IsTrue};
 ghost use Rattle.std.specs.Int.{bit_at};
-ghost use Rattle.search_engine.specs.BlockCandidates.{IsWithBit};
+ghost use Rattle.search_engine.specs.BlockCandidates.{IsNextBit, IsWithBit};
 
-// Whether the bit of a place is set.
-pub(crate) fn has_bit(word: u64, at: usize) -> bool
-    requires { at < 64 }
-    ensures { IsTrue result ↔ (bit_at word at ≡ 1) }
+// The place of the first bit of a word from a place on.
+pub(crate) fn next_bit(word: u64, from: usize) -> Option<usize>
+    ensures some { IfSome result (IsNextBit word from) }
+    ensures none { IfNone result ((g : ℕ) → from ≤ g → g < 64 → bit_at word g ≡ 0) }
 {
-    word >> at & 1 == 1
+    if from >= 64 {
+        return None;
+    }
+    let rest = word >> from;
+    if rest == 0 {
+        return None;
+    }
+    Some(from + rest.trailing_zeros() as usize)
 }
 
 // The word with the bit of a place set, if it is to be set.

@@ -1,36 +1,66 @@
 // Which placements the games of a block may have.
-ghost use Rattle.std.specs.Prelude.{OnOk, length};
+ghost use Rattle.std.specs.Prelude.{OnOk};
 ghost use Rattle.info_filter.specs.declared.filter.Filter.{Filter};
 ghost use Rattle.search_engine.specs.BlockCandidates.{
   AreAccepted,
   AreAddedOn,
+  AreAllowed,
   AreCandidatesOf,
   AreComplete,
   AreInRange,
-  HasGamesOf,
+  IsCandidate,
+  IsListed,
 };
 ghost use Rattle.search_engine.specs.Searching.{AreCovered};
 
+use crate::game_placements::GamePlacements;
 use crate::matchers::Matchers;
 use candidate_sieve::{Candidate, add_candidates};
 use final_index::Planes;
 use kb_geometry::NoMemory;
 use segment_store::Block;
 
-// Finds the placements that games of a block may have, among the games that are asked for. What was
-// in the list before is gone.
-pub(crate) fn find_candidates(
+// Finds the placements that each game of a block may have, among the games that are asked for. What
+// was found before is gone.
+pub(crate) fn find_placements(
+    matchers: &Matchers,
+    block: &Block,
+    asked: u64,
+    candidates: &mut Vec<Candidate>,
+    placements: &mut GamePlacements,
+) -> Result<(), NoMemory>
+    ensures in_range { OnOk result (AreInRange matchers.now.query block.now
+        (IsListed placements.new)) }
+    ensures complete { OnOk result (AreComplete matchers.now.query matchers.now.shapes block.now
+        (IsListed placements.new)) }
+    ensures allowed { OnOk result (AreAllowed matchers.now.query matchers.now.shapes block.now asked
+        (IsListed placements.new)) }
+    ensures found { OnOk result ((filter : Filter) → AreAccepted filter block.now asked →
+        AreCovered matchers.now.query matchers.now.shapes block.now →
+        AreCandidatesOf matchers.now.query filter block.now (IsListed placements.new)) }
+{
+    let _count = block.len();
+    find_candidates(matchers, block, asked, candidates)?;
+    placements.fill(candidates)
+}
+
+// Finds the placements that games of a block may have, each with these games, among the games that
+// are asked for. What was in the list before is gone.
+fn find_candidates(
     matchers: &Matchers,
     block: &Block,
     asked: u64,
     found: &mut Vec<Candidate>,
 ) -> Result<(), NoMemory>
-    ensures in_range { OnOk result (AreInRange matchers.now.query block.now found.new.items) }
+    ensures in_range { OnOk result (AreInRange matchers.now.query block.now
+        (IsCandidate found.new.items)) }
     ensures complete { OnOk result (AreComplete matchers.now.query matchers.now.shapes block.now
-        found.new.items) }
+        (IsCandidate found.new.items)) }
+    ensures allowed { OnOk result (AreAllowed matchers.now.query matchers.now.shapes block.now asked
+        (IsCandidate found.new.items)) }
     ensures found { OnOk result ((filter : Filter) → AreAccepted filter block.now asked →
         AreCovered matchers.now.query matchers.now.shapes block.now →
-        AreCandidatesOf matchers.now.query filter block.now found.new.items) }
+        AreCandidatesOf matchers.now.query filter block.now (IsCandidate found.new.items)) }
 {
     let _count = block.len();
     found.clear();
@@ -54,16 +84,5 @@ fn add_on_shape(
     let Some(matcher) = matchers.find(planes.shape()) else {
         return Ok(());
     };
-    add_candidates(planes, matcher.images, matcher.runs.wants(), asked, found)
-}
-
-// The games that have a candidate, a bit for each.
-pub(crate) fn games_of(candidates: &[Candidate]) -> u64
-    ensures { HasGamesOf candidates.now (length candidates.now) result }
-{
-    let mut games = 0;
-    for candidate in candidates {
-        games |= candidate.games;
-    }
-    games
+    add_candidates(planes, matcher.images, matcher.wants(), asked, found)
 }

@@ -1,5 +1,5 @@
 // The hits of a query in one game.
-ghost use Rattle.std.specs.Prelude.{◌≡◌, ◌↔◌, ◌+◌, ◌<◌, ◌≤◌, [], ◌∷◌, ℕ, IsTrue, OnOk, length};
+ghost use Rattle.std.specs.Prelude.{◌≡◌, ◌↔◌, ◌<◌, Contains, IsTrue, OnOk, length};
 ghost use Rattle.game_tree.specs.Tree.{node_count};
 ghost use Rattle.node_position.specs.Games.{AreNodeChanges};
 ghost use Rattle.pattern_images.specs.Placements.{ArePlacements};
@@ -8,50 +8,41 @@ ghost use Rattle.continuation_table.specs.Continuation.{HoldsAt};
 ghost use Rattle.line_matcher.specs.Occurrences.{occurrences_in};
 ghost use Rattle.search_engine.specs.BlockCandidates.{AreCompleteFor, AreInRangeFor};
 ghost use Rattle.search_engine.specs.Hits.{AreHitsIn, AreHitsOf, IsHit, LooksAt};
-ghost use Rattle.search_engine.specs.KeptGames.{HaveKeptNodes};
 ghost use Rattle.search_engine.specs.Searching.{AreHitsAdded};
 
-use crate::matchers::BoardMatcher;
-use crate::occurrences::{Room, occurrences};
-use candidate_sieve::Candidate;
-use capture_board::{NodeDeltas, Steps};
+use crate::occurrences::occurrences;
+use capture_board::NodeDeltas;
 use continuation_table::next_below;
 use game_tree::GameTree;
 use kb_geometry::NoMemory;
 use line_matcher::Occurrence;
 use pattern_images::{Hit, Images, Query};
+use run_matcher::{Gathered, RunMatcher};
 use segment_store::FinishedGame;
 use std::alloc::Global;
-use std::sync::ledger::Ledger;
 
-// Adds the hits in the game with this number, at this place of its block, on whose board the query
-// looks.
-pub(crate) fn add_hits_in<L: Ledger>(
+// Adds the hits in the game with this number, on whose board the query looks. It may have these
+// placements.
+pub(crate) fn add_hits_in(
     alloc: Global,
     query: &Query,
     number: u32,
-    at: usize,
     game: &FinishedGame,
-    matcher: &BoardMatcher,
-    candidates: &[Candidate],
-    room: &mut Room,
+    matcher: &RunMatcher,
+    placements: &[u32],
+    gathered: &mut Gathered,
     hits: &mut Vec<Hit>,
-    steps: &mut Steps<L>,
 ) -> Result<(), NoMemory>
-    requires at { at < 64 }
     requires shape { matcher.now.images.now.shape ≡ game.now.tree.shape }
-    requires placements { ArePlacements query.now game.now.tree.shape
+    requires images { ArePlacements query.now game.now.tree.shape
         matcher.now.images.now.placements }
-    requires in_range { AreInRangeFor query.now game.now.tree at candidates.now }
-    requires complete { AreCompleteFor query.now game.now.tree at candidates.now }
-    ensures hits { OnOk result (AreHitsAdded (AreHitsIn query.now number game.now.tree)
+    requires in_range { AreInRangeFor query.now game.now.tree (Contains placements.now) }
+    requires complete { AreCompleteFor query.now game.now.tree (Contains placements.now) }
+    ensures { OnOk result (AreHitsAdded (AreHitsIn query.now number game.now.tree)
         hits.old.items hits.new.items) }
-    ensures ticks { (n : ℕ) → HaveKeptNodes query.now (game.now ∷ []) n →
-        steps.new ≤ steps.old + n }
-    ensures grows { steps.old ≤ steps.new }
 {
     let deltas = game.deltas();
-    let found = occurrences(alloc, game, deltas, at, matcher, candidates, room, steps)?;
+    let found = occurrences(alloc, game, deltas, matcher, placements, gathered)?;
     add_hits(query, number, game, deltas, matcher.images, &found, hits)
 }
 

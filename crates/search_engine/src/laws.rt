@@ -1,12 +1,12 @@
 // Laws. Each stands as a contract of a function that does nothing.
-ghost use Rattle.std.specs.Prelude.{◌≡◌, ◌≤◌, ◌+◌, ◌++◌, ℕ, All, List, length};
-ghost use Rattle.game_tree.specs.Tree.{IsTree};
+ghost use Rattle.std.specs.Prelude.{◌≡◌, ◌≤◌, ◌+◌, ◌++◌, ℕ, All, Contains, List, length};
+ghost use Rattle.game_tree.specs.Tree.{IsTree, Tree};
 ghost use Rattle.info_filter.specs.declared.filter.Filter.{Filter};
 ghost use Rattle.node_position.specs.Games.{Game};
 ghost use Rattle.pattern_images.specs.declared.hit.Hit.{Hit};
 ghost use Rattle.pattern_images.specs.declared.query.Query.{Query};
-ghost use Rattle.search_engine.specs.Hits.{AreHitsFrom};
-ghost use Rattle.search_engine.specs.KeptGames.{AreKept, HaveKeptNodes};
+ghost use Rattle.search_engine.specs.Hits.{AreGameHits, AreHitsFrom};
+ghost use Rattle.search_engine.specs.KeptGames.{AreKept, HaveKeptNodes, IsKeptGame};
 ghost use Rattle.search_engine.specs.Nodes.{nodes_of};
 
 /// The hits of games in two parts are those of the first part, and then those of the second one,
@@ -28,6 +28,13 @@ pub fn games_have_one_list_of_hits()
         (a b : List Hit) →
         All (λ (g : Game). IsTree g.tree) games →
         AreHitsFrom first query filter games a → AreHitsFrom first query filter games b → a ≡ b }
+{}
+
+/// A game with a hit is kept for the query, whatever the filter.
+pub fn a_game_with_a_hit_is_kept()
+    ensures { (query : Query) (filter : Filter) (number : ℕ) (tree : Tree) (hits : List Hit)
+        (hit : Hit) → AreGameHits query filter number tree hits → Contains hits hit →
+        IsKeptGame query tree }
 {}
 
 /// So many games are kept for a query, and no other number of them.

@@ -21,7 +21,6 @@ ghost use Rattle.search_engine.specs.ImagesMade.{AreImagesOf};
 
 use crate::shape_list::ShapeList;
 use kb_geometry::{NoMemory, Shape};
-use line_matcher::Matcher;
 use pattern_images::{Images, Query, images};
 use run_matcher::RunMatcher;
 use std::alloc::Global;
@@ -90,33 +89,12 @@ fn images_on(alloc: Global, query: &Query, shapes: &[Shape]) -> Result<Vec<Image
     Ok(made)
 }
 
-// The images on boards of one shape, made ready to be looked for by walks and by runs.
-#[derive(Debug, Drop)]
-pub(crate) struct BoardMatcher<'a> {
-    pub(crate) images: &'a Images,
-    pub(crate) walk: Matcher<'a>,
-    pub(crate) runs: RunMatcher<'a>,
-    ghost walks: { walk.images.now ≡ images.now },
-    ghost by_runs: { runs.images.now ≡ images.now },
-}
-
-impl<'a> BoardMatcher<'a> {
-    // Makes images ready.
-    fn new(alloc: Global, images: &'a Images) -> Result<BoardMatcher<'a>, NoMemory>
-        ensures { IfOk result (λ made. made.images.now ≡ images.now) }
-    {
-        let walk = Matcher::new(alloc, images)?;
-        let runs = RunMatcher::new(alloc, images)?;
-        Ok(BoardMatcher { images, walk, runs })
-    }
-}
-
 // The images of a query on boards of several shapes, made ready to be looked for.
 #[derive(Debug, Drop)]
 pub(crate) struct Matchers<'a> {
     query: &'a Query,
     shapes: &'a ShapeList,
-    matchers: Vec<BoardMatcher<'a>>,
+    matchers: Vec<RunMatcher<'a>>,
 }
 
 impl<'a> Model for Matchers<'a> {
@@ -152,7 +130,7 @@ impl<'a> Matchers<'a> {
     }
 
     // The matcher for boards of this shape, if there is one.
-    pub(crate) fn find(&self, shape: Shape) -> Option<&BoardMatcher<'a>>
+    pub(crate) fn find(&self, shape: Shape) -> Option<&RunMatcher<'a>>
         ensures shape { IfSome result (λ found. found.now.images.now.shape ≡ shape) }
         ensures asked { IfSome result (λ found. IsForBoard self.now.query shape) }
         ensures placements { IfSome result (λ found.
@@ -168,12 +146,12 @@ impl<'a> Matchers<'a> {
 }
 
 // The images made ready, in their order.
-fn matchers_of<'a>(alloc: Global, images: &'a [Images]) -> Result<Vec<BoardMatcher<'a>>, NoMemory>
+fn matchers_of<'a>(alloc: Global, images: &'a [Images]) -> Result<Vec<RunMatcher<'a>>, NoMemory>
     ensures { IfOk result (λ made. map (λ m. m.images.now) made.items ≡ images.now) }
 {
     let mut made = Vec::new(alloc);
     for on_shape in images {
-        made.push(BoardMatcher::new(alloc, on_shape)?)?;
+        made.push(RunMatcher::new(alloc, on_shape)?)?;
     }
     Ok(made)
 }

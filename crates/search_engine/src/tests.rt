@@ -200,12 +200,12 @@ fn variations_that_are_short_and_long(rt: HostRuntime) -> Result<(), Fail> {
     Ok(())
 }
 
-// A board of nine points that is set black and white by turns: 16 changes for each point, whose runs
-// are looked at, and 18, by a walk. The third point of the third row is black at each other node.
+// A board of nine points that is set black and white by turns, so that each point has as many runs as
+// there are nodes. The third point of the third row is black at each other node.
 #[test]
-fn few_changes_by_runs_and_many_by_a_walk(rt: HostRuntime) -> Result<(), Fail> {
+fn points_with_few_and_with_many_runs(rt: HostRuntime) -> Result<(), Fail> {
     let alloc = rt.alloc();
-    for pairs in [8u32, 9] {
+    for pairs in [1u32, 9, 40] {
         let mut text = String::new(alloc);
         let mut wanted: Vec<Seen> = Vec::new(alloc);
         text.push_str("(;SZ[3]")?;

@@ -5,6 +5,6 @@ use Rattle.search_engine.proofs.kept_games.kept_of_block.Given as goal
 
 abbrev pub invariant-loop-at : goal.invariant-loop-at
 invariant-loop-at l = record {
-  kept : AreCovered l.images.query l.images.shapes l.block → AreKept l.images.query (take l.at l.block) l.count;
+  kept : AreCovered l.matchers.query l.matchers.shapes l.block → AreKept l.matchers.query (take l.at l.block) l.count;
   most : l.count ≤ l.at;
 }

@@ -19,14 +19,14 @@ loop-item-init c = record { kept = AreKept.nothing; most = omega arith }
 
 pub loop-item-preserved : goal.loop-item-preserved
 loop-item-preserved c =
-    let query = c.args.images.now.query in
+    let query = c.args.matchers.now.query in
     let items = c.args.items.now in
     let k = c.loop-item.item-index in
-    let here = c.kept_of_block-count.ensures.kept (All-of_part (λ (g : Game). IsCovered query c.args.images.now.shapes g.tree.shape) (λ (j : Item). j.block.now) items k c.item-item.result c.loop-item-test.true c.item-item.is c.requires.covered) in
+    let here = c.kept_of_block-count.ensures.kept (All-of_part (λ (g : Game). IsCovered query c.args.matchers.now.shapes g.tree.shape) (λ (j : Item). j.block.now) items k c.item-item.result c.loop-item-test.true c.item-item.is c.requires.covered) in
     record {
       kept = AreKept-block query items k c.item-item.result c.loop-item.count c.kept_of_block-count.result c.loop-item-test.true c.item-item.is c.loop-item.invariant.kept here;
       most = omega (arith, c.loop-item.invariant.most, c.kept_of_block-count.ensures.most, games_longer items k c.item-item.result c.loop-item-test.true c.item-item.is);
     }
 
 pub returns : goal.returns
-returns c = subst (λ is. AreKept c.args.images.now.query (games_of is) c.loop-item.count) (take_all c.loop-item.item-index c.args.items.now (omega (arith, c.loop-item-test.false))) c.loop-item.invariant.kept
+returns c = subst (λ is. AreKept c.args.matchers.now.query (games_of is) c.loop-item.count) (take_all c.loop-item.item-index c.args.items.now (omega (arith, c.loop-item-test.false))) c.loop-item.invariant.kept
