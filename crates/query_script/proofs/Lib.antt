@@ -22,3 +22,7 @@ pub mod SomeStatements
 pub mod OneList
 mod PlayerRows
 mod JoinedConditions
+mod LongWords
+mod OptionWords
+mod OptionLists
+mod LawfulWords

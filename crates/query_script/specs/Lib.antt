@@ -1,5 +1,6 @@
 -- Words that contracts of public functions rest on.
 pub mod Bytes
+pub mod CommandWords
 pub mod Conditions
 pub mod Script
 pub mod Search
@@ -7,6 +8,7 @@ pub mod Statements
 pub mod Texts
 pub mod Words
 -- Words of private functions.
+pub mod CommandLine
 pub mod Lines
 pub mod Progress
 pub mod Reading

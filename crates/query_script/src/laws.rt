@@ -1,7 +1,9 @@
 // Laws of the words for scripts, for who reads a contract of this crate.
 ghost use Rattle.std.specs.Prelude.{◌≡◌, ◌⊎◌, ℕ, List};
+ghost use Rattle.query_script.specs.declared.command_words.Words.{Words};
 ghost use Rattle.query_script.specs.declared.statement.Placed.{Placed};
 ghost use Rattle.query_script.specs.declared.statement.TheConstants.{MAX_SCRIPT};
+ghost use Rattle.query_script.specs.CommandWords.{AreLawful};
 ghost use Rattle.query_script.specs.Script.{
   AreStatements,
   IsLeastBadLine,
@@ -28,4 +30,11 @@ pub fn a_script_has_its_statements_or_a_bad_line()
         IsLeastBadLine (script_lines text) j → IsLeastBadLine (script_lines text) k → j ≡ k }
     ensures not_both { (text : List ℕ) (placed : List Placed) (k : ℕ) →
         AreStatements (script_lines text) placed → ¬ IsLeastBadLine (script_lines text) k }
+{}
+
+/// Lawful words of the command line say one thing only, which is what
+/// [`read_words`](crate::read_words) answers.
+pub fn lawful_words_say_one_thing()
+    ensures { (words : List (List ℕ)) (one other : Words) →
+        AreLawful words one → AreLawful words other → one ≡ other }
 {}

@@ -1,11 +1,14 @@
-//! The script: its grammar, and the printed texts of its statements.
+//! The script: its grammar, and the printed texts of its statements; and the words of the command
+//! line.
 //!
 //! Stands on kb_geometry, game_tree, pattern_images, pattern_syntax, continuation_table,
-//! info_filter, dyer_signature and the library bstr, which splits the lines. The layer above uses
-//! that `read_script` gives the statements of a script in the grammar, or else its least bad line,
-//! and that `print_hits` and the other printers append the texts.
+//! info_filter, dyer_signature and the libraries bstr, which splits the lines, and clap, which reads
+//! the words of the command line. The layer above uses that `read_script` gives the statements of a
+//! script in the grammar, or else its least bad line, that `print_hits` and the other printers
+//! append the texts, and that `read_words` tells what lawful words say.
 #![tactic(auto)]
 
+mod command_words;
 mod conditions;
 mod head;
 mod kept_words;
@@ -23,7 +26,11 @@ mod statements;
 mod word;
 mod words;
 
-pub use laws::{a_script_has_its_statements_or_a_bad_line, the_longest_script_has_1048576_bytes};
+pub use command_words::{Words, WordsError, read_words};
+pub use laws::{
+    a_script_has_its_statements_or_a_bad_line, lawful_words_say_one_thing,
+    the_longest_script_has_1048576_bytes,
+};
 pub use list_text::{
     print_double, print_doubles_head, print_found_game, print_kept, print_players,
     print_signature_head,

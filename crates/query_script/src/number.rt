@@ -33,7 +33,7 @@ fn number_of(word: &Word) -> Option<u64>
 }
 
 // The value of decimal digits.
-fn value_of(digits: &[u8]) -> Option<u64>
+pub(crate) fn value_of(digits: &[u8]) -> Option<u64>
     requires { length digits.now ≤ 10 }
     ensures some { IfSome result (λ n. AllDigits 10 digits.now × (digits_value 10 digits.now ≡ n)) }
     ensures none { result ≡ None → ¬ AllDigits 10 digits.now }

@@ -1,4 +1,5 @@
 // Scripts that are read or refused, worked out by hand from the grammar.
+mod command_words;
 mod conditions;
 mod kept;
 mod printed;
