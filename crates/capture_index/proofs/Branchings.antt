@@ -188,14 +188,3 @@ parent-there deltas are n lt e low =
 
 pub parent-before : (deltas : Deltas) (n m : ℕ) → Some m ≡ parent_of deltas n → m + 1 ≡ n → parent_of deltas n ≡ Some (n - 1)
 parent-before deltas n m e next = let is : m ≡ n - 1 = omega (arith, next) in sym e ∙ ap (λ (i : ℕ). Some i) is
-
--- ---- how many there are
-
--- branches that ascend stand at nodes behind as many others
-node-from : (branches : List Branch) → AreAscending branches → (k : ℕ) (d : Branch) → k < length branches → k ≤ (get_or branches k d).node
-node-from branches ascending zero d lt = omega arith
-node-from branches ascending (suc k) d lt = omega (arith, node-from branches ascending k d (omega arith), ascending k (suc k) d d (omega arith) lt)
-
-pub few-branches : (branches : List Branch) (nodes : ℕ) → AreAscending branches → All (λ (b : Branch). b.node < nodes) branches → length branches ≤ nodes
-few-branches [] nodes ascending within = omega arith
-few-branches (b ∷ bs) nodes ascending within = omega (arith, node-from (b ∷ bs) ascending (length bs) b (omega arith), within (length bs) b (omega arith))

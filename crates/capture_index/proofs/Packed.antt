@@ -1,9 +1,10 @@
 -- Runs that are packed as words and lists.
 use Prim.Native.Nat.{zero}
-use Rattle.std.proofs.Common.{◌≡◌, ◌≢◌, ℕ, ◌+◌, ◌-◌, ◌<◌, ◌≤◌, suc, Bool, true, false, cond, eqb, List, [], ◌∷◌, ◌++◌, length, get_or, take, drop, refl, sym, ◌∙◌, ap, subst, arith, inl, inr}
+use Rattle.std.proofs.Common.{◌≡◌, ◌≢◌, ℕ, ◌+◌, ◌-◌, ◌<◌, ◌≤◌, suc, Bool, true, false, cond, eqb, List, [], ◌∷◌, ◌++◌, length, get_or, set, replicate, take, drop, refl, sym, ◌∙◌, ap, subst, arith, inl, inr}
 use Rattle.std.proofs.lemmas.Bool.{cases_lt, cases_Bool, false_from_ne_true, leb-true, le-leb, eqb-true}
-use Rattle.std.proofs.lemmas.List.{length-append, length-drop, length_push, get_or_append_left, get_or_push, drop-append-le, take-append-le, drop_at, take_all, get_or-map}
-use Rattle.std.proofs.lemmas.List.Elements.{All-push, All-weaker}
+use Rattle.std.proofs.lemmas.List.{length-append, length-drop, length_push, get_or_append_left, get_or_push, drop-append-le, take-append-le, drop_at, take_all, get_or-map, get_or-set_other, length-replicate, length-set}
+use Rattle.std.proofs.lemmas.Grind.{get_or-set_at}
+use Rattle.std.proofs.lemmas.List.Elements.{All-replicate, All-set, All-weaker}
 use Rattle.kb_geometry.specs.Board.{point_count}
 use Rattle.kb_geometry.specs.Capture.{Position, cell_at}
 use Rattle.capture_board.specs.Deltas.{AreDeltas, Deltas, node_count}
@@ -132,54 +133,54 @@ cells-kept ends ends_after runs runs_after time kept word =
       | inr few ↦ runs_of-few ends_after runs_after time few ∙ sym (runs_of-few ends runs time few)
     ]
 
--- ---- the points so far
-pub record ArePacked (nodes : ℕ) (points : List (List Run)) (count : ℕ) (times : List Time) (ends : List ℕ) (runs : List Run) : Type 0 where
+-- ---- the first so many points of all
+pub record ArePacked (nodes : ℕ) (points : List (List Run)) (all count : ℕ) (times : List Time) (ends : List ℕ) (runs : List Run) : Type 0 where
   pub lists : AreLists ends runs
-  pub counted : length times ≡ count
+  pub counted : length times ≡ all
   pub words : All (IsWord ends) times
   pub cells : (p : ℕ) (d : Time) (n : ℕ) → p < count → n < nodes → cell_by (runs_of ends runs (get_or times p d)) n ≡ cell_by (runs_at points p) n
 
-pub ArePacked-none : (nodes : ℕ) (points : List (List Run)) (times : List Time) (ends : List ℕ) (runs : List Run) → times ≡ [] → ends ≡ [] → runs ≡ [] → ArePacked nodes points 0 times ends runs
-ArePacked-none nodes points times ends runs e f g = record {
+pub ArePacked-none : (nodes : ℕ) (points : List (List Run)) (all : ℕ) (never : Time) (times : List Time) (ends : List ℕ) (runs : List Run) → never.word < MANY → times ≡ replicate all never → ends ≡ [] → runs ≡ [] → ArePacked nodes points all 0 times ends runs
+ArePacked-none nodes points all never times ends runs few e f g = record {
   lists = record {
     each = λ k lt. absurd (omega (arith, lt, ap length f));
     whole = ap (λ (es : List ℕ). list_start es (length es)) f ∙ sym (ap length g);
   };
-  counted = ap length e;
-  words = λ k d lt. absurd (omega (arith, lt, ap length e));
+  counted = ap length e ∙ length-replicate all never;
+  words = subst (All (IsWord ends)) (sym e) (All-replicate (IsWord ends) all never (λ many. absurd (omega (arith, few, many))));
   cells = λ p d n lt ln. absurd (omega (arith, lt));
 }
 
-pub ArePacked-more : (nodes : ℕ) (points : List (List Run)) (count : ℕ) (times times_after : List Time) (ends ends_after : List ℕ) (runs runs_after : List Run) (time : Time) → ArePacked nodes points count times ends runs → IsPacked nodes (runs_at points count) ends runs ends_after runs_after time →
-    times_after ≡ times ++ time ∷ [] → ArePacked nodes points (count + 1) times_after ends_after runs_after
-ArePacked-more nodes points count times times_after ends ends_after runs runs_after time before packed pushed = record {
+pub ArePacked-more : (nodes : ℕ) (points : List (List Run)) (all count : ℕ) (times times_after : List Time) (ends ends_after : List ℕ) (runs runs_after : List Run) (time : Time) → count < all → ArePacked nodes points all count times ends runs → IsPacked nodes (runs_at points count) ends runs ends_after runs_after time →
+    times_after ≡ set times count time → ArePacked nodes points all (count + 1) times_after ends_after runs_after
+ArePacked-more nodes points all count times times_after ends ends_after runs runs_after time within before packed noted = record {
   lists = packed.lists;
-  counted = ap length pushed ∙ length_push times time ∙ ap (λ (n : ℕ). n + 1) before.counted;
-  words = subst (All (IsWord ends_after)) (sym pushed) (All-push (IsWord ends_after) times time (All-weaker (IsWord ends) (IsWord ends_after) (λ t w. IsWord-more ends ends_after t packed.more w) times before.words) packed.word);
-  cells = λ p d n lt ln. ap (λ (ts : List Time). cell_by (runs_of ends_after runs_after (get_or ts p d)) n) pushed ∙ elim (cases_lt p count) [
+  counted = ap length noted ∙ length-set times count time ∙ before.counted;
+  words = subst (All (IsWord ends_after)) (sym noted) (All-set (IsWord ends_after) times count time packed.word (All-weaker (IsWord ends) (IsWord ends_after) (λ t w. IsWord-more ends ends_after t packed.more w) times before.words));
+  cells = λ p d n lt ln. ap (λ (ts : List Time). cell_by (runs_of ends_after runs_after (get_or ts p d)) n) noted ∙ elim (cases_lt p count) [
     | inl old ↦
-        ap (λ (t : Time). cell_by (runs_of ends_after runs_after t) n) (get_or_append_left times (time ∷ []) d p (omega (arith, before.counted)))
+        ap (λ (t : Time). cell_by (runs_of ends_after runs_after t) n) (get_or-set_other times count p time d (λ same. absurd (omega (arith, old, same))))
         ∙ ap (λ (rs : List Run). cell_by rs n) (cells-kept ends ends_after runs runs_after (get_or times p d) packed.kept (before.words p d (omega (arith, before.counted))))
         ∙ before.cells p d n old ln
     | inr last ↦
-        let here : count ≡ p = omega arith in
-        ap (λ (t : Time). cell_by (runs_of ends_after runs_after t) n) (get_or_push times time d p (before.counted ∙ here))
+        let here : p ≡ count = omega arith in
+        ap (λ (t : Time). cell_by (runs_of ends_after runs_after t) n) (get_or-set_at times count p time d here (omega (arith, before.counted)))
         ∙ packed.cells n ln
-        ∙ ap (λ (i : ℕ). cell_by (runs_at points i) n) here
+        ∙ ap (λ (i : ℕ). cell_by (runs_at points i) n) (sym here)
   ];
 }
 
 -- the same lists, with other names for what they hold
-pub ArePacked-as : (points : List (List Run)) (nodes nodes_after count count_after : ℕ) (times : List Time) (ends ends_after : List ℕ) (runs runs_after : List Run) → nodes ≡ nodes_after → count ≡ count_after → ends_after ≡ ends → runs_after ≡ runs → ArePacked nodes points count times ends runs → ArePacked nodes_after points count_after times ends_after runs_after
-ArePacked-as points nodes nodes_after count count_after times ends ends_after runs runs_after e f g h packed =
-    subst (λ (rs : List Run). ArePacked nodes_after points count_after times ends_after rs) (sym h)
-    (subst (λ (es : List ℕ). ArePacked nodes_after points count_after times es runs) (sym g)
-    (subst (λ (c : ℕ). ArePacked nodes_after points c times ends runs) f
-    (subst (λ (n : ℕ). ArePacked n points count times ends runs) e packed)))
+pub ArePacked-as : (points : List (List Run)) (nodes nodes_after all count count_after : ℕ) (times : List Time) (ends ends_after : List ℕ) (runs runs_after : List Run) → nodes ≡ nodes_after → count ≡ count_after → ends_after ≡ ends → runs_after ≡ runs → ArePacked nodes points all count times ends runs → ArePacked nodes_after points all count_after times ends_after runs_after
+ArePacked-as points nodes nodes_after all count count_after times ends ends_after runs runs_after e f g h packed =
+    subst (λ (rs : List Run). ArePacked nodes_after points all count_after times ends_after rs) (sym h)
+    (subst (λ (es : List ℕ). ArePacked nodes_after points all count_after times es runs) (sym g)
+    (subst (λ (c : ℕ). ArePacked nodes_after points all c times ends runs) f
+    (subst (λ (n : ℕ). ArePacked n points all count times ends runs) e packed)))
 
 -- ---- the whole index
-pub IsIndexOf-packed : (deltas : Deltas) (are : AreDeltas deltas) (index : PackedRuns) (points : List (List Run)) → AreBuilt deltas (node_count deltas) points → index.shape ≡ deltas.shape → index.nodes ≡ node_count deltas → AreBranchesTo deltas (node_count deltas) index.branches.items → ArePacked (node_count deltas) points (point_count deltas.shape) index.times.items index.ends.items index.runs.items → IsIndexOf deltas index
-IsIndexOf-packed deltas are index points built same nodes branches packed = record {
+pub IsIndexOf-packed : (deltas : Deltas) (are : AreDeltas deltas) (index : PackedRuns) (points : List (List Run)) (all : ℕ) → AreBuilt deltas (node_count deltas) points → index.shape ≡ deltas.shape → index.nodes ≡ node_count deltas → AreBranchesTo deltas (node_count deltas) index.branches.items → ArePacked (node_count deltas) points all (point_count deltas.shape) index.times.items index.ends.items index.runs.items → IsIndexOf deltas index
+IsIndexOf-packed deltas are index points all built same nodes branches packed = record {
   are = are;
   branches = branches;
   shape = same;

@@ -26,7 +26,7 @@ impl PackedRuns {
     pub(crate) fn of(alloc: Global, deltas: &NodeDeltas) -> Result<PackedRuns, NoMemory>
         ensures { IfOk result (IsIndexOf deltas.now) }
     {
-        let mut growing = Growing::new(alloc, deltas.shape().count())?;
+        let mut growing = Growing::new(alloc, deltas.shape().count(), deltas.node_count())?;
         let mut branches = Vec::new(alloc);
         for n in 0..deltas.node_count() {
             add_node(deltas, n, &mut growing, &mut branches)?;
@@ -143,12 +143,12 @@ fn pack(
 {
     let nodes = deltas.node_count();
     let shape = deltas.shape();
-    let mut times = Vec::with_capacity(alloc, usize::from(shape.count()))?;
+    let mut times = vec![in alloc; Time::never(); usize::from(shape.count())]?;
     let mut ends = Vec::new(alloc);
     let mut runs = Vec::new(alloc);
     for p in 0..shape.count() {
         let time = pack_point(growing, nodes, p, &mut ends, &mut runs)?;
-        times.push(time)?;
+        times[usize::from(p)] = time;
     }
     ends.shrink_to_fit();
     runs.shrink_to_fit();

@@ -31,8 +31,8 @@ pub(crate) fn cut(
 // Adds the nodes of the stretches at which a point with these runs has a cell that is wanted.
 //
 // Stretches and runs both stand with the latest first, so the runs that are passed for a stretch
-// are of no use to the next ones. Each turn of the loops passes a run or ends its loop: all turns
-// together are at most the runs and twice the stretches.
+// are of no use to the next ones. Each turn of the two loops below passes a run or ends its loop:
+// together they are at most as many as the runs and twice the stretches.
 fn cut_each(
     runs: &[Run],
     want: Want,

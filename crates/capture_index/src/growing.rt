@@ -44,15 +44,13 @@ impl Model for Growing {
 }
 
 impl Growing {
-    // Points without a run.
-    pub(crate) fn new(alloc: Global, points: u16) -> Result<Growing, NoMemory>
+    // Points without a run, with room for a link at each of so many nodes.
+    pub(crate) fn new(alloc: Global, points: u16, nodes: u32) -> Result<Growing, NoMemory>
         ensures { IfOk result (λ g. g ≡ replicate points []) }
     {
         let last = vec![in alloc; 0u32; usize::from(points)]?;
-        Ok(Growing {
-            last,
-            links: Vec::new(alloc),
-        })
+        let links = Vec::with_capacity(alloc, nodes as usize)?;
+        Ok(Growing { last, links })
     }
 
     // From the node on the point has the cell.

@@ -59,13 +59,6 @@ impl RunIndex {
         self.packed.node_count()
     }
 
-    /// How many nodes don't follow the node before them in the text, but an earlier one.
-    pub fn branch_count(&self) -> usize
-        ensures { result ≤ count_in self.now }
-    {
-        self.packed.branches().len()
-    }
-
     /// The cell of a point at a node.
     pub fn cell(&self, point: u16, node: u32) -> Cell
         requires point { point < point_count self.now.shape }

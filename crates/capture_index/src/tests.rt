@@ -178,7 +178,6 @@ fn variations(rt: HostRuntime) -> Result<(), Fail> {
         &index,
         &[None, Some(0), Some(1), Some(1), Some(0), Some(0), Some(5)],
     );
-    assert_eq!(rt; index.branch_count(), 3);
     expect_cells(
         &rt,
         &index,
