@@ -4,7 +4,7 @@ use Rattle.std.specs.Prelude.{Contains}
 use Rattle.std.proofs.lemmas.Bool.{cases_lt}
 use Rattle.std.proofs.lemmas.List.{get_or-append-add, get_or_append_left}
 use Rattle.corner_index.specs.Corners.{keys_of}
-use Rattle.corner_index.specs.CornerGames.{AreEntriesOf, AreJoined, Entry, HaveGamesBelow, IsIndexOf, IsJoined, entries_in, entry}
+use Rattle.corner_index.specs.CornerGames.{AreEntriesOf, Entry, HaveGamesBelow, IsIndexOf, IsJoined, entries_in, entry}
 
 -- what holds of the entries of each corner
 pub four : (P : ℕ → List Entry → Type 0) (a b c d : List Entry) → P 0 a → P 1 b → P 2 c → P 3 d → (corner : ℕ) → corner < 4 → P corner (entries_in (a ∷ b ∷ c ∷ d ∷ []) corner)

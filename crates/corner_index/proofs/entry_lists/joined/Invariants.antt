@@ -1,4 +1,4 @@
-use Rattle.std.proofs.Common.{◌+◌, ◌-◌, length}
+use Rattle.std.proofs.Common.{◌+◌, ◌-◌}
 use Rattle.corner_index.proofs.JoinedEntries.{IsJoinedTo}
 use Rattle.corner_index.proofs.entry_lists.joined.Given as goal
 
