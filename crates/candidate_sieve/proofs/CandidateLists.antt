@@ -3,11 +3,12 @@ use Prim.Native.Nat.{zero}
 use Rattle.std.proofs.Common.{◌≡◌, ℕ, suc, ◌+◌, ◌*◌, ◌<◌, ◌≤◌, ◌↔◌, ◌⊎◌, List, [], ◌∷◌, ◌++◌, Option, None, length, get_or, slice_index_or, bit_and, append_assoc, refl, sym, ◌∙◌, ap, subst, arith, inl, inr}
 use Rattle.std.specs.Int.{bit_at}
 use Rattle.std.specs.Option.{IsSome, IsSomeAnd}
-use Rattle.std.specs.Prelude.{All, AllPairs, Any, Some}
+use Rattle.std.specs.Prelude.{◌≢◌, All, AllPairs, Any, Some}
 use Rattle.std.proofs.Math.Nat.{mul-le-mul_right}
 use Rattle.std.proofs.lemmas.Bool.{cases_lt}
 use Rattle.std.proofs.lemmas.List.{append-nil, get_or_append_left, get_or_push, length_push}
 use Rattle.std.proofs.lemmas.List.Elements.{All-nil, All-push, All-weaker}
+use Rattle.std.proofs.lemmas.List.Quantifiers.{all_pairs_push}
 use Rattle.std.proofs.lemmas.Nat.{mul-add-lt}
 use Rattle.std.proofs.lemmas.Nat.Bits.{bit_at-zero}
 use Rattle.kb_geometry.specs.declared.shape.Shape.{Shape}
@@ -85,9 +86,15 @@ Any-cases P xs y (k, x, lt, is, holds) =
 abbrev pub IsFor : ℕ → ℕ → Candidate → Type 0
 IsFor i g c = (c.placement ≡ i) × (bit_at c.games g ≡ 1)
 
+-- two candidates are for two placements
+abbrev pub IsForAnother : Candidate → Candidate → Type 0
+IsForAnother c d = c.placement ≢ d.placement
+
 -- the candidates are, for each of the first placements, the games that may have it
 pub record AreCandidatesTo (planes : PlaneGames) (placements : List Placement) (there count : ℕ) (found : List Candidate) : Type 0 where
   pub before : All (λ (c : Candidate). c.placement < count) found
+  pub some_game : All (λ (c : Candidate). 0 < c.games) found
+  pub distinct : AllPairs IsForAnother found
   pub exact : (i g : ℕ) → i < count → g < 64 → Any (IsFor i g) found ↔ ((bit_at there g ≡ 1) × IsPossibleIn planes g (placement_at placements i))
 
 -- the list has gained such candidates
@@ -101,7 +108,7 @@ module _ (planes : PlaneGames) (placements : List Placement) (there : ℕ) (old 
   added-start = record {
     more = [];
     added = sym (append-nil old);
-    are = record { before = All-nil (λ (c : Candidate). c.placement < 0); exact = λ i g lt. absurd (omega arith) };
+    are = record { before = All-nil (λ (c : Candidate). c.placement < 0); some_game = All-nil (λ (c : Candidate). 0 < c.games); distinct = λ i j d before lt. absurd (omega (arith, lt)); exact = λ i g lt. absurd (omega arith) };
   }
 
   module _ (count : ℕ) (now next : List Candidate) (so_far : AreAddedTo planes placements there count old now) (games : ℕ)
@@ -129,6 +136,8 @@ module _ (planes : PlaneGames) (placements : List Placement) (there : ℕ) (old 
       added = same ∙ so_far.added;
       are = record {
         before = All-weaker (λ (c : Candidate). c.placement < count) (λ (c : Candidate). c.placement < count + 1) (λ c lt. omega (arith, lt)) so_far.more so_far.are.before;
+        some_game = so_far.are.some_game;
+        distinct = so_far.are.distinct;
         exact = λ i g lt few. by-number (λ i. Any (IsFor i g) so_far.more ↔ ((bit_at there g ≡ 1) × IsPossibleIn planes g (placement_at placements i)))
             (λ i below. so_far.are.exact i g below few)
             (λ h. absurd (not-next g h), λ h. let one = (told g few).1 h in absurd (omega (arith, one, ap (λ (n : ℕ). bit_at n g) none, bit_at-zero g)))
@@ -157,19 +166,21 @@ module _ (planes : PlaneGames) (placements : List Placement) (there : ℕ) (old 
         )
         i lt
 
-    added-one : next ≡ now ++ last_one ∷ [] → AreAddedTo planes placements there (count + 1) old next
-    added-one pushed = record {
+    added-one : 0 < games → next ≡ now ++ last_one ∷ [] → AreAddedTo planes placements there (count + 1) old next
+    added-one some pushed = record {
       more = so_far.more ++ last_one ∷ [];
       added = pushed ∙ ap (λ (xs : List Candidate). xs ++ last_one ∷ []) so_far.added ∙ append_assoc old so_far.more (last_one ∷ []);
       are = record {
         before = All-push (λ (c : Candidate). c.placement < count + 1) so_far.more last_one (All-weaker (λ (c : Candidate). c.placement < count) (λ (c : Candidate). c.placement < count + 1) (λ c lt. omega (arith, lt)) so_far.more so_far.are.before) (omega arith);
+        some_game = All-push (λ (c : Candidate). 0 < c.games) so_far.more last_one so_far.are.some_game some;
+        distinct = all_pairs_push IsForAnother so_far.more last_one so_far.are.distinct (λ k d lt e. omega (arith, so_far.are.before k d lt, e));
         exact = exact-more;
       };
     }
 
     pub added-more : IsAddedFor count games now next → AreAddedTo planes placements there (count + 1) old next
     added-more (inl none) = added-none none.0 none.1
-    added-more (inr pushed) = added-one pushed
+    added-more (inr pushed) = added-one pushed.0 pushed.1
 
   -- ---- all placements
   some-and : (o : Option EverSets) (P : EverSets → Type 0) → IsSomeAnd o P → IsSome o
@@ -183,6 +194,8 @@ module _ (planes : PlaneGames) (placements : List Placement) (there : ℕ) (old 
     added = so_far.added;
     are = record {
       in_range = All-weaker (λ (c : Candidate). c.placement < count) (λ (c : Candidate). c.placement < length placements) (λ c lt. omega (arith, lt, all)) so_far.more so_far.are.before;
+      some_game = so_far.are.some_game;
+      distinct = so_far.are.distinct;
       exact = λ i g lt few.
           let here = so_far.are.exact i g (omega (arith, lt, all)) few in
           let both = and-bit asked present g in

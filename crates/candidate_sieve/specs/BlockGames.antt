@@ -25,4 +25,4 @@ HadEach games base wants count g = (k : ℕ) → k < count →
 -- the list has gained a candidate with these games, if there is one
 abbrev pub IsAddedFor : ℕ → ℕ → List Candidate → List Candidate → Type 0
 IsAddedFor i games old new = ((games ≡ 0) × (new ≡ old))
-    ⊎ (new ≡ old ++ record { placement = i; games = games } ∷ [])
+    ⊎ ((0 < games) × (new ≡ old ++ record { placement = i; games = games } ∷ []))

@@ -1,5 +1,5 @@
 -- Placements whose cells the sets of a game meet, and the games of a block that may have them.
-use Rattle.std.specs.Prelude.{◌≡◌, ◌≢◌, ℕ, ◌<◌, ◌↔◌, ◌++◌, List, None, All, Any, Contains, length, slice_index_or}
+use Rattle.std.specs.Prelude.{◌≡◌, ◌≢◌, ℕ, ◌<◌, ◌↔◌, ◌++◌, List, None, All, AllPairs, Any, Contains, length, slice_index_or}
 use Rattle.std.specs.Int.{bit_at}
 use Rattle.std.specs.Option.{IsSomeAnd}
 use Rattle.kb_geometry.specs.declared.shape.Shape.{Shape}
@@ -33,10 +33,13 @@ IsPossibleIn planes g placement =
     IsSomeAnd (slice_index_or planes.games g None) (λ sets. MeetsCells planes.shape sets placement)
 
 -- The candidates are, for each placement, exactly the games of the block among those that are asked
--- for whose sets meet its cells.
+-- for whose sets meet its cells. A placement has one candidate at most, and a candidate has some
+-- game.
 pub record AreCandidates (planes : PlaneGames) (placements : List Placement) (asked : ℕ)
     (found : List Candidate) : Type 0 where
   pub in_range : All (λ (c : Candidate). c.placement < length placements) found
+  pub some_game : All (λ (c : Candidate). 0 < c.games) found
+  pub distinct : AllPairs (λ (c d : Candidate). c.placement ≢ d.placement) found
   pub exact : (i g : ℕ) → i < length placements → g < 64 →
       Any (λ (c : Candidate). (c.placement ≡ i) × (bit_at c.games g ≡ 1)) found
       ↔ ((bit_at asked g ≡ 1) × IsPossibleIn planes g (placement_at placements i))

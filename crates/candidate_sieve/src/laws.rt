@@ -1,5 +1,5 @@
 // Laws of what is kept: the contracts of functions that do nothing.
-ghost use Rattle.std.specs.Prelude.{◌<◌, ◌↔◌, ℕ, List};
+ghost use Rattle.std.specs.Prelude.{◌≡◌, ◌<◌, ◌↔◌, ℕ, List, Contains};
 ghost use Rattle.capture_board.specs.Deltas.{AreDeltas, Deltas, node_count, position_at};
 ghost use Rattle.pattern_images.specs.Holds.{Holds};
 ghost use Rattle.pattern_images.specs.ImageList.{IsPlacedOn};
@@ -8,7 +8,7 @@ ghost use Rattle.final_index.specs.declared.ever_sets.EverSets.{EverSets};
 ghost use Rattle.final_index.specs.Ever.{AreSetsOf};
 ghost use Rattle.capture_index.specs.NodePositions.{positions_of};
 ghost use Rattle.line_matcher.specs.declared.occurrence.Occurrence.{Occurrence};
-ghost use Rattle.line_matcher.specs.Occurrences.{Occurs};
+ghost use Rattle.line_matcher.specs.Occurrences.{Occurs, occurrences_at_nodes, occurrences_in};
 ghost use Rattle.candidate_sieve.specs.Candidates.{MeetsCells};
 ghost use Rattle.candidate_sieve.specs.Kept.{HadCorners, IsKept, IsKeptBy};
 ghost use Rattle.candidate_sieve.specs.NodeCandidates.{IsNodeCandidate};
@@ -43,4 +43,12 @@ pub fn a_placement_that_holds_meets_the_sets()
 pub fn an_occurrence_is_at_a_node_candidate()
     ensures { (deltas : Deltas) (placements : List Placement) (o : Occurrence) → AreDeltas deltas →
         Occurs deltas placements o → IsNodeCandidate (positions_of deltas) placements o.node }
+{}
+
+/// A law: the occurrences at the node candidates of a game are all its occurrences, in order. So
+/// `match_at` of line_matcher, over a list of exactly these nodes, gives the list of `match_game`.
+pub fn the_node_candidates_have_all_occurrences()
+    ensures { (deltas : Deltas) (placements : List Placement) (nodes : List ℕ) → AreDeltas deltas →
+        ((n : ℕ) → Contains nodes n ↔ IsNodeCandidate (positions_of deltas) placements n) →
+        occurrences_at_nodes deltas placements nodes ≡ occurrences_in deltas placements }
 {}

@@ -19,6 +19,7 @@ pub use corners::meets_corners;
 pub use laws::{
     a_game_with_an_occurrence_is_kept, a_placement_is_kept_by_its_cells_and_corners,
     a_placement_that_holds_meets_the_sets, an_occurrence_is_at_a_node_candidate,
+    the_node_candidates_have_all_occurrences,
 };
 pub use nodes::{candidates_under, node_candidates};
 pub use sieve::passes;

@@ -1,6 +1,7 @@
 // Games that are made by hand, with what is kept of them worked out by hand.
 ghost use Rattle.std.specs.Prelude.{◌≡◌, IfOk};
 
+mod at_candidates;
 mod blocks;
 mod made;
 mod nodes;

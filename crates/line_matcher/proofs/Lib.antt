@@ -1,4 +1,5 @@
 mod Areas
+pub mod AtNodes
 mod Beginning
 mod ChangedPoints
 mod FoundLists

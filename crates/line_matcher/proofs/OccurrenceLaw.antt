@@ -135,7 +135,7 @@ module _ (changes : Deltas) (placements : List Placement) where
   abbrev at : ℕ → List Occurrence
   at = occurrences_at changes placements
 
-  at_node : (n : ℕ) → All (λ o. o.node ≡ n) (at n)
+  pub at_node : (n : ℕ) → All (λ o. o.node ≡ n) (at n)
   at_node n =
       All-map (λ (o : Occurrence). o.node ≡ n) (λ i. record { node = n; placement = i }) (filter (test n) (range_with_len 0 (length placements))) (λ k d lt. refl)
 

@@ -1,5 +1,5 @@
 -- What is found at a node, and at the first nodes of a game: words for the private functions.
-use Rattle.std.specs.Prelude.{◌≡◌, ℕ, ◌++◌, List, length, Some, None}
+use Rattle.std.specs.Prelude.{◌≡◌, ℕ, ◌++◌, List, filter, length, Some, None}
 use Rattle.std.specs.List.{flat_map, range_with_len}
 use Rattle.kb_geometry.specs.declared.stone.Change.{Change}
 use Rattle.kb_geometry.specs.Capture.{Position}
@@ -10,7 +10,7 @@ use Rattle.line_matcher.specs.declared.changed.Concerned.{Concerned}
 use Rattle.line_matcher.specs.Concerned.{AreConcerned}
 use Rattle.line_matcher.specs.Begins.{AreOccurrencesAdded, holds_anew}
 use Rattle.line_matcher.specs.declared.occurrence.Occurrence.{Occurrence}
-use Rattle.line_matcher.specs.Occurrences.{occurrences_at}
+use Rattle.line_matcher.specs.Occurrences.{is_at_one_of, occurrences_at}
 
 -- What was found grows by all that holds in the position.
 abbrev pub IsFoundAtRoot : ImageList → Position → ℕ → List Occurrence → List Occurrence → Type 0
@@ -36,3 +36,12 @@ IsFoundIn deltas placements node old new = new ≡ old ++ occurrences_at deltas 
 abbrev pub IsFoundTo : Deltas → List Placement → ℕ → List Occurrence → List Occurrence → Type 0
 IsFoundTo deltas placements nodes old new =
     new ≡ old ++ flat_map (occurrences_at deltas placements) (range_with_len 0 nodes)
+
+-- What was found grows by the occurrences at those of the first so many nodes that are among the
+-- given ones.
+abbrev pub IsFoundAmong :
+    Deltas → List Placement → List ℕ → ℕ → List Occurrence → List Occurrence → Type 0
+IsFoundAmong deltas placements given nodes old new =
+    new ≡ old
+    ++ filter (is_at_one_of given)
+    (flat_map (occurrences_at deltas placements) (range_with_len 0 nodes))

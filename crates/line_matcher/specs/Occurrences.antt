@@ -1,8 +1,8 @@
 -- The occurrences of placements in one game: a node and a placement that holds there and not at the
 -- node's parent.
-use Rattle.std.specs.Prelude.{◌≡◌, ℕ, ◌<◌, ◌⊎◌, ◌&&◌, not, IfSome, Bool, true, false, List, length}
+use Rattle.std.specs.Prelude.{◌≡◌, ℕ, ◌<◌, ◌⊎◌, ◌&&◌, not, nat_eq, IfSome, Bool, true, false, List, length}
 use Rattle.std.specs.Prelude.{map, filter, slice_index_or}
-use Rattle.std.specs.List.{flat_map, list_all, range_with_len}
+use Rattle.std.specs.List.{flat_map, list_all, list_any, range_with_len}
 use Rattle.std.specs.Option.{option_map_or}
 use Rattle.kb_geometry.specs.declared.shape.Shape.{Shape}
 use Rattle.kb_geometry.specs.declared.stone.Cell.{Cell}
@@ -69,6 +69,15 @@ occurrences_at changes placements n =
 abbrev pub occurrences_in : Deltas → List Placement → List Occurrence
 occurrences_in changes placements =
     flat_map (occurrences_at changes placements) (range_with_len 0 (node_count changes))
+
+-- the occurrence is at one of these nodes
+abbrev pub is_at_one_of : List ℕ → Occurrence → Bool
+is_at_one_of nodes occurrence = list_any (nat_eq occurrence.node) nodes
+
+-- the occurrences in a game that are at one of these nodes
+abbrev pub occurrences_at_nodes : Deltas → List Placement → List ℕ → List Occurrence
+occurrences_at_nodes changes placements nodes =
+    filter (is_at_one_of nodes) (occurrences_in changes placements)
 
 -- ---- the same in the words of what holds
 

@@ -4,6 +4,7 @@
 //! `match_along` finds exactly the nodes and placements where a placement begins to hold, in order.
 #![tactic(auto)]
 
+mod at_nodes;
 mod changed;
 mod grid_rows;
 mod laws;
@@ -14,6 +15,7 @@ mod starts;
 mod visit;
 mod walk;
 
+pub use at_nodes::match_at;
 pub use laws::{
     the_occurrences_are_where_placements_begin_to_hold, the_test_tells_whether_a_placement_holds,
 };

@@ -13,6 +13,7 @@ use std::process::Abort;
 use std::sync::ledger::{Blank, Ledger};
 use std::test::Fail;
 
+mod at_nodes;
 mod games;
 mod made_games;
 mod plain;

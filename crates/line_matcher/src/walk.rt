@@ -85,7 +85,7 @@ pub fn match_along<L: Ledger>(
 }
 
 // Occurrences with the places of their placements.
-fn with_places(
+pub(crate) fn with_places(
     alloc: Global,
     images: &Images,
     occurrences: &[Occurrence],
@@ -128,7 +128,7 @@ fn add_nodes<L: Ledger>(
 }
 
 // Adds what begins to hold at the node where the walker stands.
-fn add_node(
+pub(crate) fn add_node(
     matcher: &Matcher,
     deltas: &NodeDeltas,
     walker: &Walker,
