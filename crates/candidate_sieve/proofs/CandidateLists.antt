@@ -1,6 +1,6 @@
--- Candidates that are listed placement by placement.
+-- Candidates that are listed row by row, a placement after the other.
 use Prim.Native.Nat.{zero}
-use Rattle.std.proofs.Common.{◌≡◌, ℕ, suc, ◌+◌, ◌*◌, ◌<◌, ◌≤◌, ◌↔◌, ◌⊎◌, List, [], ◌∷◌, ◌++◌, Option, None, length, get_or, slice_index_or, bit_and, append_assoc, refl, sym, ◌∙◌, ap, subst, arith, inl, inr}
+use Rattle.std.proofs.Common.{◌≡◌, ℕ, suc, ◌+◌, ◌*◌, ◌<◌, ◌≤◌, ◌↔◌, ◌⊎◌, List, [], ◌∷◌, ◌++◌, Option, None, length, get_or, slice_index, slice_index_or, bit_and, append_assoc, refl, sym, ◌∙◌, ap, subst, arith, inl, inr}
 use Rattle.std.specs.Int.{bit_at}
 use Rattle.std.specs.Option.{IsSome, IsSomeAnd}
 use Rattle.std.specs.Prelude.{◌≢◌, All, AllPairs, Any, Some}
@@ -20,9 +20,10 @@ use Rattle.pattern_images.specs.Placements.{IsBefore, Placement}
 use Rattle.final_index.specs.declared.ever_sets.EverSets.{EverSets}
 use Rattle.final_index.specs.Planes.{PlaneGames}
 use Rattle.candidate_sieve.specs.declared.candidates.Candidate.{Candidate}
-use Rattle.candidate_sieve.specs.BlockGames.{IsAddedFor}
+use Rattle.candidate_sieve.specs.BlockGames.{AreAddedFor, IsAddedFor}
+use Rattle.candidate_sieve.specs.BlockGames.AreAddedFor.{nothing, one_more}
 use Rattle.candidate_sieve.specs.Candidates.{AreCandidatesAdded, IsPossibleIn, MeetsCells}
-use Rattle.candidate_sieve.proofs.GamesTold.{and-bit}
+use Rattle.final_index.proofs.KeptBits.{and-bit}
 
 -- ---- how many placements there are
 
@@ -90,114 +91,148 @@ IsFor i g c = (c.placement ≡ i) × (bit_at c.games g ≡ 1)
 abbrev pub IsForAnother : Candidate → Candidate → Type 0
 IsForAnother c d = c.placement ≢ d.placement
 
--- the candidates are, for each of the first placements, the games that may have it
-pub record AreCandidatesTo (planes : PlaneGames) (placements : List Placement) (there count : ℕ) (found : List Candidate) : Type 0 where
-  pub before : All (λ (c : Candidate). c.placement < count) found
+-- the number is one of the first so many of the list
+abbrev pub IsAmong : List ℕ → ℕ → ℕ → Type 0
+IsAmong numbers count i = (j : ℕ) × (j < count) × (slice_index numbers j ≡ i)
+
+-- the candidates are, for each of the first placements of the list, the games that may have it
+pub record AreCandidatesTo (planes : PlaneGames) (placements : List Placement) (there : ℕ) (numbers : List ℕ) (count : ℕ) (found : List Candidate) : Type 0 where
+  pub before : All (λ (c : Candidate). IsAmong numbers count c.placement) found
   pub some_game : All (λ (c : Candidate). 0 < c.games) found
   pub distinct : AllPairs IsForAnother found
-  pub exact : (i g : ℕ) → i < count → g < 64 → Any (IsFor i g) found ↔ ((bit_at there g ≡ 1) × IsPossibleIn planes g (placement_at placements i))
+  pub exact : (j g : ℕ) → j < count → g < 64 → Any (IsFor (slice_index numbers j) g) found ↔ ((bit_at there g ≡ 1) × IsPossibleIn planes g (placement_at placements (slice_index numbers j)))
 
 -- the list has gained such candidates
-pub record AreAddedTo (planes : PlaneGames) (placements : List Placement) (there count : ℕ) (old new : List Candidate) : Type 0 where
+pub record AreAddedTo (planes : PlaneGames) (placements : List Placement) (there : ℕ) (numbers : List ℕ) (count : ℕ) (old new : List Candidate) : Type 0 where
   pub more : List Candidate
   pub added : new ≡ old ++ more
-  pub are : AreCandidatesTo planes placements there count more
+  pub are : AreCandidatesTo planes placements there numbers count more
 
-module _ (planes : PlaneGames) (placements : List Placement) (there : ℕ) (old : List Candidate) where
-  pub added-start : AreAddedTo planes placements there 0 old old
+module _ (planes : PlaneGames) (placements : List Placement) (there : ℕ) (numbers : List ℕ) (old : List Candidate) where
+  pub added-start : AreAddedTo planes placements there numbers 0 old old
   added-start = record {
     more = [];
     added = sym (append-nil old);
-    are = record { before = All-nil (λ (c : Candidate). c.placement < 0); some_game = All-nil (λ (c : Candidate). 0 < c.games); distinct = λ i j d before lt. absurd (omega (arith, lt)); exact = λ i g lt. absurd (omega arith) };
+    are = record { before = All-nil (λ (c : Candidate). IsAmong numbers 0 c.placement); some_game = All-nil (λ (c : Candidate). 0 < c.games); distinct = λ i j d before lt. absurd (omega (arith, lt)); exact = λ j g lt. absurd (omega arith) };
   }
 
-  module _ (count : ℕ) (now next : List Candidate) (so_far : AreAddedTo planes placements there count old now) (games : ℕ)
-      (told : (g : ℕ) → g < 64 → (bit_at games g ≡ 1) ↔ ((bit_at there g ≡ 1) × IsPossibleIn planes g (placement_at placements count))) where
-    abbrev found : List Candidate
-    found = so_far.more
+  -- each number stands in the list once
+  module _ (once : (j k : ℕ) → j < length numbers → k < length numbers → slice_index numbers j ≡ slice_index numbers k → j ≡ k) where
+    module _ (count : ℕ) (within : count < length numbers) (now next : List Candidate) (so_far : AreAddedTo planes placements there numbers count old now) (games : ℕ)
+        (told : (g : ℕ) → g < 64 → (bit_at games g ≡ 1) ↔ ((bit_at there g ≡ 1) × IsPossibleIn planes g (placement_at placements (slice_index numbers count)))) where
+      abbrev here : ℕ
+      here = slice_index numbers count
 
-    -- no candidate so far is for the next placement
-    not-next : (g : ℕ) → Any (IsFor count g) so_far.more → ⊥
-    not-next g (k, c, lt, is, at) =
-        let low : (get_or so_far.more k c).placement < count = so_far.are.before k c lt in
-        omega (arith, low, ap (λ (d : Candidate). d.placement) is, at.0)
+      among-more : (i : ℕ) → IsAmong numbers count i → IsAmong numbers (count + 1) i
+      among-more i (j, lt, is) = (j, omega (arith, lt), is)
 
-    -- the games of one of the placements so far, and of the next one
-    by-number : (Q : ℕ → Type 0) → ((i : ℕ) → i < count → Q i) → Q count → (i : ℕ) → i < count + 1 → Q i
-    by-number Q earlier last i lt =
-        elim (cases_lt i count) [
-          | inl below ↦ earlier i below
-          | inr from ↦ let here : count ≡ i = omega (arith, lt, from) in subst Q here last
-        ]
+      -- the next number isn't among those so far
+      new-number : IsAmong numbers count here → ⊥
+      new-number (j, lt, is) =
+          let same : j ≡ count = once j count (omega (arith, lt, within)) within is in
+          omega (arith, lt, same)
 
-    added-none : games ≡ 0 → next ≡ now → AreAddedTo planes placements there (count + 1) old next
-    added-none none same = record {
-      more = so_far.more;
-      added = same ∙ so_far.added;
-      are = record {
-        before = All-weaker (λ (c : Candidate). c.placement < count) (λ (c : Candidate). c.placement < count + 1) (λ c lt. omega (arith, lt)) so_far.more so_far.are.before;
-        some_game = so_far.are.some_game;
-        distinct = so_far.are.distinct;
-        exact = λ i g lt few. by-number (λ i. Any (IsFor i g) so_far.more ↔ ((bit_at there g ≡ 1) × IsPossibleIn planes g (placement_at placements i)))
-            (λ i below. so_far.are.exact i g below few)
-            (λ h. absurd (not-next g h), λ h. let one = (told g few).1 h in absurd (omega (arith, one, ap (λ (n : ℕ). bit_at n g) none, bit_at-zero g)))
-            i lt;
-      };
-    }
+      -- no candidate so far is for the next placement
+      not-next : (g : ℕ) → Any (IsFor here g) so_far.more → ⊥
+      not-next g (k, c, lt, is, at) =
+          let same : (get_or so_far.more k c).placement ≡ here = ap (λ (d : Candidate). d.placement) is ∙ at.0 in
+          new-number (subst (IsAmong numbers count) same (so_far.are.before k c lt))
 
-    abbrev last_one : Candidate
-    last_one = record { placement = count; games = games }
+      -- the games of one of the placements so far, and of the next one
+      by-place : (Q : ℕ → Type 0) → ((j : ℕ) → j < count → Q j) → Q count → (j : ℕ) → j < count + 1 → Q j
+      by-place Q earlier last j lt =
+          elim (cases_lt j count) [
+            | inl below ↦ earlier j below
+            | inr from ↦ let at : count ≡ j = omega (arith, lt, from) in subst Q at last
+          ]
 
-    exact-more : (i g : ℕ) → i < count + 1 → g < 64 → Any (IsFor i g) (so_far.more ++ last_one ∷ []) ↔ ((bit_at there g ≡ 1) × IsPossibleIn planes g (placement_at placements i))
-    exact-more i g lt few =
-        by-number (λ i. Any (IsFor i g) (so_far.more ++ last_one ∷ []) ↔ ((bit_at there g ≡ 1) × IsPossibleIn planes g (placement_at placements i)))
-        (λ i below. (
-          λ h. elim (Any-cases (IsFor i g) so_far.more last_one h) [
-            | inl was ↦ (so_far.are.exact i g below few).0 was
-            | inr last ↦ absurd (omega (arith, below, last.0))
-          ],
-          λ h. Any-kept (IsFor i g) so_far.more last_one ((so_far.are.exact i g below few).1 h),
-        )) (
-          (λ h. elim (Any-cases (IsFor count g) so_far.more last_one h) [
-            | inl was ↦ absurd (not-next g was)
-            | inr last ↦ (told g few).0 last.1
-          ]),
-          (λ h. Any-last (IsFor count g) so_far.more last_one (refl, (told g few).1 h)),
-        )
-        i lt
+      added-none : games ≡ 0 → next ≡ now → AreAddedTo planes placements there numbers (count + 1) old next
+      added-none none same = record {
+        more = so_far.more;
+        added = same ∙ so_far.added;
+        are = record {
+          before = All-weaker (λ (c : Candidate). IsAmong numbers count c.placement) (λ (c : Candidate). IsAmong numbers (count + 1) c.placement) (λ c. among-more c.placement) so_far.more so_far.are.before;
+          some_game = so_far.are.some_game;
+          distinct = so_far.are.distinct;
+          exact = λ j g lt few. by-place (λ j. Any (IsFor (slice_index numbers j) g) so_far.more ↔ ((bit_at there g ≡ 1) × IsPossibleIn planes g (placement_at placements (slice_index numbers j))))
+              (λ j below. so_far.are.exact j g below few)
+              (λ h. absurd (not-next g h), λ h. let one = (told g few).1 h in absurd (omega (arith, one, ap (λ (n : ℕ). bit_at n g) none, bit_at-zero g)))
+              j lt;
+        };
+      }
 
-    added-one : 0 < games → next ≡ now ++ last_one ∷ [] → AreAddedTo planes placements there (count + 1) old next
-    added-one some pushed = record {
-      more = so_far.more ++ last_one ∷ [];
-      added = pushed ∙ ap (λ (xs : List Candidate). xs ++ last_one ∷ []) so_far.added ∙ append_assoc old so_far.more (last_one ∷ []);
-      are = record {
-        before = All-push (λ (c : Candidate). c.placement < count + 1) so_far.more last_one (All-weaker (λ (c : Candidate). c.placement < count) (λ (c : Candidate). c.placement < count + 1) (λ c lt. omega (arith, lt)) so_far.more so_far.are.before) (omega arith);
-        some_game = All-push (λ (c : Candidate). 0 < c.games) so_far.more last_one so_far.are.some_game some;
-        distinct = all_pairs_push IsForAnother so_far.more last_one so_far.are.distinct (λ k d lt e. omega (arith, so_far.are.before k d lt, e));
-        exact = exact-more;
-      };
-    }
+      abbrev last_one : Candidate
+      last_one = record { placement = here; games = games }
 
-    pub added-more : IsAddedFor count games now next → AreAddedTo planes placements there (count + 1) old next
-    added-more (inl none) = added-none none.0 none.1
-    added-more (inr pushed) = added-one pushed.0 pushed.1
+      exact-more : (j g : ℕ) → j < count + 1 → g < 64 → Any (IsFor (slice_index numbers j) g) (so_far.more ++ last_one ∷ []) ↔ ((bit_at there g ≡ 1) × IsPossibleIn planes g (placement_at placements (slice_index numbers j)))
+      exact-more j g lt few =
+          by-place (λ j. Any (IsFor (slice_index numbers j) g) (so_far.more ++ last_one ∷ []) ↔ ((bit_at there g ≡ 1) × IsPossibleIn planes g (placement_at placements (slice_index numbers j))))
+          (λ j below. (
+            λ h. elim (Any-cases (IsFor (slice_index numbers j) g) so_far.more last_one h) [
+              | inl was ↦ (so_far.are.exact j g below few).0 was
+              | inr last ↦ absurd (new-number (j, below, sym last.0))
+            ],
+            λ h. Any-kept (IsFor (slice_index numbers j) g) so_far.more last_one ((so_far.are.exact j g below few).1 h),
+          )) (
+            (λ h. elim (Any-cases (IsFor here g) so_far.more last_one h) [
+              | inl was ↦ absurd (not-next g was)
+              | inr last ↦ (told g few).0 last.1
+            ]),
+            (λ h. Any-last (IsFor here g) so_far.more last_one (refl, (told g few).1 h)),
+          )
+          j lt
+
+      added-one : 0 < games → next ≡ now ++ last_one ∷ [] → AreAddedTo planes placements there numbers (count + 1) old next
+      added-one some pushed = record {
+        more = so_far.more ++ last_one ∷ [];
+        added = pushed ∙ ap (λ (xs : List Candidate). xs ++ last_one ∷ []) so_far.added ∙ append_assoc old so_far.more (last_one ∷ []);
+        are = record {
+          before = All-push (λ (c : Candidate). IsAmong numbers (count + 1) c.placement) so_far.more last_one
+              (All-weaker (λ (c : Candidate). IsAmong numbers count c.placement) (λ (c : Candidate). IsAmong numbers (count + 1) c.placement) (λ c. among-more c.placement) so_far.more so_far.are.before) (count, omega arith, refl);
+          some_game = All-push (λ (c : Candidate). 0 < c.games) so_far.more last_one so_far.are.some_game some;
+          distinct = all_pairs_push IsForAnother so_far.more last_one so_far.are.distinct (λ k d lt e. new-number (subst (IsAmong numbers count) e (so_far.are.before k d lt)));
+          exact = exact-more;
+        };
+      }
+
+      added-more : IsAddedFor here games now next → AreAddedTo planes placements there numbers (count + 1) old next
+      added-more (inl none) = added-none none.0 none.1
+      added-more (inr pushed) = added-one pushed.0 pushed.1
+
+    -- ---- a row of placements
+
+    module _ (start : ℕ) (now : List Candidate) (so_far : AreAddedTo planes placements there numbers start old now) (part words : List ℕ) where
+      pub added-row : (n : ℕ) (next : List Candidate) → start + n ≤ length numbers → ((k : ℕ) → k < n → slice_index part k ≡ slice_index numbers (start + k)) →
+          ((k g : ℕ) → k < n → g < 64 → (bit_at (slice_index words k) g ≡ 1) ↔ ((bit_at there g ≡ 1) × IsPossibleIn planes g (placement_at placements (slice_index numbers (start + k))))) →
+          AreAddedFor part words now n next → AreAddedTo planes placements there numbers (start + n) old next
+      added-row n next within same told nothing = let at : start ≡ start + 0 = omega arith in subst (λ (m : ℕ). AreAddedTo planes placements there numbers m old now) at so_far
+      added-row n next within same told (one_more k before _ those last) =
+          let at : start + k + 1 ≡ start + (k + 1) = omega arith in
+          subst (λ (m : ℕ). AreAddedTo planes placements there numbers m old next) at
+          (added-more (start + k) (omega (arith, within)) before next
+          (added-row k before (omega (arith, within)) (λ j lt. same j (omega (arith, lt))) (λ j g lt. told j g (omega (arith, lt))) those)
+          (slice_index words k) (λ g. told k g (omega arith)) (subst (λ (i : ℕ). IsAddedFor i (slice_index words k) before next) (same k (omega arith)) last))
 
   -- ---- all placements
+
   some-and : (o : Option EverSets) (P : EverSets → Type 0) → IsSomeAnd o P → IsSome o
   some-and None P h = absurd h
   some-and (Some sets) P h = refl
 
-  pub added-end : (asked present count : ℕ) (new : List Candidate) → there ≡ bit_and asked present → ((g : ℕ) → g < 64 → (bit_at present g ≡ 1) ↔ IsSome (slice_index_or planes.games g None)) → count ≡ length placements →
-      AreAddedTo planes placements there count old new → AreCandidatesAdded planes placements asked old new
-  added-end asked present count new is told all so_far = record {
+  pub added-end : (asked present : ℕ) (new : List Candidate) → there ≡ bit_and asked present → ((g : ℕ) → g < 64 → (bit_at present g ≡ 1) ↔ IsSome (slice_index_or planes.games g None)) →
+      ((k : ℕ) → k < length numbers → slice_index numbers k < length placements) → ((i : ℕ) → i < length placements → IsAmong numbers (length numbers) i) →
+      AreAddedTo planes placements there numbers (length numbers) old new → AreCandidatesAdded planes placements asked old new
+  added-end asked present new is told in_range complete so_far = record {
     more = so_far.more;
     added = so_far.added;
     are = record {
-      in_range = All-weaker (λ (c : Candidate). c.placement < count) (λ (c : Candidate). c.placement < length placements) (λ c lt. omega (arith, lt, all)) so_far.more so_far.are.before;
+      in_range = All-weaker (λ (c : Candidate). IsAmong numbers (length numbers) c.placement) (λ (c : Candidate). c.placement < length placements)
+          (λ c among. omega (arith, in_range among.0 among.1, among.2)) so_far.more so_far.are.before;
       some_game = so_far.are.some_game;
       distinct = so_far.are.distinct;
       exact = λ i g lt few.
-          let here = so_far.are.exact i g (omega (arith, lt, all)) few in
+          let among = complete i lt in
+          let here = subst (λ (n : ℕ). Any (IsFor n g) so_far.more ↔ ((bit_at there g ≡ 1) × IsPossibleIn planes g (placement_at placements n))) among.2 (so_far.are.exact among.0 g among.1 few) in
           let both = and-bit asked present g in
           let bits = ap (λ (n : ℕ). bit_at n g) is in (
             λ h. let e = here.0 h in ((both.0 (sym bits ∙ e.0)).0, e.1),

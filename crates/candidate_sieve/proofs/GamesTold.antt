@@ -1,12 +1,10 @@
 -- The games of a block that have a placement's cells, in words of bits.
-use Rattle.std.proofs.Common.{◌≡◌, ◌≢◌, ℕ, ◌+◌, ◌<◌, ◌↔◌, ◌⊎◌, true, false, List, Option, None, Some, length, slice_index_or, bit_and, bit_or, refl, sym, ◌∙◌, ap, subst, arith, inl, inr}
-use Prim.Native.Nat.{min, max}
+use Rattle.std.proofs.Common.{◌≡◌, ◌≢◌, ℕ, ◌+◌, ◌<◌, ◌↔◌, true, false, List, Option, None, Some, length, slice_index_or, refl, sym, ◌∙◌, ap, subst, arith, inl, inr}
 use Rattle.std.specs.Int.{bit_at}
 use Rattle.std.specs.Option.{IsSome, IsSomeAnd}
 use Rattle.std.specs.Prelude.{◌&&◌, All, Contains, IsTrue}
-use Rattle.std.proofs.lemmas.Bool.{and_from, and_parts, cases_Bool, cases_eq, cases_lt, false≢true}
+use Rattle.std.proofs.lemmas.Bool.{and_from, and_parts, cases_Bool, cases_lt, false≢true}
 use Rattle.std.proofs.lemmas.List.{get_or_default}
-use Rattle.std.proofs.lemmas.Nat.Bits.{bit_at-lt, bit_at-zero, bit_at_and, bit_at_or}
 use Rattle.kb_geometry.specs.declared.shape.Shape.{Shape}
 use Rattle.kb_geometry.specs.declared.stone.Cell.{Cell}
 use Rattle.kb_geometry.specs.declared.stone.Cell.TheVariants as stone
@@ -24,89 +22,33 @@ use Rattle.capture_index.specs.Wants.{AreWantsOf, ClassesOn, IsWantOf, base_of}
 use Rattle.capture_index.proofs.WantsOfPlacements.{number_under-base, wants-on_board}
 use Rattle.final_index.specs.declared.ever_sets.EverSets.{EverSets}
 use Rattle.final_index.specs.Ever.{set_of}
-use Rattle.final_index.specs.Planes.{HadThere, PlaneGames}
-use Rattle.candidate_sieve.specs.BlockGames.{HadEach, HadWanted, wants_all}
+use Rattle.final_index.specs.Planes.{PlaneGames}
+use Rattle.candidate_sieve.specs.BlockGames.{HadEach, HadWanted, HaveEach, wants_all}
 use Rattle.candidate_sieve.specs.Candidates.{IsPossibleIn, MeetsCells}
 
--- ---- bits
-
-pub or-bit : (a b g : ℕ) → (bit_at (bit_or a b) g ≡ 1) ↔ ((bit_at a g ≡ 1) ⊎ (bit_at b g ≡ 1))
-or-bit a b g =
-    let is : bit_at (bit_or a b) g ≡ max (bit_at a g) (bit_at b g) = bit_at_or a b g in
-    let one = bit_at-lt a g in
-    let other = bit_at-lt b g in (
-      λ e. elim (cases_eq (bit_at a g) 1) [ inl t ↦ inl t | inr f ↦ inr (omega (arith, e, is, one, other, f)) ],
-      λ h. elim h [ inl t ↦ omega (arith, is, one, other, t) | inr t ↦ omega (arith, is, one, other, t) ],
-    )
-
-pub and-bit : (a b g : ℕ) → (bit_at (bit_and a b) g ≡ 1) ↔ ((bit_at a g ≡ 1) × (bit_at b g ≡ 1))
-and-bit a b g =
-    let is : bit_at (bit_and a b) g ≡ min (bit_at a g) (bit_at b g) = bit_at_and a b g in
-    let one = bit_at-lt a g in
-    let other = bit_at-lt b g in
-    (λ e. (omega (arith, e, is, one, other), omega (arith, e, is, one, other)), λ h. omega (arith, is, h.0, h.1))
-
--- ---- one want
-
-pub wanted-told : (games : List (Option EverSets)) (g : ℕ) (want : Want) (p a b w : ℕ) →
-    (bit_at a g ≡ 1) ↔ (IsTrue want.empty × HadThere games g stone.Empty p) →
-    (bit_at b g ≡ 1) ↔ (IsTrue want.black × HadThere games g stone.Black p) →
-    (bit_at w g ≡ 1) ↔ (IsTrue want.white × HadThere games g stone.White p) →
-    wants_all want ≡ false → (bit_at (bit_or (bit_or a b) w) g ≡ 1) ↔ HadWanted games g want p
-wanted-told games g want p a b w empty black white some = (
-  λ e asks. elim ((or-bit (bit_or a b) w g).0 e) [
-    | inr t ↦ let h = white.0 t in (stone.White, h.0, h.1)
-    | inl both ↦ elim ((or-bit a b g).0 both) [
-      | inl t ↦ let h = empty.0 t in (stone.Empty, h.0, h.1)
-      | inr t ↦ let h = black.0 t in (stone.Black, h.0, h.1)
-    ]
-  ],
-  λ had. let h = had some in made h.0 h.1 h.2,
-)
-  where
-    made : (c : Cell) → IsTrue (is_wanted want c) → HadThere games g c p → bit_at (bit_or (bit_or a b) w) g ≡ 1
-    made stone.Empty wanted there = (or-bit (bit_or a b) w g).1 (inl ((or-bit a b g).1 (inl (empty.1 (wanted, there)))))
-    made stone.Black wanted there = (or-bit (bit_or a b) w g).1 (inl ((or-bit a b g).1 (inr (black.1 (wanted, there)))))
-    made stone.White wanted there = (or-bit (bit_or a b) w g).1 (inr (white.1 (wanted, there)))
-
 -- ---- the first wants
-
--- the games of the word are those of another that had the first so many wants
-abbrev pub HaveEach : List (Option EverSets) → ℕ → List Want → ℕ → ℕ → ℕ → Type 0
-HaveEach games base wants there count word =
-    (g : ℕ) → g < 64 → (bit_at word g ≡ 1) ↔ ((bit_at there g ≡ 1) × HadEach games base wants count g)
 
 module _ (games : List (Option EverSets)) (base : ℕ) (wants : List Want) (there : ℕ) where
   pub each-start : HaveEach games base wants there 0 there
   each-start g lt = (λ e. (e, λ k none. absurd (omega (arith, none))), λ h. h.0)
 
-  module _ (count word next : ℕ) (so_far : HaveEach games base wants there count word) (within : count < length wants)
-      (wanted : (g : ℕ) → g < 64 → (bit_at next g ≡ 1) ↔ HadWanted games g (slice_index_or wants count no_want) (base + (slice_index_or wants count no_want).offset)) where
-    pub each-more : HaveEach games base wants there (count + 1) (bit_and word next)
-    each-more g lt =
-        let both = and-bit word next g in (
-          λ e.
-              let parts = both.0 e in
-              let was = (so_far g lt).0 parts.0 in (
-                was.0,
-                λ k below. elim (cases_lt k count) [
-                  | inl before ↦ was.1 k before
-                  | inr last ↦
-                      let here : count ≡ k = omega (arith, below, last) in
-                      subst (λ (i : ℕ). HadWanted games g (slice_index_or wants i no_want) (base + (slice_index_or wants i no_want).offset)) here ((wanted g lt).0 parts.1)
-                ],
-              ),
-          λ h. both.1 ((so_far g lt).1 (h.0, λ k below. h.1 k (omega (arith, below))), (wanted g lt).1 (h.1 count (omega arith))),
-        )
-
-    -- where no game is left, none has all
-    pub each-none : bit_and word next ≡ 0 → HaveEach games base wants there (length wants) 0
-    each-none none g lt = (
-      λ e. absurd (omega (arith, e, bit_at-zero g)),
-      λ h.
-          let left : bit_at (bit_and word next) g ≡ 1 = (each-more g lt).1 (h.0, λ k below. h.1 k (omega (arith, below, within))) in
-          absurd (omega (arith, left, ap (λ (n : ℕ). bit_at n g) none, bit_at-zero g)),
-    )
+  -- one want more is kept
+  pub each-more : (count word next : ℕ) → HaveEach games base wants there count word →
+      ((g : ℕ) → g < 64 → (bit_at next g ≡ 1) ↔ ((bit_at word g ≡ 1) × HadWanted games g (slice_index_or wants count no_want) (base + (slice_index_or wants count no_want).offset))) → HaveEach games base wants there (count + 1) next
+  each-more count word next so_far kept g lt = (
+    λ e.
+        let parts = (kept g lt).0 e in
+        let was = (so_far g lt).0 parts.0 in (
+          was.0,
+          λ k below. elim (cases_lt k count) [
+            | inl before ↦ was.1 k before
+            | inr last ↦
+                let here : count ≡ k = omega (arith, below, last) in
+                subst (λ (i : ℕ). HadWanted games g (slice_index_or wants i no_want) (base + (slice_index_or wants i no_want).offset)) here parts.1
+          ],
+        ),
+    λ h. (kept g lt).1 ((so_far g lt).1 (h.0, λ k below. h.1 k (omega (arith, below))), h.1 count (omega arith)),
+  )
 
 -- ---- a placement's cells by its wants
 

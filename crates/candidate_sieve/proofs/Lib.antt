@@ -6,4 +6,6 @@ pub mod NotedPoints
 pub mod BegunLists
 pub mod GamesTold
 pub mod CandidateLists
+pub mod PlacementLists
+pub mod RowsSieved
 pub mod OccurrencesKept

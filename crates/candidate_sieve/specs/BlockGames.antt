@@ -1,5 +1,6 @@
 -- The games of a block that have the cells of a placement: words for private functions.
-use Rattle.std.specs.Prelude.{◌≡◌, ◌⊎◌, ◌&&◌, ℕ, ◌+◌, ◌<◌, ◌++◌, ◌∷◌, [], Bool, IsTrue, false, List, Option, slice_index_or}
+use Rattle.std.specs.Prelude.{◌≡◌, ◌⊎◌, ◌&&◌, ◌↔◌, ℕ, ◌+◌, ◌<◌, ◌++◌, ◌∷◌, [], Bool, IsTrue, false, List, Option, slice_index, slice_index_or}
+use Rattle.std.specs.Int.{bit_at}
 use Rattle.kb_geometry.specs.declared.stone.Cell.{Cell}
 use Rattle.capture_index.specs.declared.stretch.Want.{Want}
 use Rattle.capture_index.specs.Stretches.{is_wanted, no_want}
@@ -22,7 +23,22 @@ HadEach games base wants count g = (k : ℕ) → k < count →
     HadWanted games g (slice_index_or wants k no_want)
     (base + (slice_index_or wants k no_want).offset)
 
+-- the games of the word are those of another that had the first so many wants
+abbrev pub HaveEach : List (Option EverSets) → ℕ → List Want → ℕ → ℕ → ℕ → Type 0
+HaveEach games base wants there count word =
+    (g : ℕ) → g < 64 → (bit_at word g ≡ 1) ↔ ((bit_at there g ≡ 1)
+    × HadEach games base wants count g)
+
 -- the list has gained a candidate with these games, if there is one
 abbrev pub IsAddedFor : ℕ → ℕ → List Candidate → List Candidate → Type 0
 IsAddedFor i games old new = ((games ≡ 0) × (new ≡ old))
     ⊎ ((0 < games) × (new ≡ old ++ record { placement = i; games = games } ∷ []))
+
+-- The list has gained, for each of the first so many placements of a list, a candidate with its
+-- games, if there is one.
+pub data AreAddedFor (numbers words : List ℕ)
+    (old : List Candidate) : ℕ → List Candidate → Type 0 where
+  nothing : AreAddedFor numbers words old 0 old
+  one_more : (k : ℕ) (now next : List Candidate) → AreAddedFor numbers words old k now →
+      IsAddedFor (slice_index numbers k) (slice_index words k) now next →
+      AreAddedFor numbers words old (k + 1) next

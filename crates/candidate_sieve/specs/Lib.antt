@@ -6,3 +6,4 @@ pub mod NodeCandidates
 pub mod BlockGames
 pub mod FrameCells
 pub mod Noting
+pub mod PlacementRows

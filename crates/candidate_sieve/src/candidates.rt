@@ -1,17 +1,15 @@
 // The games of a block that may have a placement.
-ghost use Rattle.std.specs.Prelude.{◌≡◌, ◌+◌, ◌<◌, ◌↔◌, ℕ, All, IsSome, IsTrue, OnOk, None, length, slice_index_or};
+ghost use Rattle.std.specs.Prelude.{◌≡◌, ◌+◌, ◌<◌, ◌≤◌, ◌↔◌, ℕ, All, OnOk, length, slice_index};
 ghost use Rattle.std.specs.Int.{bit_at};
 ghost use Rattle.kb_geometry.specs.Board.{point_count};
-ghost use Rattle.pattern_images.specs.ImageList.{placement_at};
 ghost use Rattle.capture_index.specs.declared.stretch.Want.{Want};
-ghost use Rattle.final_index.specs.Planes.{HadThere};
-ghost use Rattle.candidate_sieve.specs.BlockGames.{HadEach, HadWanted, IsAddedFor, wants_all};
-ghost use Rattle.candidate_sieve.specs.Candidates.{AreCandidatesAdded, IsPossibleIn};
+ghost use Rattle.candidate_sieve.specs.BlockGames.{AreAddedFor, HadWanted, HaveEach, IsAddedFor};
+ghost use Rattle.candidate_sieve.specs.Candidates.{AreCandidatesAdded};
 
+use crate::placement_rows::{PlacementRow, PlacementRows};
 use capture_index::{Want, Wants};
 use final_index::Planes;
-use kb_geometry::{Cell, NoMemory, Point};
-use pattern_images::{Images, Place};
+use kb_geometry::{Cell, NoMemory};
 
 /// A placement that some games of a block may have.
 #[derive(Clone, Copy, Debug, PartialEq, Eq)]
@@ -24,23 +22,98 @@ pub struct Candidate {
 
 /// Adds, for each placement that some game of the block may have, these games of those that are
 /// asked for: the games on boards of the shape of which each cell of the placement but wildcards
-/// was allowed at some node. The only error is `NoMemory`.
+/// was allowed at some node. The candidates come class by class. `room` is written over. The only
+/// error is `NoMemory`.
 pub fn add_candidates(
     planes: &Planes,
-    images: &Images,
+    rows: &PlacementRows,
     wants: &Wants,
     asked: u64,
+    room: &mut Vec<u64>,
     found: &mut Vec<Candidate>,
 ) -> Result<(), NoMemory>
-    requires shape { images.now.shape ≡ planes.now.shape }
-    requires wants { wants.now ≡ record { shape = images.now.shape; grids = images.now.grids } }
-    ensures { OnOk result (AreCandidatesAdded planes.now images.now.placements asked
+    requires shape { rows.now.images.now.shape ≡ planes.now.shape }
+    requires wants { wants.now ≡ record {
+      shape = rows.now.images.now.shape;
+      grids = rows.now.images.now.grids;
+    } }
+    ensures { OnOk result (AreCandidatesAdded planes.now rows.now.images.now.placements asked
         found.old.items found.new.items) }
 {
     let there = asked & planes.present();
-    for i in 0..images.len() {
-        let games = games_with(planes, images, wants, i, there);
-        add_games(i as u32, games, found)?;
+    let _count = rows.images.len();
+    for row in &rows.rows {
+        fill_room(planes, *row, wants.of_class(row.class), there, room)?;
+        let numbers = &rows.numbers[row.start..row.start + row.count];
+        add_row(numbers, room, found)?;
+    }
+    Ok(())
+}
+
+// Fills the room with a word for each placement of a row: the games of those that are there which
+// may have it.
+fn fill_room(
+    planes: &Planes,
+    row: PlacementRow,
+    wants: &[Want],
+    there: u64,
+    room: &mut Vec<u64>,
+) -> Result<(), NoMemory>
+    requires { All (λ (w : Want). row.base + w.offset + row.count ≤ point_count planes.now.shape)
+        wants.now }
+    ensures count { OnOk result (length room.new.items ≡ row.count) }
+    ensures games { OnOk result ((k : ℕ) → k < row.count → HaveEach planes.now.games (row.base + k)
+        wants.now there (length wants.now) (slice_index room.new.items k)) }
+{
+    room.clear();
+    room.resize(row.count, there)?;
+    keep_wanted(planes, row.base, wants, room);
+    Ok(())
+}
+
+// Keeps in each word the games that had, for each want, a cell that it allows on its point, which
+// stands behind the base for the first word, behind the next point for the next, and so on.
+fn keep_wanted(planes: &Planes, base: u16, wants: &[Want], words: &mut [u64])
+    requires { All (λ (w : Want). base + w.offset + length words.old ≤ point_count planes.now.shape)
+        wants.now }
+    ensures count { length words.new ≡ length words.old }
+    ensures kept { (k : ℕ) → k < length words.old → HaveEach planes.now.games (base + k) wants.now
+        (slice_index words.old k) (length wants.now) (slice_index words.new k) }
+{
+    for want in wants {
+        keep_want(planes, *want, base + want.offset, words);
+    }
+}
+
+// Keeps in each word the games that had a cell that the want allows on its point: the first word is
+// that of the point `from`, and so on. A want of each cell asks nothing.
+fn keep_want(planes: &Planes, want: Want, from: u16, words: &mut [u64])
+    requires { from + length words.old ≤ point_count planes.now.shape }
+    ensures count { length words.new ≡ length words.old }
+    ensures kept { (k g : ℕ) → k < length words.old → g < 64 →
+        (bit_at (slice_index words.new k) g ≡ 1) ↔ ((bit_at (slice_index words.old k) g ≡ 1)
+        × HadWanted planes.now.games g want (from + k)) }
+{
+    match (want.empty, want.black, want.white) {
+        (true, true, true) => {}
+        (true, true, false) => planes.keep_either(Cell::Empty, Cell::Black, from, words),
+        (true, false, true) => planes.keep_either(Cell::Empty, Cell::White, from, words),
+        (false, true, true) => planes.keep_either(Cell::Black, Cell::White, from, words),
+        (true, false, false) => planes.keep(Cell::Empty, from, words),
+        (false, true, false) => planes.keep(Cell::Black, from, words),
+        (false, false, true) => planes.keep(Cell::White, from, words),
+        (false, false, false) => words.fill(0),
+    }
+}
+
+// Adds a candidate for each placement of a row that some game may have.
+fn add_row(numbers: &[u32], words: &[u64], found: &mut Vec<Candidate>) -> Result<(), NoMemory>
+    requires { length words.now ≡ length numbers.now }
+    ensures { OnOk result (AreAddedFor numbers.now words.now found.old.items
+        (length numbers.now) found.new.items) }
+{
+    for k in 0..numbers.len() {
+        add_games(numbers[k], words[k], found)?;
     }
     Ok(())
 }
@@ -54,66 +127,4 @@ fn add_games(placement: u32, games: u64, found: &mut Vec<Candidate>) -> Result<(
     }
     found.push(Candidate { placement, games })?;
     Ok(())
-}
-
-// The games of those on boards of the shape that are asked for which may have a placement.
-fn games_with(planes: &Planes, images: &Images, wants: &Wants, i: usize, there: u64) -> u64
-    requires placement { i < length images.now.placements }
-    requires shape { images.now.shape ≡ planes.now.shape }
-    requires wants { wants.now ≡ record { shape = images.now.shape; grids = images.now.grids } }
-    requires present { (g : ℕ) → g < 64 → bit_at there g ≡ 1 →
-        IsSome (slice_index_or planes.now.games g None) }
-    ensures games { (g : ℕ) → g < 64 → (bit_at result g ≡ 1) ↔ ((bit_at there g ≡ 1)
-        × IsPossibleIn planes.now g (placement_at images.now.placements i)) }
-    ensures label { (placement_at images.now.placements i).label < 16 }
-{
-    let Place { x, y, .. } = images.place(i);
-    let base = images.shape().number(Point { x, y });
-    games_meeting(planes, base, wants.of_class(images.class_of(i)), there)
-}
-
-// The games that had, for each want, a cell that it allows on its point. As soon as no game is left
-// the others aren't looked at.
-fn games_meeting(planes: &Planes, base: u16, wants: &[Want], there: u64) -> u64
-    requires { All (λ (w : Want). base + w.offset < point_count planes.now.shape) wants.now }
-    ensures { (g : ℕ) → g < 64 → (bit_at result g ≡ 1) ↔ ((bit_at there g ≡ 1)
-        × HadEach planes.now.games base wants.now (length wants.now) g) }
-{
-    let mut games = there;
-    for want in wants {
-        games &= games_wanted(planes, base + want.offset, *want);
-        if games == 0 {
-            return 0;
-        }
-    }
-    games
-}
-
-// The games that had a cell on a point that the want allows; all, where it allows each cell.
-fn games_wanted(planes: &Planes, point: u16, want: Want) -> u64
-    requires { point < point_count planes.now.shape }
-    ensures { (g : ℕ) → g < 64 → (bit_at result g ≡ 1) ↔ HadWanted planes.now.games g want point }
-{
-    if wants_all(want) {
-        return u64::MAX;
-    }
-    games_having(planes, point, Cell::Empty, want.empty)
-        | games_having(planes, point, Cell::Black, want.black)
-        | games_having(planes, point, Cell::White, want.white)
-}
-
-// Whether the want allows each cell.
-fn wants_all(want: Want) -> bool
-    ensures { result ≡ wants_all want }
-{
-    want.empty && want.black && want.white
-}
-
-// The games that had a cell on a point; none, if the cell isn't wanted.
-fn games_having(planes: &Planes, point: u16, cell: Cell, wanted: bool) -> u64
-    requires { point < point_count planes.now.shape }
-    ensures { (g : ℕ) → g < 64 →
-        (bit_at result g ≡ 1) ↔ (IsTrue wanted × HadThere planes.now.games g cell point) }
-{
-    if wanted { planes.word(point, cell) } else { 0 }
 }

@@ -11,6 +11,7 @@ mod cells;
 mod corners;
 mod laws;
 mod nodes;
+mod placement_rows;
 mod sieve;
 
 pub use asked::AskedPoints;
@@ -22,6 +23,7 @@ pub use laws::{
     the_node_candidates_have_all_occurrences,
 };
 pub use nodes::{candidates_under, node_candidates};
+pub use placement_rows::PlacementRows;
 pub use sieve::passes;
 
 #[cfg(test)]

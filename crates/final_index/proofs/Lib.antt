@@ -4,3 +4,4 @@ pub mod GatheredNodes
 pub mod JoinedBits
 pub mod NotedBits
 pub mod PresentGames
+pub mod KeptBits

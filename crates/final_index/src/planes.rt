@@ -7,6 +7,7 @@ ghost use Rattle.std.specs.Prelude.{
   ◌<◌,
   ◌≤◌,
   ◌↔◌,
+  ◌⊎◌,
   ◌++◌,
   ◌∷◌,
   [],
@@ -18,6 +19,8 @@ ghost use Rattle.std.specs.Prelude.{
   Some,
   None,
   length,
+  bit_and,
+  bit_or,
   slice_index,
   slice_index_or,
 };
@@ -156,6 +159,36 @@ impl Planes {
         self.words[3 * usize::from(point) + code_of(cell)]
     }
 
+    /// Keeps of each word the games that had the cell at some node on its point: the first word is
+    /// that of the point `from`, the next that of the point behind it, and so on.
+    pub fn keep(&self, cell: Cell, from: u16, words: &mut [u64])
+        requires { from + length words.old ≤ point_count self.now.shape }
+        ensures count { length words.new ≡ length words.old }
+        ensures kept { (k g : ℕ) → k < length words.old → g < 64 →
+            (bit_at (slice_index words.new k) g ≡ 1) ↔ ((bit_at (slice_index words.old k) g ≡ 1)
+            × HadThere self.now.games g cell (from + k)) }
+    {
+        cut(words, &self.words, 3 * usize::from(from) + code_of(cell));
+    }
+
+    /// Keeps of each word the games that had one cell or the other at some node on its point: the
+    /// first word is that of the point `from`, the next that of the point behind it, and so on.
+    pub fn keep_either(&self, one: Cell, other: Cell, from: u16, words: &mut [u64])
+        requires { from + length words.old ≤ point_count self.now.shape }
+        ensures count { length words.new ≡ length words.old }
+        ensures kept { (k g : ℕ) → k < length words.old → g < 64 →
+            (bit_at (slice_index words.new k) g ≡ 1) ↔ ((bit_at (slice_index words.old k) g ≡ 1)
+            × (HadThere self.now.games g one (from + k) ⊎ HadThere self.now.games g other (from + k))) }
+    {
+        let first = 3 * usize::from(from);
+        cut_by_either(
+            words,
+            &self.words,
+            first + code_of(one),
+            first + code_of(other),
+        );
+    }
+
     /// The games of the first, then those of the second: together at most 64, on boards of one
     /// shape.
     pub fn join(alloc: Global, a: &Planes, b: &Planes) -> Result<Planes, NoMemory>
@@ -210,6 +243,32 @@ fn note(words: &mut [u64], points: u16, cell: Cell, members: &BitBoard, game: us
         if members.contains(point) {
             words[3 * usize::from(point) + code] |= 1 << game;
         }
+    }
+}
+
+// Cuts each word with the word of one cell on its point.
+fn cut(words: &mut [u64], all: &[u64], start: usize)
+    requires { (k : ℕ) → k < length words.old → start + 3 * k < length all.now }
+    ensures count { length words.new ≡ length words.old }
+    ensures each { (k : ℕ) → k < length words.old → slice_index words.new k
+        ≡ bit_and (slice_index words.old k) (slice_index all.now (start + 3 * k)) }
+{
+    for k in 0..words.len() {
+        words[k] &= all[start + 3 * k];
+    }
+}
+
+// Cuts each word with the joined words of two cells on its point.
+fn cut_by_either(words: &mut [u64], all: &[u64], one: usize, other: usize)
+    requires one { (k : ℕ) → k < length words.old → one + 3 * k < length all.now }
+    requires other { (k : ℕ) → k < length words.old → other + 3 * k < length all.now }
+    ensures count { length words.new ≡ length words.old }
+    ensures each { (k : ℕ) → k < length words.old → slice_index words.new k
+        ≡ bit_and (slice_index words.old k)
+        (bit_or (slice_index all.now (one + 3 * k)) (slice_index all.now (other + 3 * k))) }
+{
+    for k in 0..words.len() {
+        words[k] &= all[one + 3 * k] | all[other + 3 * k];
     }
 }
 

@@ -1,10 +1,13 @@
 // The games of a block that may have a placement.
+ghost use Rattle.std.specs.Prelude.{◌≡◌, IfOk};
+
 use super::made::{Row, made};
 use super::{Asked, BLACK, WHITE, images_of};
-use crate::{Candidate, add_candidates};
+use crate::{Candidate, PlacementRows, add_candidates};
 use capture_index::Wants;
 use final_index::{EverSets, Planes};
 use kb_geometry::Shape;
+use pattern_images::{Images, Pattern, PatternCell, Place, Query, images};
 use std::alloc::Global;
 use std::marker::Brand;
 use std::process::Abort;
@@ -39,6 +42,29 @@ fn block(rt: &impl Abort, alloc: Global) -> Result<Planes, Fail> {
     Ok(planes)
 }
 
+// The candidates of a block, of which the images are for its shape.
+fn candidates(
+    alloc: Global,
+    planes: &Planes,
+    images: &Images,
+    games: u64,
+) -> Result<Vec<Candidate>, Fail>
+    requires { images.now.shape ≡ planes.now.shape }
+{
+    let rows = PlacementRows::of(alloc, images)?;
+    let wants = Wants::of(alloc, images)?;
+    let mut found = Vec::new(alloc);
+    add_candidates(
+        planes,
+        &rows,
+        &wants,
+        games,
+        &mut Vec::new(alloc),
+        &mut found,
+    )?;
+    Ok(found)
+}
+
 // A candidate, as the number of its placement and its games.
 type Shown = (u32, u64);
 
@@ -51,11 +77,8 @@ fn expect_candidates(
     expected: &[Shown],
 ) -> Result<(), Fail> {
     let images = images_of(rt, alloc, planes.shape(), asked)?;
-    let wants = Wants::of(alloc, &images)?;
-    let mut found = Vec::new(alloc);
-    add_candidates(planes, &images, &wants, games, &mut found)?;
     let mut shown = Vec::new(alloc);
-    for Candidate { placement, games } in &found {
+    for Candidate { placement, games } in &candidates(alloc, planes, &images, games)? {
         shown.push((*placement, *games))?;
     }
     assert_eq!(rt; shown.as_slice(), expected, "{}", asked.2);
@@ -91,11 +114,56 @@ fn games_of_two_shapes(rt: HostRuntime) -> Result<(), Fail> {
             [(0, 0b001), (1, 0b100)].as_slice(),
         ),
         ((1, 1, "o", Some((0, 0))), 0b111, [(0, 0b100)].as_slice()),
+        // The first game never had point 0 empty or white.
+        (
+            (1, 1, "o", None),
+            0b111,
+            [(0, 0b100), (1, 0b101), (2, 0b101), (3, 0b101)].as_slice(),
+        ),
+        (
+            (2, 1, "xo", None),
+            0b101,
+            [(0, 0b101), (1, 0b101)].as_slice(),
+        ),
         // A wildcard alone is possible in each game on such a board.
         ((2, 2, "****", None), 0b111, [(0, 0b101)].as_slice()),
     ];
     for (asked, games, expected) in cases {
         expect_candidates(&rt, rt.alloc(), &planes, games, asked, expected)?;
     }
+    Ok(())
+}
+
+// A black stone beside an empty point, under all symmetries.
+fn turned_images(rt: &impl Abort, alloc: Global, shape: Shape) -> Result<Images, Fail>
+    ensures { IfOk result (λ images. images.shape ≡ shape) }
+{
+    let cells = vec![in alloc; PatternCell::Black, PatternCell::Empty]?;
+    let mut query = Query::new(Pattern::new(2, 1, cells).expect(rt, "a pattern"));
+    query.same = true;
+    Ok(images(alloc, &query, shape)?)
+}
+
+// A candidate, as the column, the row and the columns of its placement, and its games.
+type Placed = (u8, u8, u8, u64);
+
+#[test]
+fn placements_of_several_classes(rt: HostRuntime) -> Result<(), Fail> {
+    let planes = block(&rt, rt.alloc())?;
+    let images = turned_images(&rt, rt.alloc(), planes.shape())?;
+    let mut placed: Vec<Placed> = Vec::new(rt.alloc());
+    for Candidate { placement, games } in &candidates(rt.alloc(), &planes, &images, 0b111)? {
+        assert!(&rt; (*placement as usize) < images.len());
+        let Place { x, y, cols, .. } = images.place(*placement as usize);
+        placed.push((x, y, cols, *games))?;
+    }
+    placed.sort()?;
+    let expected = [
+        (0, 0, 1, 0b001),
+        (0, 0, 2, 0b001),
+        (0, 0, 2, 0b100),
+        (1, 0, 1, 0b100),
+    ];
+    assert!(&rt; placed.as_slice() == expected.as_slice());
     Ok(())
 }

@@ -76,13 +76,19 @@ fn no_game(rt: HostRuntime) -> Result<(), Fail> {
     Ok(())
 }
 
+// Three games, and one on another board, which is the second.
+fn three_games(rt: &impl Abort, alloc: Global) -> Result<Planes, Fail> {
+    let mut planes = Planes::new(alloc, board(rt))?;
+    push(rt, alloc, &mut planes, &PLAYED)?;
+    push_others(rt, &mut planes, 1);
+    push(rt, alloc, &mut planes, &REMOVED)?;
+    push(rt, alloc, &mut planes, &VARIED)?;
+    Ok(planes)
+}
+
 #[test]
 fn three_games_and_one_on_another_board(rt: HostRuntime) -> Result<(), Fail> {
-    let mut planes = Planes::new(rt.alloc(), board(&rt))?;
-    push(&rt, rt.alloc(), &mut planes, &PLAYED)?;
-    push_others(&rt, &mut planes, 1);
-    push(&rt, rt.alloc(), &mut planes, &REMOVED)?;
-    push(&rt, rt.alloc(), &mut planes, &VARIED)?;
+    let planes = three_games(&rt, rt.alloc())?;
     assert_eq!(&rt; planes.len(), 4);
     // The second game has no bit. The third had point 0 never empty, and point 4 only at its end.
     let words: [Words; 4] = [
@@ -159,5 +165,42 @@ fn full_planes_and_none(rt: HostRuntime) -> Result<(), Fail> {
     expect_words(&rt, &full, &words);
     expect_words(&rt, &joined(&rt, rt.alloc(), &full, &nothing)?, &words);
     expect_words(&rt, &joined(&rt, rt.alloc(), &nothing, &full)?, &words);
+    Ok(())
+}
+
+// Of three words, each of these games, those that had the cell on the points from one on.
+fn kept(rt: &impl Abort, planes: &Planes, games: u64, cell: Cell, from: u16) -> [u64; 3] {
+    let mut words = [games; 3];
+    assert!(rt; usize::from(from) + words.len() <= usize::from(planes.shape().count()));
+    planes.keep(cell, from, &mut words[..]);
+    words
+}
+
+// Of three words, each of all games, those that had one cell or the other.
+fn kept_by_either(rt: &impl Abort, planes: &Planes, one: Cell, other: Cell, from: u16) -> [u64; 3] {
+    let mut words = [u64::MAX; 3];
+    assert!(rt; usize::from(from) + words.len() <= usize::from(planes.shape().count()));
+    planes.keep_either(one, other, from, &mut words[..]);
+    words
+}
+
+#[test]
+fn words_of_a_row_of_points(rt: HostRuntime) -> Result<(), Fail> {
+    let planes = three_games(&rt, rt.alloc())?;
+    assert!(&rt; kept(&rt, &planes, u64::MAX, EMPTY, 0) == [0b0001, 0b1101, 0b1101]);
+    assert!(&rt; kept(&rt, &planes, u64::MAX, BLACK, 3) == [0, 0b1001, 0]);
+    assert!(&rt; kept(&rt, &planes, u64::MAX, WHITE, 4) == [0b1100, 0, 0]);
+    // Games that were left out before stay so. The last row of the board has no stone.
+    assert!(&rt; kept(&rt, &planes, 0b0111, BLACK, 4) == [0b0001, 0, 0]);
+    assert!(&rt; kept(&rt, &planes, 0b1010, EMPTY, 6) == [0b1000, 0b1000, 0b1000]);
+    Ok(())
+}
+
+#[test]
+fn words_of_either_of_two_cells(rt: HostRuntime) -> Result<(), Fail> {
+    let planes = three_games(&rt, rt.alloc())?;
+    assert!(&rt; kept_by_either(&rt, &planes, EMPTY, BLACK, 0) == [0b0101, 0b1101, 0b1101]);
+    assert!(&rt; kept_by_either(&rt, &planes, BLACK, WHITE, 3) == [0, 0b1101, 0]);
+    assert!(&rt; kept_by_either(&rt, &planes, WHITE, EMPTY, 6) == [0b1101, 0b1101, 0b1101]);
     Ok(())
 }

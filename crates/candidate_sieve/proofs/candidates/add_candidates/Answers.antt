@@ -1,29 +1,73 @@
-use Rattle.std.proofs.Common.{below_more, refl, arith}
-use Rattle.candidate_sieve.proofs.CandidateLists.{added-end, added-more, added-start, number-small}
-use Rattle.candidate_sieve.proofs.GamesTold.{and-bit}
+use Rattle.std.proofs.Common.{◌≡◌, ℕ, ◌+◌, ◌<◌, List, bit_and, length, refl, sym, ap, ◌∙◌, subst, subst₂, arith}
+use Rattle.std.specs.Prelude.{slice_range}
+use Rattle.pattern_images.specs.ImageList.{grid_at}
+use Rattle.capture_index.specs.Wants.{AreWantsOf, ClassesOn}
+use Rattle.final_index.proofs.KeptBits.{and-bit}
+use Rattle.candidate_sieve.specs.declared.placement_rows.PlacementRow.{PlacementRow}
+use Rattle.candidate_sieve.specs.BlockGames.{AreAddedFor}
+use Rattle.candidate_sieve.specs.PlacementRows.{EndAt, IsRowIn, row_at}
+use Rattle.candidate_sieve.proofs.CandidateLists.{AreAddedTo, added-end, added-start}
+use Rattle.candidate_sieve.proofs.PlacementLists.{end-none, end-of, end-once, number-found}
+use Rattle.candidate_sieve.proofs.RowsSieved.{row-added, row-on_board}
 use Rattle.candidate_sieve.proofs.candidates.add_candidates.Goals as goal
 
-pub loop-i-init : goal.loop-i-init
-loop-i-init c = record {
-  added = added-start c.args.planes.now c.args.images.now.placements _ c.args.found.now.items;
-  labels = λ j lt. absurd (omega (arith, lt));
-}
+pub loop-row-init : goal.loop-row-init
+loop-row-init c = (0, end-none c.args.rows.now.rows.items, added-start c.args.planes.now c.args.rows.now.images.now.placements (bit_and c.args.asked c.present.result) c.args.rows.now.numbers.items c.args.found.now.items)
 
-pub games_with-games-requires-clause-present : goal.games_with-games-requires-clause-present
-games_with-games-requires-clause-present c g lt e = (c.present.ensures g lt).0 ((and-bit c.args.asked c.present.result g).0 e).1
+pub of_class-requires : goal.of_class-requires
+of_class-requires c =
+    let made = c.args.rows.now.made in
+    let rows = c.args.rows.now.rows.items in
+    let index = c.loop-row.row-index in
+    let within : index < length rows = omega (arith, c.loop-row-test.true, ap length c.deref-row-items.ensures.value) in
+    let is = made.are_rows.each index within in
+    let grids = ap (λ (v : ClassesOn). length v.grids) c.requires.wants in
+    subst (λ (rs : List PlacementRow). (row_at rs index).class < length c.args.wants.now.grids) (sym c.deref-row-items.ensures.value) (omega (arith, (is.classes 0 is.some).in_range, grids))
 
-pub overflow_cast-i : goal.overflow_cast-i
-overflow_cast-i c =
-    let images = c.args.images.now in
-    omega (arith, number-small images.shape images.placements c.len-i-end.ensures.images.placed c.len-i-end.ensures.images.ordered c.loop-i.i (omega (arith, c.loop-i-test.true, c.len-i-end.ensures.value)) c.loop-i.invariant.labels c.games_with-games.ensures.label)
+pub fill_room-requires : goal.fill_room-requires
+fill_room-requires c =
+    let made = c.args.rows.now.made in
+    let images = c.args.rows.now.images.now in
+    let numbers = c.args.rows.now.numbers.items in
+    let rows = c.args.rows.now.rows.items in
+    let index = c.loop-row.row-index in
+    let within : index < length rows = omega (arith, c.loop-row-test.true, ap length c.deref-row-items.ensures.value) in
+    let row = row_at c.deref-row-items.result.now index in
+    let same : row_at rows index ≡ row = ap (λ (rs : List PlacementRow). row_at rs index) (sym c.deref-row-items.ensures.value) in
+    row-on_board images c.len-count.ensures.images c.args.planes.now c.requires.shape numbers made.in_range row (subst (IsRowIn images numbers) same (made.are_rows.each index within)) c.of_class.result.now
+    (subst (λ (v : ClassesOn). AreWantsOf v.shape (grid_at v.grids row.class) c.of_class.result.now) c.requires.wants c.of_class.ensures)
 
-pub loop-i-preserved : goal.loop-i-preserved
-loop-i-preserved c = record {
-  added = added-more c.args.planes.now c.args.images.now.placements _ c.args.found.now.items c.loop-i.i c.loop-i.found.items c.add_games.new.found.items c.loop-i.invariant.added c.games_with-games.result c.games_with-games.ensures.games c.in_ok-add_games.ensures;
-  labels = below_more _ _ c.loop-i.invariant.labels c.games_with-games.ensures.label;
-}
+pub loop-row-preserved : goal.loop-row-preserved
+loop-row-preserved c =
+    let made = c.args.rows.now.made in
+    let images = c.args.rows.now.images.now in
+    let numbers = c.args.rows.now.numbers.items in
+    let rows = c.args.rows.now.rows.items in
+    let planes = c.args.planes.now in
+    let there = bit_and c.args.asked c.present.result in
+    let index = c.loop-row.row-index in
+    let within : index < length rows = omega (arith, c.loop-row-test.true, ap length c.deref-row-items.ensures.value) in
+    let row = row_at c.deref-row-items.result.now index in
+    let same : row_at rows index ≡ row = ap (λ (rs : List PlacementRow). row_at rs index) (sym c.deref-row-items.ensures.value) in
+    let start : c.loop-row.invariant.0 ≡ row.start = end-once rows index c.loop-row.invariant.0 (row_at rows index).start c.loop-row.invariant.1 (made.are_rows.parted index within) ∙ ap (λ (r : PlacementRow). r.start) same in
+    let added = subst₂ (λ (ns ws : List ℕ). AreAddedFor (slice_range ns row.start (row.start + row.count)) ws c.loop-row.found.items (length (slice_range ns row.start (row.start + row.count))) c.add_row.new.found.items)
+    c.deref.ensures.value c.deref-in-loop-row.ensures.value c.in_ok-add_row.ensures in (
+      row.start + row.count,
+      end-of rows index (row.start + row.count) (ap (λ (r : PlacementRow). r.start + r.count) (sym same)),
+      row-added images c.len-count.ensures.images planes c.requires.shape numbers made.in_range row (subst (IsRowIn images numbers) same (made.are_rows.each index within)) c.of_class.result.now
+          (subst (λ (v : ClassesOn). AreWantsOf v.shape (grid_at v.grids row.class) c.of_class.result.now) c.requires.wants c.of_class.ensures)
+          there c.fill_room.new.room.items (λ g lt e. (c.present.ensures g lt).0 ((and-bit c.args.asked c.present.result g).0 e).1) c.in_ok-fill_room.ensures.games made.once
+          c.args.found.now.items c.loop-row.found.items c.add_row.new.found.items
+          (subst (λ (n : ℕ). AreAddedTo planes images.placements there numbers n c.args.found.now.items c.loop-row.found.items) start c.loop-row.invariant.2) added,
+    )
 
 pub returns : goal.returns
 returns c =
-    added-end c.args.planes.now c.args.images.now.placements _ c.args.found.now.items c.args.asked c.present.result c.loop-i.i c.loop-i.found.items refl c.present.ensures
-    (omega (arith, c.loop-i-test.false, c.loop-i.auto.i-end, c.len-i-end.ensures.value)) c.loop-i.invariant.added
+    let made = c.args.rows.now.made in
+    let images = c.args.rows.now.images.now in
+    let numbers = c.args.rows.now.numbers.items in
+    let rows = c.args.rows.now.rows.items in
+    let all : c.loop-row.row-index ≡ length rows = omega (arith, c.loop-row-test.false, c.loop-row.auto.row-index-end, ap length c.deref-row-items.ensures.value) in
+    let whole = end-once rows (length rows) c.loop-row.invariant.0 (length numbers) (subst (λ (r : ℕ). EndAt rows r c.loop-row.invariant.0) all c.loop-row.invariant.1) made.are_rows.whole in
+    added-end c.args.planes.now images.placements (bit_and c.args.asked c.present.result) numbers c.args.found.now.items c.args.asked c.present.result c.loop-row.found.items refl c.present.ensures made.in_range (number-found images numbers rows made)
+    (subst (λ (n : ℕ). AreAddedTo c.args.planes.now images.placements (bit_and c.args.asked c.present.result) numbers n c.args.found.now.items c.loop-row.found.items) whole c.loop-row.invariant.2)

@@ -1,11 +1,8 @@
-use Rattle.std.proofs.Common.{ℕ, ◌<◌}
-use Rattle.pattern_images.specs.ImageList.{placement_at}
+use Rattle.std.proofs.Common.{ℕ}
+use Rattle.candidate_sieve.specs.PlacementRows.{EndAt}
 use Rattle.candidate_sieve.proofs.CandidateLists.{AreAddedTo}
 use Rattle.candidate_sieve.proofs.candidates.add_candidates.Given as goal
 
--- the placements so far
-abbrev pub invariant-loop-i : goal.invariant-loop-i
-invariant-loop-i l = record {
-  added : AreAddedTo l.planes l.images.placements l.there l.i l.initial.found.items l.found.items;
-  labels : (j : ℕ) → j < l.i → (placement_at l.images.placements j).label < 16;
-}
+-- the placements of the rows so far
+abbrev pub invariant-loop-row : goal.invariant-loop-row
+invariant-loop-row l = (end : ℕ) × EndAt l.rows.rows.items l.row-index end × AreAddedTo l.planes l.rows.images.now.placements l.there l.rows.numbers.items end l.initial.found.items l.found.items

@@ -1,0 +1,76 @@
+-- The games of the placements of a row, by its words.
+use Rattle.std.proofs.Common.{◌≡◌, ◌↔◌, ℕ, ◌+◌, ◌-◌, ◌<◌, ◌≤◌, List, None, drop, length, slice_index, slice_index_or, ap, ◌∙◌, subst, arith}
+use Rattle.std.specs.Int.{bit_at}
+use Rattle.std.specs.Option.{IsSome}
+use Rattle.std.specs.Prelude.{All, slice_range}
+use Rattle.std.proofs.lemmas.List.{get_or-drop, get_or-take, length-drop, length-take-le}
+use Rattle.kb_geometry.specs.declared.shape.Shape.{Shape}
+use Rattle.kb_geometry.specs.Board.{point_count}
+use Rattle.pattern_images.specs.Grid.{Grid}
+use Rattle.pattern_images.specs.ImageList.{AreImages, ImageList, IsPlacedOn, grid_at, no_placement, placement_at}
+use Rattle.pattern_images.specs.Placements.{Placement}
+use Rattle.capture_index.specs.declared.stretch.Want.{Want}
+use Rattle.capture_index.specs.Wants.{AreWantsOf, base_of}
+use Rattle.capture_index.proofs.WantsOfPlacements.{wants-on_board}
+use Rattle.final_index.specs.Planes.{PlaneGames}
+use Rattle.candidate_sieve.specs.declared.placement_rows.PlacementRow.{PlacementRow}
+use Rattle.candidate_sieve.specs.declared.candidates.Candidate.{Candidate}
+use Rattle.candidate_sieve.specs.BlockGames.{AreAddedFor, HaveEach}
+use Rattle.candidate_sieve.specs.Candidates.{IsPossibleIn}
+use Rattle.candidate_sieve.specs.PlacementRows.{IsRowIn}
+use Rattle.candidate_sieve.proofs.CandidateLists.{AreAddedTo, added-row}
+use Rattle.candidate_sieve.proofs.GamesTold.{possible-told}
+
+-- ---- the part of a list from a place on
+
+sliced-length : (xs : List ℕ) (start count : ℕ) → start + count ≤ length xs → length (slice_range xs start (start + count)) ≡ count
+sliced-length xs start count within =
+    let same : start + count - start ≡ count = omega arith in
+    let few : start + count - start ≤ length (drop start xs) = omega (arith, within, length-drop start xs) in
+    length-take-le (start + count - start) (drop start xs) few ∙ same
+
+sliced-number : (xs : List ℕ) (start count k : ℕ) → k < count → slice_index (slice_range xs start (start + count)) k ≡ slice_index xs (start + k)
+sliced-number xs start count k lt = get_or-take (start + count - start) (drop start xs) k 0 (omega (arith, lt)) ∙ get_or-drop start xs k 0
+
+-- ---- a row
+
+module _ (images : ImageList) (are-images : AreImages images) (planes : PlaneGames) (same : images.shape ≡ planes.shape) (numbers : List ℕ) (in_range : (k : ℕ) → k < length numbers → slice_index numbers k < length images.placements)
+    (row : PlacementRow) (is : IsRowIn images numbers row) (wants : List Want) (are : AreWantsOf images.shape (grid_at images.grids row.class) wants) where
+  -- a placement of the row
+  abbrev here : ℕ → Placement
+  here k = placement_at images.placements (slice_index numbers (row.start + k))
+
+  placed : (k : ℕ) → k < row.count → IsPlacedOn planes.shape (here k)
+  placed k lt = subst (λ (s : Shape). IsPlacedOn s (here k)) same (are-images.placed (slice_index numbers (row.start + k)) no_placement (in_range (row.start + k) (omega (arith, is.within, lt))))
+
+  wants-of : (k : ℕ) → k < row.count → AreWantsOf planes.shape (here k).grid wants
+  wants-of k lt = subst (λ (s : Shape). AreWantsOf s (here k).grid wants) same (subst (λ (g : Grid). AreWantsOf images.shape g wants) (is.classes k lt).cells are)
+
+  at-base : (k : ℕ) → k < row.count → row.base + k ≡ base_of planes.shape (here k)
+  at-base k lt = is.bases k lt ∙ ap (λ (s : Shape). base_of s (here k)) same
+
+  -- the points of the last placement are on the board, and so those of the others
+  pub row-on_board : All (λ (w : Want). row.base + w.offset + row.count ≤ point_count planes.shape) wants
+  row-on_board k d lt =
+      let last : row.count - 1 < row.count = omega (arith, is.some) in
+      let below = wants-on_board planes.shape (here (row.count - 1)) (placed (row.count - 1) last) wants (wants-of (row.count - 1) last) k d lt in
+      omega (arith, below, at-base (row.count - 1) last, is.some)
+
+  pub row-told : (there : ℕ) (words : List ℕ) → ((g : ℕ) → g < 64 → bit_at there g ≡ 1 → IsSome (slice_index_or planes.games g None)) →
+      ((k : ℕ) → k < row.count → HaveEach planes.games (row.base + k) wants there (length wants) (slice_index words k)) →
+      (k g : ℕ) → k < row.count → g < 64 → (bit_at (slice_index words k) g ≡ 1) ↔ ((bit_at there g ≡ 1) × IsPossibleIn planes g (here k))
+  row-told there words present have k g lt few =
+      possible-told planes (here k) (placed k lt) wants (wants-of k lt) (row.base + k) (at-base k lt) there (slice_index words k) present (have k lt) g few
+
+  -- the candidates of the row are added
+  pub row-added : (there : ℕ) (words : List ℕ) → ((g : ℕ) → g < 64 → bit_at there g ≡ 1 → IsSome (slice_index_or planes.games g None)) →
+      ((k : ℕ) → k < row.count → HaveEach planes.games (row.base + k) wants there (length wants) (slice_index words k)) →
+      ((j k : ℕ) → j < length numbers → k < length numbers → slice_index numbers j ≡ slice_index numbers k → j ≡ k) →
+      (old now next : List Candidate) → AreAddedTo planes images.placements there numbers row.start old now →
+      AreAddedFor (slice_range numbers row.start (row.start + row.count)) words now (length (slice_range numbers row.start (row.start + row.count))) next →
+      AreAddedTo planes images.placements there numbers (row.start + row.count) old next
+  row-added there words present have once old now next so_far added =
+      let part : List ℕ = slice_range numbers row.start (row.start + row.count) in
+      let all : length part ≡ row.count = sliced-length numbers row.start row.count is.within in
+      added-row planes images.placements there numbers old once row.start now so_far part words row.count next is.within (sliced-number numbers row.start row.count)
+      (row-told there words present have) (subst (λ (n : ℕ). AreAddedFor part words now n next) all added)

@@ -1,0 +1,117 @@
+// The placements of images in rows, to be sieved a row at a time.
+ghost use Rattle.std.specs.Prelude.{◌≡◌, ◌<◌, ◌+◌, IfOk, IsTrue, OnOk, length};
+ghost use Rattle.capture_index.specs.Wants.{base_of};
+ghost use Rattle.pattern_images.specs.ImageList.{placement_at};
+ghost use Rattle.candidate_sieve.specs.PlacementRows.{ArePlacedTo, AreRowsOf, AreRowsTo, IsRowGrown};
+
+use kb_geometry::{NoMemory, Point};
+use pattern_images::{Images, Place};
+use std::alloc::Global;
+
+/// The placements of images in rows, made ready to be sieved a row at a time: those of a class whose
+/// upper left points follow one another on the board.
+#[derive(Debug, Drop)]
+pub struct PlacementRows<'a> {
+    /// The images.
+    pub images: &'a Images,
+    // The numbers of the placements, class by class and row by row.
+    pub(crate) numbers: Vec<u32>,
+    pub(crate) rows: Vec<PlacementRow>,
+    ghost made: { AreRowsOf images.now numbers.items rows.items },
+}
+
+// So many placements of a class, the first with its upper left point on the base, and each of the
+// others on the next point.
+#[derive(Clone, Copy, Debug)]
+pub(crate) struct PlacementRow {
+    pub(crate) class: usize,
+    // The number of a point.
+    pub(crate) base: u16,
+    // Where the row begins in the list of numbers.
+    pub(crate) start: usize,
+    pub(crate) count: usize,
+}
+
+impl<'a> PlacementRows<'a> {
+    /// The rows of the placements of these images. The only error is `NoMemory`.
+    pub fn of(alloc: Global, images: &'a Images) -> Result<Self, NoMemory>
+        ensures { IfOk result (λ rows. rows.images.now ≡ images.now) }
+    {
+        let mut numbers = Vec::with_capacity(alloc, images.len())?;
+        let mut rows = Vec::new(alloc);
+        for class in 0..images.class_count() {
+            add_class(images, class, &mut numbers, &mut rows)?;
+        }
+        Ok(PlacementRows {
+            images,
+            numbers,
+            rows,
+        })
+    }
+}
+
+// Adds the placements of a class, in order of the board, and their rows.
+fn add_class(
+    images: &Images,
+    class: usize,
+    numbers: &mut Vec<u32>,
+    rows: &mut Vec<PlacementRow>,
+) -> Result<(), NoMemory>
+    requires in_range { class < length images.now.grids }
+    requires placed { ArePlacedTo images.now class 0 numbers.old.items }
+    requires rows { AreRowsTo images.now numbers.old.items rows.old.items }
+    ensures placed { OnOk result (ArePlacedTo images.now class (length images.now.placements)
+        numbers.new.items) }
+    ensures rows { OnOk result (AreRowsTo images.now numbers.new.items rows.new.items) }
+{
+    for i in 0..images.len() {
+        let base = base(images, i);
+        if images.class_of(i) == class {
+            add_to_rows(class, base, numbers.len(), rows)?;
+            numbers.push(i as u32)?;
+        }
+    }
+    Ok(())
+}
+
+// The number of the upper left point of a placement.
+fn base(images: &Images, i: usize) -> u16
+    requires { i < length images.now.placements }
+    ensures value { result ≡ base_of images.now.shape (placement_at images.now.placements i) }
+    ensures label { (placement_at images.now.placements i).label < 16 }
+{
+    let _count = images.len();
+    let Place { x, y, .. } = images.place(i);
+    images.shape().number(Point { x, y })
+}
+
+// Adds a placement with this base, which stands behind all others in the list: to the last row, if
+// it goes on there, or as the first of a new row.
+fn add_to_rows(
+    class: usize,
+    base: u16,
+    start: usize,
+    rows: &mut Vec<PlacementRow>,
+) -> Result<(), NoMemory>
+    ensures { OnOk result (IsRowGrown class base start rows.old.items rows.new.items) }
+{
+    let count = rows.len();
+    if count > 0 && goes_on(rows[count - 1], class, base) {
+        rows[count - 1].count += 1;
+        return Ok(());
+    }
+    rows.push(PlacementRow {
+        class,
+        base,
+        start,
+        count: 1,
+    })?;
+    Ok(())
+}
+
+// Whether a placement of this class with this base stands behind those of the row.
+fn goes_on(row: PlacementRow, class: usize, base: u16) -> bool
+    ensures { IsTrue result → (row.class ≡ class) × (base ≡ row.base + row.count) }
+{
+    row.class == class && row.base <= base && usize::from(base - row.base) == row.count
+}
