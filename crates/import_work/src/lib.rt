@@ -14,3 +14,6 @@ mod outcome;
 pub use batch::{Batch, FileLine, FileLines, import_batch};
 pub use one_file::import_one;
 pub use outcome::{Counts, FileOutcome, MAX_BASE_NODES};
+
+#[cfg(test)]
+mod tests;
