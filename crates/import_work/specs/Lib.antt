@@ -1,0 +1,6 @@
+-- Words that contracts of public functions rest on.
+pub mod Batches
+pub mod Course
+pub mod Log
+pub mod Outcome
+pub mod Rooms
