@@ -21,11 +21,12 @@ use kb_geometry::NoMemory;
 use segment_store::Block;
 
 // Finds the placements that each game of a block may have, among the games that are asked for. What
-// was found before is gone.
+// was found before is gone. The words and the candidates are room for work.
 pub(crate) fn find_placements(
     matchers: &Matchers,
     block: &Block,
     asked: u64,
+    words: &mut Vec<u64>,
     candidates: &mut Vec<Candidate>,
     placements: &mut GamePlacements,
 ) -> Result<(), NoMemory>
@@ -40,7 +41,7 @@ pub(crate) fn find_placements(
         AreCandidatesOf matchers.now.query filter block.now (IsListed placements.new)) }
 {
     let _count = block.len();
-    find_candidates(matchers, block, asked, candidates)?;
+    find_candidates(matchers, block, asked, words, candidates)?;
     placements.fill(candidates)
 }
 
@@ -50,6 +51,7 @@ fn find_candidates(
     matchers: &Matchers,
     block: &Block,
     asked: u64,
+    words: &mut Vec<u64>,
     found: &mut Vec<Candidate>,
 ) -> Result<(), NoMemory>
     ensures in_range { OnOk result (AreInRange matchers.now.query block.now
@@ -65,7 +67,7 @@ fn find_candidates(
     let _count = block.len();
     found.clear();
     for planes in block.planes() {
-        add_on_shape(matchers, planes, asked, found)?;
+        add_on_shape(matchers, planes, asked, words, found)?;
     }
     Ok(())
 }
@@ -76,6 +78,7 @@ fn add_on_shape(
     matchers: &Matchers,
     planes: &Planes,
     asked: u64,
+    words: &mut Vec<u64>,
     found: &mut Vec<Candidate>,
 ) -> Result<(), NoMemory>
     ensures { OnOk result (AreAddedOn matchers.now.query matchers.now.shapes planes.now asked
@@ -84,5 +87,12 @@ fn add_on_shape(
     let Some(matcher) = matchers.find(planes.shape()) else {
         return Ok(());
     };
-    add_candidates(planes, matcher.images, matcher.wants(), asked, found)
+    add_candidates(
+        planes,
+        &matcher.rows,
+        matcher.runs.wants(),
+        asked,
+        words,
+        found,
+    )
 }

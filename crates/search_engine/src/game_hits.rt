@@ -10,6 +10,7 @@ ghost use Rattle.search_engine.specs.BlockCandidates.{AreCompleteFor, AreInRange
 ghost use Rattle.search_engine.specs.Hits.{AreHitsIn, AreHitsOf, IsHit, LooksAt};
 ghost use Rattle.search_engine.specs.Searching.{AreHitsAdded};
 
+use crate::matchers::BoardMatcher;
 use crate::occurrences::occurrences;
 use capture_board::NodeDeltas;
 use continuation_table::next_below;
@@ -17,7 +18,7 @@ use game_tree::GameTree;
 use kb_geometry::NoMemory;
 use line_matcher::Occurrence;
 use pattern_images::{Hit, Images, Query};
-use run_matcher::{Gathered, RunMatcher};
+use run_matcher::Gathered;
 use segment_store::FinishedGame;
 use std::alloc::Global;
 
@@ -28,7 +29,7 @@ pub(crate) fn add_hits_in(
     query: &Query,
     number: u32,
     game: &FinishedGame,
-    matcher: &RunMatcher,
+    matcher: &BoardMatcher,
     placements: &[u32],
     gathered: &mut Gathered,
     hits: &mut Vec<Hit>,
@@ -42,7 +43,7 @@ pub(crate) fn add_hits_in(
         hits.old.items hits.new.items) }
 {
     let deltas = game.deltas();
-    let found = occurrences(alloc, game, deltas, matcher, placements, gathered)?;
+    let found = occurrences(alloc, game, deltas, &matcher.runs, placements, gathered)?;
     add_hits(query, number, game, deltas, matcher.images, &found, hits)
 }
 

@@ -50,6 +50,7 @@ fn kept_of_items(alloc: Global, matchers: &Matchers, items: &[Item]) -> Result<u
     requires covered { AreCovered matchers.now.query matchers.now.shapes (games_of items.now) }
     ensures { IfOk result (λ k. AreKept matchers.now.query (games_of items.now) k) }
 {
+    let mut words = Vec::new(alloc);
     let mut candidates = Vec::new(alloc);
     let mut placements = GamePlacements::new(alloc)?;
     let mut count = 0;
@@ -58,6 +59,7 @@ fn kept_of_items(alloc: Global, matchers: &Matchers, items: &[Item]) -> Result<u
             matchers,
             item.block,
             u64::MAX,
+            &mut words,
             &mut candidates,
             &mut placements,
         )?;

@@ -20,6 +20,7 @@ ghost use Rattle.pattern_images.specs.Query.{IsForBoard};
 ghost use Rattle.search_engine.specs.ImagesMade.{AreImagesOf};
 
 use crate::shape_list::ShapeList;
+use candidate_sieve::PlacementRows;
 use kb_geometry::{NoMemory, Shape};
 use pattern_images::{Images, Query, images};
 use run_matcher::RunMatcher;
@@ -89,12 +90,34 @@ fn images_on(alloc: Global, query: &Query, shapes: &[Shape]) -> Result<Vec<Image
     Ok(made)
 }
 
+// The images on boards of one shape, made ready to be sought in the planes of blocks and in the runs
+// of games.
+#[derive(Debug, Drop)]
+pub(crate) struct BoardMatcher<'a> {
+    pub(crate) images: &'a Images,
+    pub(crate) rows: PlacementRows<'a>,
+    pub(crate) runs: RunMatcher<'a>,
+    ghost in_rows: { rows.images.now ≡ images.now },
+    ghost by_runs: { runs.images.now ≡ images.now },
+}
+
+impl<'a> BoardMatcher<'a> {
+    // Makes images ready.
+    fn new(alloc: Global, images: &'a Images) -> Result<BoardMatcher<'a>, NoMemory>
+        ensures { IfOk result (λ made. made.images.now ≡ images.now) }
+    {
+        let rows = PlacementRows::of(alloc, images)?;
+        let runs = RunMatcher::new(alloc, images)?;
+        Ok(BoardMatcher { images, rows, runs })
+    }
+}
+
 // The images of a query on boards of several shapes, made ready to be looked for.
 #[derive(Debug, Drop)]
 pub(crate) struct Matchers<'a> {
     query: &'a Query,
     shapes: &'a ShapeList,
-    matchers: Vec<RunMatcher<'a>>,
+    matchers: Vec<BoardMatcher<'a>>,
 }
 
 impl<'a> Model for Matchers<'a> {
@@ -130,7 +153,7 @@ impl<'a> Matchers<'a> {
     }
 
     // The matcher for boards of this shape, if there is one.
-    pub(crate) fn find(&self, shape: Shape) -> Option<&RunMatcher<'a>>
+    pub(crate) fn find(&self, shape: Shape) -> Option<&BoardMatcher<'a>>
         ensures shape { IfSome result (λ found. found.now.images.now.shape ≡ shape) }
         ensures asked { IfSome result (λ found. IsForBoard self.now.query shape) }
         ensures placements { IfSome result (λ found.
@@ -146,12 +169,12 @@ impl<'a> Matchers<'a> {
 }
 
 // The images made ready, in their order.
-fn matchers_of<'a>(alloc: Global, images: &'a [Images]) -> Result<Vec<RunMatcher<'a>>, NoMemory>
+fn matchers_of<'a>(alloc: Global, images: &'a [Images]) -> Result<Vec<BoardMatcher<'a>>, NoMemory>
     ensures { IfOk result (λ made. map (λ m. m.images.now) made.items ≡ images.now) }
 {
     let mut made = Vec::new(alloc);
     for on_shape in images {
-        made.push(RunMatcher::new(alloc, on_shape)?)?;
+        made.push(BoardMatcher::new(alloc, on_shape)?)?;
     }
     Ok(made)
 }

@@ -38,6 +38,7 @@ use std::alloc::Global;
 // What a piece of a search works with, kept from block to block.
 #[derive(Debug, Drop)]
 struct Room {
+    words: Vec<u64>,
     candidates: Vec<Candidate>,
     placements: GamePlacements,
     gathered: Gathered,
@@ -55,6 +56,7 @@ pub(crate) fn add_items_hits(
         matchers.now.shapes items.now hits.old.items hits.new.items) }
 {
     let mut room = Room {
+        words: Vec::new(alloc),
         candidates: Vec::new(alloc),
         placements: GamePlacements::new(alloc)?,
         gathered: Gathered::new(alloc),
@@ -84,11 +86,14 @@ fn add_block(
         return Ok(());
     }
     let Room {
+        words,
         candidates,
         placements,
         gathered,
     } = room;
-    find_placements(matchers, item.block, accepted, candidates, placements)?;
+    find_placements(
+        matchers, item.block, accepted, words, candidates, placements,
+    )?;
     add_found(alloc, matchers, item, &*placements, gathered, hits)
 }
 
