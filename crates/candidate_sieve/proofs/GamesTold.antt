@@ -2,24 +2,22 @@
 use Rattle.std.proofs.Common.{◌≡◌, ◌≢◌, ℕ, ◌+◌, ◌<◌, ◌↔◌, true, false, List, Option, None, Some, length, slice_index_or, refl, sym, ◌∙◌, ap, subst, arith, inl, inr}
 use Rattle.std.specs.Int.{bit_at}
 use Rattle.std.specs.Option.{IsSome, IsSomeAnd}
-use Rattle.std.specs.Prelude.{◌&&◌, All, Contains, IsTrue}
+use Rattle.std.specs.Prelude.{◌&&◌, Contains, IsTrue}
 use Rattle.std.proofs.lemmas.Bool.{and_from, and_parts, cases_Bool, cases_lt, false≢true}
 use Rattle.std.proofs.lemmas.List.{get_or_default}
 use Rattle.kb_geometry.specs.declared.shape.Shape.{Shape}
 use Rattle.kb_geometry.specs.declared.stone.Cell.{Cell}
 use Rattle.kb_geometry.specs.declared.stone.Cell.TheVariants as stone
-use Rattle.kb_geometry.specs.Board.{number_of, point_count}
-use Rattle.kb_geometry.specs.Symmetry.{point_of}
 use Rattle.pattern_images.specs.declared.cell.PatternCell.{PatternCell}
 use Rattle.pattern_images.specs.declared.cell.PatternCell.TheVariants as cell
-use Rattle.pattern_images.specs.Grid.{Grid, cell_in}
+use Rattle.pattern_images.specs.Grid.{cell_in}
 use Rattle.pattern_images.specs.Holds.{Allows, number_under}
-use Rattle.pattern_images.specs.ImageList.{ImageList, IsPlacedOn, grid_at}
+use Rattle.pattern_images.specs.ImageList.{IsPlacedOn}
 use Rattle.pattern_images.specs.Placements.{Placement}
 use Rattle.capture_index.specs.declared.stretch.Want.{Want}
 use Rattle.capture_index.specs.Stretches.{is_wanted, no_want}
-use Rattle.capture_index.specs.Wants.{AreWantsOf, ClassesOn, IsWantOf, base_of}
-use Rattle.capture_index.proofs.WantsOfPlacements.{number_under-base, wants-on_board}
+use Rattle.capture_index.specs.Wants.{AreWantsOf, IsWantOf, base_of}
+use Rattle.capture_index.proofs.WantsOfPlacements.{number_under-base}
 use Rattle.final_index.specs.declared.ever_sets.EverSets.{EverSets}
 use Rattle.final_index.specs.Ever.{set_of}
 use Rattle.final_index.specs.Planes.{PlaneGames}
@@ -113,20 +111,3 @@ possible-told planes placement placed wants are base at there word present have 
       λ e. let h = (have g lt).0 e in (h.0, (possible h.0).0 h.1),
       λ h. (have g lt).1 (h.0, (possible h.0).1 h.1),
     )
-
--- the base of a placement, by what is at hand
-pub base_is : (shape s : Shape) (x y xx yy b : ℕ) → b ≡ number_of s (point_of x y) → s ≡ shape → x ≡ xx → y ≡ yy → b ≡ number_of shape (point_of xx yy)
-base_is shape s x y xx yy b is same column row =
-    is ∙ ap (λ (t : Shape). number_of t (point_of x y)) same ∙ ap (λ (i : ℕ). number_of shape (point_of i y)) column ∙ ap (λ (j : ℕ). number_of shape (point_of xx j)) row
-
--- the wants of a class are those of a placement of the class
-pub wants-are : (classes : ClassesOn) (images : ImageList) (shape : Shape) (class : ℕ) (grid : Grid) (wants : List Want) → classes ≡ record { shape = images.shape; grids = images.grids } → grid_at images.grids class ≡ grid → images.shape ≡ shape →
-    AreWantsOf classes.shape (grid_at classes.grids class) wants → AreWantsOf shape grid wants
-wants-are classes images shape class grid wants is cells same are =
-    subst (λ (s : Shape). AreWantsOf s grid wants) same
-    (subst (λ (g : Grid). AreWantsOf images.shape g wants) cells
-    (subst (λ (v : ClassesOn). AreWantsOf v.shape (grid_at v.grids class) wants) is are))
-
-pub wants-below : (shape : Shape) (placement : Placement) → IsPlacedOn shape placement → (wants : List Want) → AreWantsOf shape placement.grid wants → (base : ℕ) → base ≡ base_of shape placement → All (λ (w : Want). base + w.offset < point_count shape) wants
-wants-below shape placement placed wants are base at =
-    subst (λ (b : ℕ). All (λ (w : Want). b + w.offset < point_count shape) wants) (sym at) (wants-on_board shape placement placed wants are)

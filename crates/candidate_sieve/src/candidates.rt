@@ -1,5 +1,5 @@
 // The games of a block that may have a placement.
-ghost use Rattle.std.specs.Prelude.{◌≡◌, ◌+◌, ◌<◌, ◌≤◌, ◌↔◌, ℕ, All, OnOk, length, slice_index};
+ghost use Rattle.std.specs.Prelude.{◌≡◌, ◌+◌, ◌<◌, ◌≤◌, ◌↔◌, ℕ, All, IsTrue, OnOk, length, slice_index};
 ghost use Rattle.std.specs.Int.{bit_at};
 ghost use Rattle.kb_geometry.specs.Board.{point_count};
 ghost use Rattle.capture_index.specs.declared.stretch.Want.{Want};
@@ -72,7 +72,8 @@ fn fill_room(
 }
 
 // Keeps in each word the games that had, for each want, a cell that it allows on its point, which
-// stands behind the base for the first word, behind the next point for the next, and so on.
+// stands behind the base for the first word, behind the next point for the next, and so on. Where no
+// game is left in any word, the other wants aren't looked at.
 fn keep_wanted(planes: &Planes, base: u16, wants: &[Want], words: &mut [u64])
     requires { All (λ (w : Want). base + w.offset + length words.old ≤ point_count planes.now.shape)
         wants.now }
@@ -82,7 +83,22 @@ fn keep_wanted(planes: &Planes, base: u16, wants: &[Want], words: &mut [u64])
 {
     for want in wants {
         keep_want(planes, *want, base + want.offset, words);
+        if are_empty(words) {
+            return;
+        }
     }
+}
+
+// Whether no game is left in any of the words.
+fn are_empty(words: &[u64]) -> bool
+    ensures { IsTrue result → (k : ℕ) → k < length words.now → slice_index words.now k ≡ 0 }
+{
+    for k in 0..words.len() {
+        if words[k] != 0 {
+            return false;
+        }
+    }
+    true
 }
 
 // Keeps in each word the games that had a cell that the want allows on its point: the first word is

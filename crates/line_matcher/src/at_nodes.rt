@@ -1,5 +1,5 @@
 // The occurrences at chosen nodes of a game.
-ghost use Rattle.std.specs.Prelude.{◌≡◌, ◌+◌, ◌-◌, ◌≤◌, ◌<◌, IfOk, OnOk};
+ghost use Rattle.std.specs.Prelude.{◌≡◌, ◌+◌, ◌≤◌, IfOk, OnOk};
 ghost use Rattle.std.specs.List.Sorted.{IsStrictlyIncreasing};
 ghost use Rattle.capture_board.specs.Deltas.{node_count};
 ghost use Rattle.capture_board.specs.Walking.{node_before, StandsIn};
