@@ -1,13 +1,16 @@
 -- Files cut into batches, and the segments that they make.
-use Rattle.std.proofs.Common.{◌≡◌, ℕ, zero, suc, ◌+◌, ◌-◌, ◌*◌, ◌/◌, ◌≤◌, List, [], ◌∷◌, ◌++◌, ◌<◌, drop, get_or, length, length-append, map, take, refl, sym, ap, ◌∙◌, add-one, zero-add, zero-mul, suc-mul, arith}
+use Rattle.std.proofs.Common.{◌≡◌, inl, inr, ℕ, zero, suc, ◌+◌, ◌-◌, ◌*◌, ◌/◌, ◌≤◌, List, [], ◌∷◌, ◌++◌, ◌<◌, drop, get_or, length, length-append, map, take, refl, sym, ap, ◌∙◌, add-one, zero-add, zero-mul, suc-mul, arith}
 use Rattle.std.specs.Prelude.{Vec}
 use Rattle.std.specs.declared.alloc.Global.{Global}
 use Rattle.std.specs.Fork.{slice_chunk}
 use Rattle.std.specs.List.{range_with_len}
+use Rattle.std.proofs.lemmas.Bool.{cases_lt}
 use Rattle.std.proofs.Math.Seq.{drop-append_seam, take-add}
 use Rattle.std.proofs.lemmas.Grind.{flat_map-append}
 use Rattle.std.proofs.lemmas.List.{append-nil, drop-append-le, length-drop, map-append, take-append-drop, take-append-le, take_all, take_more}
 use Rattle.std.proofs.lemmas.List.FromFn.{map-range_with_len_more}
+use Rattle.std.proofs.lemmas.Nat.{div-mul-add}
+use Rattle.std.proofs.Math.Nat.{div-mul-le_self, lt-div-mul-add, mul-le-mul_left, mul-le-mul_right}
 use Rattle.node_position.specs.Games.{Game}
 use Rattle.version_publisher.specs.Contents.{items_in}
 use Rattle.search_run.specs.Course.{Files, Finding, ImportFile, games_of_files}
@@ -40,59 +43,86 @@ pieces_joined files batch (suc k) =
     next_end : (k batch : ℕ) → k * batch + batch ≡ suc k * batch
     next_end k batch = omega (arith, suc-mul k batch)
 
+-- so many pieces there are of so many files, where the last one holds the last file
+pub piece_count : (count batch k : ℕ) → 1 ≤ batch → count ≤ k * batch → k * batch ≤ count + (batch - 1) → (count + (batch - 1)) / batch ≡ k
+piece_count count batch k some all last =
+    let behind : ℕ = (count + (batch - 1)) - k * batch in
+    let split : count + (batch - 1) ≡ k * batch + behind = omega (arith, last) in
+    ap (λ n. n / batch) split ∙ div-mul-add k batch behind (omega (arith, some, all))
+
+-- all files are in the pieces
+pieces_hold : (count batch : ℕ) → 1 ≤ batch → count ≤ (count + (batch - 1)) / batch * batch
+pieces_hold count batch some =
+    let below : count + (batch - 1) < (count + (batch - 1)) / batch * batch + batch = lt-div-mul-add some in
+    omega (arith, below, some)
+
+-- there are no more pieces than files
+pub pieces_few : (count batch : ℕ) → 1 ≤ batch → (count + (batch - 1)) / batch ≤ count
+pieces_few count batch some =
+    let k : ℕ = (count + (batch - 1)) / batch in
+    let within : k * batch ≤ count + (batch - 1) = div-mul-le_self (count + (batch - 1)) batch in
+    elim (cases_lt count k) [
+      | inl many ↦
+          let more : suc count * batch ≤ k * batch = mul-le-mul_right batch (omega (arith, many)) in
+          let whole : count * 1 ≤ count * batch = mul-le-mul_left count some in
+          absurd (omega (arith, within, more, whole, suc-mul count batch, some))
+      | inr few ↦ few
+    ]
+
 -- the segments of an import have the games of its files
-pub games_in-segments : (files : List ImportFile) → games_in (segments_of 64 (Files files)) ≡ games_of_files files
-games_in-segments files =
-    pieces_joined files 64 ((length files + (64 - 1)) / 64)
-    ∙ ap games_of_files (take_all ((length files + (64 - 1)) / 64 * 64) files (omega arith))
+pub games_in-segments : (batch : ℕ) → 1 ≤ batch → (files : List ImportFile) → games_in (segments_of batch (Files files)) ≡ games_of_files files
+games_in-segments batch some files =
+    pieces_joined files batch ((length files + (batch - 1)) / batch)
+    ∙ ap games_of_files (take_all ((length files + (batch - 1)) / batch * batch) files (pieces_hold (length files) batch some))
 
 -- ---- whole batches, and one batch more
 
-module _ (files more : List ImportFile) where
+module _ (batch : ℕ) (files more : List ImportFile) where
   -- a whole piece of the files is one of all files
-  same_piece : (k : ℕ) → k * 64 + 64 ≤ length files → slice_chunk (files ++ more) 64 k ≡ slice_chunk files 64 k
+  same_piece : (k : ℕ) → k * batch + batch ≤ length files → slice_chunk (files ++ more) batch k ≡ slice_chunk files batch k
   same_piece k within =
-      ap (take 64) (drop-append-le (k * 64) files more (omega (arith, within)))
-      ∙ take-append-le 64 (drop (k * 64) files) more (rw length-drop (omega (arith, within)))
+      ap (take batch) (drop-append-le (k * batch) files more (omega (arith, within)))
+      ∙ take-append-le batch (drop (k * batch) files) more (rw length-drop (omega (arith, within)))
 
-  same_pieces : (k : ℕ) → k * 64 ≤ length files → map (slice_chunk (files ++ more) 64) (range_with_len 0 k) ≡ map (slice_chunk files 64) (range_with_len 0 k)
+  same_pieces : (k : ℕ) → k * batch ≤ length files → map (slice_chunk (files ++ more) batch) (range_with_len 0 k) ≡ map (slice_chunk files batch) (range_with_len 0 k)
   same_pieces zero within = refl
   same_pieces (suc k) within =
-      let here : k * 64 + 64 ≤ length files = omega (arith, within) in
-      pieces_more (slice_chunk (files ++ more) 64) k
-      ∙ ap (λ ps. ps ++ slice_chunk (files ++ more) 64 k ∷ []) (same_pieces k (omega (arith, here)))
-      ∙ ap (λ p. map (slice_chunk files 64) (range_with_len 0 k) ++ p ∷ []) (same_piece k here)
-      ∙ sym (pieces_more (slice_chunk files 64) k)
+      let here : k * batch + batch ≤ length files = omega (arith, within, suc-mul k batch) in
+      pieces_more (slice_chunk (files ++ more) batch) k
+      ∙ ap (λ ps. ps ++ slice_chunk (files ++ more) batch k ∷ []) (same_pieces k (omega (arith, here)))
+      ∙ ap (λ p. map (slice_chunk files batch) (range_with_len 0 k) ++ p ∷ []) (same_piece k here)
+      ∙ sym (pieces_more (slice_chunk files batch) k)
 
   -- the files behind whole batches are a batch
-  pub batches-more : (k : ℕ) → length files ≡ k * 64 → 1 ≤ length more → length more ≤ 64 → batches 64 (files ++ more) ≡ batches 64 files ++ more ∷ []
+  pub batches-more : (k : ℕ) → length files ≡ k * batch → 1 ≤ length more → length more ≤ batch → batches batch (files ++ more) ≡ batches batch files ++ more ∷ []
   batches-more k whole some few =
-      let all : (length (files ++ more) + (64 - 1)) / 64 ≡ suc k = rw length-append (omega (arith, whole, some, few)) in
-      let before : (length files + (64 - 1)) / 64 ≡ k = omega (arith, whole) in
-      let last : slice_chunk (files ++ more) 64 k ≡ more =
-      ap (λ n. take 64 (drop n (files ++ more))) (sym whole) ∙ ap (take 64) (drop-append_seam files more) ∙ take_all 64 more few in
-      ap (λ n. map (slice_chunk (files ++ more) 64) (range_with_len 0 n)) all
-      ∙ pieces_more (slice_chunk (files ++ more) 64) k
-      ∙ ap (λ ps. ps ++ slice_chunk (files ++ more) 64 k ∷ []) (same_pieces k (omega (arith, whole)))
-      ∙ ap (λ p. map (slice_chunk files 64) (range_with_len 0 k) ++ p ∷ []) last
-      ∙ ap (λ n. map (slice_chunk files 64) (range_with_len 0 n) ++ more ∷ []) (sym before)
+      let joined : length (files ++ more) ≡ k * batch + length more = length-append files more ∙ ap (λ n. n + length more) whole in
+      let all : (length (files ++ more) + (batch - 1)) / batch ≡ suc k = piece_count (length (files ++ more)) batch (suc k) (omega (arith, some, few)) (omega (arith, joined, few, suc-mul k batch)) (omega (arith, joined, some, few, suc-mul k batch)) in
+      let before : (length files + (batch - 1)) / batch ≡ k = piece_count (length files) batch k (omega (arith, some, few)) (omega (arith, whole)) (omega (arith, whole)) in
+      let last : slice_chunk (files ++ more) batch k ≡ more =
+      ap (λ n. take batch (drop n (files ++ more))) (sym whole) ∙ ap (take batch) (drop-append_seam files more) ∙ take_all batch more few in
+      ap (λ n. map (slice_chunk (files ++ more) batch) (range_with_len 0 n)) all
+      ∙ pieces_more (slice_chunk (files ++ more) batch) k
+      ∙ ap (λ ps. ps ++ slice_chunk (files ++ more) batch k ∷ []) (same_pieces k (omega (arith, whole)))
+      ∙ ap (λ p. map (slice_chunk files batch) (range_with_len 0 k) ++ p ∷ []) last
+      ∙ ap (λ n. map (slice_chunk files batch) (range_with_len 0 n) ++ more ∷ []) (sym before)
 
   -- and make a segment
-  pub segments-more : (k : ℕ) → length files ≡ k * 64 → 1 ≤ length more → length more ≤ 64 → segments_of 64 (Files (files ++ more)) ≡ segments_of 64 (Files files) ++ games_of_files more ∷ []
+  pub segments-more : (k : ℕ) → length files ≡ k * batch → 1 ≤ length more → length more ≤ batch → segments_of batch (Files (files ++ more)) ≡ segments_of batch (Files files) ++ games_of_files more ∷ []
   segments-more k whole some few =
-      ap (map games_of_files) (batches-more k whole some few) ∙ map-append games_of_files (batches 64 files) (more ∷ [])
+      ap (map games_of_files) (batches-more k whole some few) ∙ map-append games_of_files (batches batch files) (more ∷ [])
 
 -- ---- what is kept of an import
 
 -- its segments are those of what was found
-pub segments_kept-are : (own : Imported) (finding : Finding) → Tells own finding → segments_of 64 finding ≡ segments_kept own
-segments_kept-are imported.Unlisted finding tells = ap (segments_of 64) tells
-segments_kept-are (imported.TooMany listed) finding tells = ap (segments_of 64) tells
-segments_kept-are (imported.Files files segments) finding tells = ap (segments_of 64) tells.1 ∙ tells.2.segments_are
+pub segments_kept-are : (batch : ℕ) (own : Imported) (finding : Finding) → Tells batch own finding → segments_of batch finding ≡ segments_kept own
+segments_kept-are batch imported.Unlisted finding tells = ap (segments_of batch) tells
+segments_kept-are batch (imported.TooMany listed) finding tells = ap (segments_of batch) tells
+segments_kept-are batch (imported.Files files segments) finding tells = ap (segments_of batch) tells.1 ∙ tells.2.segments_are
 
 -- so are its games
-pub games_kept-are : (own : Imported) (finding : Finding) → Tells own finding → games_in (segments_of 64 finding) ≡ games_kept own
-games_kept-are own finding tells = ap games_in (segments_kept-are own finding tells)
+pub games_kept-are : (batch : ℕ) (own : Imported) (finding : Finding) → Tells batch own finding → games_in (segments_of batch finding) ≡ games_kept own
+games_kept-are batch own finding tells = ap games_in (segments_kept-are batch own finding tells)
 
 -- the items of a version's parts are the games of segments
 pub items_in-games_in : (segments : List Segment) → items_in segments ≡ games_in segments
@@ -120,10 +150,10 @@ games_in-first segments i =
     omega (arith, all)
 
 -- what the report says of an import whose files were read
-pub report_kept : (line version count : ℕ) (files : Vec ImportedFile Global) (segments : Vec Segment Global) (finding : Finding) → Tells (imported.Files files segments) finding → count ≡ length (games_in segments.items) → listed_text line (file_reports files.items) count version ≡ report_text line finding version
-report_kept line version count files segments finding tells is =
+pub report_kept : (batch : ℕ) → 1 ≤ batch → (line version count : ℕ) (files : Vec ImportedFile Global) (segments : Vec Segment Global) (finding : Finding) → Tells batch (imported.Files files segments) finding → count ≡ length (games_in segments.items) → listed_text line (file_reports files.items) count version ≡ report_text line finding version
+report_kept batch some line version count files segments finding tells is =
     let found = tells.0 in
-    let games : length (games_of_files found) ≡ count = ap length (sym (games_in-segments found) ∙ ap games_in tells.2.segments_are) ∙ sym is in
+    let games : length (games_of_files found) ≡ count = ap length (sym (games_in-segments batch some found) ∙ ap games_in tells.2.segments_are) ∙ sym is in
     ap (λ n. listed_text line (file_reports files.items) n version) (sym games)
     ∙ ap (λ rs. listed_text line rs (length (games_of_files found)) version) (sym tells.2.reports_are)
     ∙ ap (λ f. report_text line f version) (sym tells.1)

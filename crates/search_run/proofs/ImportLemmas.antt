@@ -188,9 +188,9 @@ RoseBy-earlier : (n before between now : ℕ) → before ≤ between → RoseBy 
 RoseBy-earlier n before between now later rose = omega arith
 
 -- an import of these names, whose files are read
-pub IsImported-read : (all : List File) (path : List ℕ) (base : Counts) (names : List (String Global)) (before between now : ℕ) (kept_files : Vec ImportedFile Global) (kept_segments : Vec Segment Global) → before ≤ between → HasPath all path → AreNames all path (map string_bytes names) → length names ≤ 100000 → HasReadBatches all path base (map string_bytes names) between now (file_reports kept_files.items) kept_segments.items →
-    (entry : ImportCourse) × (finding : Finding) × Tells (imported.Files kept_files kept_segments) finding × IsImported all path base entry finding × RoseBy (losses_of (entry ∷ [])) before now
-IsImported-read all path base names before between now kept_files kept_segments later there are few h =
+pub IsImported-read : (batch : ℕ) (all : List File) (path : List ℕ) (base : Counts) (names : List (String Global)) (before between now : ℕ) (kept_files : Vec ImportedFile Global) (kept_segments : Vec Segment Global) → before ≤ between → HasPath all path → AreNames all path (map string_bytes names) → length names ≤ 100000 → HasReadBatches batch all path base (map string_bytes names) between now (file_reports kept_files.items) kept_segments.items →
+    (entry : ImportCourse) × (finding : Finding) × Tells batch (imported.Files kept_files kept_segments) finding × IsImported all path base entry finding × RoseBy (losses_of (entry ∷ [])) before now
+IsImported-read batch all path base names before between now kept_files kept_segments later there are few h =
     let counted : length h.files ≡ length names = sym (length-map h.files (λ (f : ImportFile). f.report.name)) ∙ ap length h.named ∙ length-map names string_bytes in (
       record { unlisted = false; unread = h.unread },
       Files h.files,
@@ -224,9 +224,9 @@ none_lost : (before now : ℕ) → Rose before now → RoseBy (losses_of (nothin
 none_lost before now rose = omega arith
 
 -- A listing that failed is a loss where a file has the path, and none where none has.
-pub unlisted_by : (all : List File) (path : List ℕ) (counts : Counts) (before now : ℕ) → Rose before now →
-    (entry : ImportCourse) × (finding : Finding) × Tells imported.Unlisted finding × IsImported all path counts entry finding × RoseBy (losses_of (entry ∷ [])) before now
-unlisted_by all path counts before now rose =
+pub unlisted_by : (batch : ℕ) (all : List File) (path : List ℕ) (counts : Counts) (before now : ℕ) → Rose before now →
+    (entry : ImportCourse) × (finding : Finding) × Tells batch imported.Unlisted finding × IsImported all path counts entry finding × RoseBy (losses_of (entry ∷ [])) before now
+unlisted_by batch all path counts before now rose =
     elim (has_path_by all path (list_any (λ (file : File). bytes_eq file.path path) all) refl) [
       | inl has ↦ (record { unlisted = true; unread = [] }, Unlisted, refl, (inl (refl, has), refl), rose)
       | inr none ↦ (nothing_lost, Unlisted, refl, (inr (refl, none), refl), none_lost before now rose)

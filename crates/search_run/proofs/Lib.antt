@@ -14,3 +14,4 @@ mod RunLemmas
 mod ScriptLemmas
 mod StatementLemmas
 mod WholeOutputs
+mod WordLemmas

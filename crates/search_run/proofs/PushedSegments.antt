@@ -1,5 +1,5 @@
 -- Versions that get segments more.
-use Rattle.std.proofs.Common.{◌≡◌, suc, ◌+◌, ◌<◌, ◌≤◌, drop, get_or, map, take, List, [], ◌∷◌, ◌++◌, length, length-append, sym, ap, ◌∙◌, append_assoc, append-nil, arith}
+use Rattle.std.proofs.Common.{◌≡◌, ℕ, suc, ◌+◌, ◌<◌, ◌≤◌, drop, get_or, map, take, List, [], ◌∷◌, ◌++◌, length, length-append, sym, ap, ◌∙◌, append_assoc, append-nil, arith}
 use Rattle.std.proofs.Math.Seq.{split_at}
 use Rattle.std.proofs.lemmas.List.{map-id}
 use Rattle.node_position.specs.Games.{Game}
@@ -51,12 +51,12 @@ module _ (before : VersionState Game) (segments first rest : List Segment) (s : 
 
 -- ---- the segments that an import found
 
-module _ (before after : VersionState Game) (own : Imported) (pushed : IsPushed before after (segments_kept own)) where
-  pub number_found : (finding : Finding) → Tells own finding → after.number ≡ before.number + length (segments_of 64 finding)
-  number_found finding tells = pushed.number ∙ ap (λ (ss : List Segment). before.number + length ss) (sym (segments_kept-are own finding tells))
+module _ (batch : ℕ) (before after : VersionState Game) (own : Imported) (pushed : IsPushed before after (segments_kept own)) where
+  pub number_found : (finding : Finding) → Tells batch own finding → after.number ≡ before.number + length (segments_of batch finding)
+  number_found finding tells = pushed.number ∙ ap (λ (ss : List Segment). before.number + length ss) (sym (segments_kept-are batch own finding tells))
 
-  pub games_found : (finding : Finding) → Tells own finding → items_in after.parts ≡ items_in before.parts ++ games_in (segments_of 64 finding)
-  games_found finding tells = games_pushed before after (segments_kept own) pushed ∙ ap (λ gs. items_in before.parts ++ gs) (sym (games_kept-are own finding tells))
+  pub games_found : (finding : Finding) → Tells batch own finding → items_in after.parts ≡ items_in before.parts ++ games_in (segments_of batch finding)
+  games_found finding tells = games_pushed before after (segments_kept own) pushed ∙ ap (λ gs. items_in before.parts ++ gs) (sym (games_kept-are batch own finding tells))
 
   pub counts_found : (counts more : Counts) → counts ≡ counts_of (trees_in (items_in before.parts)) → AreAdded counts more (trees_in (games_kept own)) → more ≡ counts_of (trees_in (items_in after.parts))
   counts_found counts more is added = counts_of-more counts more (items_in before.parts) (games_kept own) (items_in after.parts) is added (games_pushed before after (segments_kept own) pushed)

@@ -6,9 +6,11 @@ use Rattle.std.proofs.lemmas.List.{append-nil, take_more}
 use mathlib.Core.List.{IsPrefix}
 use Rattle.kb_edges.specs.Faults.{Rose, RoseBy}
 use Rattle.kb_edges.specs.Files.{File}
+use Rattle.query_script.specs.CommandWords.{AreLawful}
+use Rattle.query_script.specs.declared.command_words.Words.{Words}
 use Rattle.query_script.specs.declared.statement.Placed.{Placed}
 use Rattle.search_run.specs.Course.{losses_of}
-use Rattle.search_run.specs.Lawful.{IsNextPrefix, State, at_start, nothing, one_more, waiting_text}
+use Rattle.search_run.specs.Lawful.{IsNextPrefix, Rules, State, at_start, nothing, one_more, waiting_text}
 use Rattle.search_run.specs.Run.{WritesLawful, WritesPrefix, serial_rules}
 use Rattle.search_run.specs.Script.{IsScript}
 use Rattle.search_run.specs.Serial.{PrintsAll}
@@ -18,8 +20,8 @@ use Rattle.search_run.proofs.StatementLemmas.{waiting_is}
 use Rattle.search_run.proofs.WholeOutputs.{begun-completed}
 
 -- nothing is run yet
-pub HasRun-start : (files : List File) (before : List ℕ) (written : Option (List ℕ)) (count : ℕ) → written ≡ Some before → HasRun files [] nothing_kept before written count count
-HasRun-start files before written count is = record {
+pub HasRun-start : (rules : Rules) (files : List File) (before : List ℕ) (written : Option (List ℕ)) (count : ℕ) → written ≡ Some before → HasRun rules files [] nothing_kept before written count count
+HasRun-start rules files before written count is = record {
   state = at_start;
   is_kept = record { version = refl; games = refl; waiting = refl; floor = omega arith };
   course = [];
@@ -30,8 +32,8 @@ HasRun-start files before written count is = record {
 }
 
 -- one statement more is run
-pub HasRun-more : (files : List File) (placed : List Placed) (p : Placed) (kept after : Kept) (before : List ℕ) (between written : Option (List ℕ)) (first second third : ℕ) (h : HasRun files placed kept before between first second) → PassesStatement files serial_rules kept p after (before ++ h.text) written second third → HasRun files (placed ++ p ∷ []) after before written first third
-HasRun-more files placed p kept after before between written first second third h more =
+pub HasRun-more : (rules : Rules) (files : List File) (placed : List Placed) (p : Placed) (kept after : Kept) (before : List ℕ) (between written : Option (List ℕ)) (first second third : ℕ) (h : HasRun rules files placed kept before between first second) → PassesStatement files rules kept p after (before ++ h.text) written second third → HasRun rules files (placed ++ p ∷ []) after before written first third
+HasRun-more rules files placed p kept after before between written first second third h more =
     let led = more.leads h.state h.is_kept (more.text_is files h.state h.is_kept) in record {
       state = led.1;
       is_kept = led.2;
@@ -43,8 +45,8 @@ HasRun-more files placed p kept after before between written first second third 
     }
 
 -- the closing report is written
-pub WritesLawful-end : (files : List File) (placed : List Placed) (kept : Kept) (before : List ℕ) (between written : Option (List ℕ)) (first second : ℕ) (h : HasRun files placed kept before between first second) → written ≡ Some ((before ++ h.text) ++ kept_report kept) → WritesLawful files placed before written first second
-WritesLawful-end files placed kept before between written first second h closed = record {
+pub WritesLawful-end : (rules : Rules) (files : List File) (placed : List Placed) (kept : Kept) (before : List ℕ) (between written : Option (List ℕ)) (first second : ℕ) (h : HasRun rules files placed kept before between first second) → written ≡ Some ((before ++ h.text) ++ kept_report kept) → WritesLawful rules files placed before written first second
+WritesLawful-end rules files placed kept before between written first second h closed = record {
   course = h.course;
   text = h.text ++ waiting_text h.state;
   lawful = (h.state, h.text, h.printed, refl);
@@ -57,9 +59,9 @@ rose_later : (n before between now : ℕ) → RoseBy n before between → betwee
 rose_later n before between now rose later = omega arith
 
 -- a prefix of what comes next is written
-pub WritesPrefix-stopped : (files : List File) (placed passed left : List Placed) (kept : Kept) (before more : List ℕ) (between written : Option (List ℕ)) (first second third : ℕ) (h : HasRun files passed kept before between first second) → placed ≡ passed ++ left → IsNextPrefix files serial_rules h.state left more → written ≡ Some ((before ++ h.text) ++ more) → second ≤ third → WritesPrefix files placed before written first third
-WritesPrefix-stopped files placed passed left kept before more between written first second third h split prefix is later =
-    let whole = begun-completed files serial_rules h.course placed (h.text ++ more) (record { passed = passed; left = left; state = h.state; text = h.text; more = more; split = split; printed = h.printed; prefix = prefix; out_is = refl }) in record {
+pub WritesPrefix-stopped : (rules : Rules) (files : List File) (placed passed left : List Placed) (kept : Kept) (before more : List ℕ) (between written : Option (List ℕ)) (first second third : ℕ) (h : HasRun rules files passed kept before between first second) → placed ≡ passed ++ left → IsNextPrefix files rules h.state left more → written ≡ Some ((before ++ h.text) ++ more) → second ≤ third → WritesPrefix rules files placed before written first third
+WritesPrefix-stopped rules files placed passed left kept before more between written first second third h split prefix is later =
+    let whole = begun-completed files rules h.course placed (h.text ++ more) (record { passed = passed; left = left; state = h.state; text = h.text; more = more; split = split; printed = h.printed; prefix = prefix; out_is = refl }) in record {
       course = whole.whole_course;
       whole = whole.whole;
       lawful = whole.lawful;
@@ -70,9 +72,9 @@ WritesPrefix-stopped files placed passed left kept before more between written f
     }
 
 -- what is written in a statement is a prefix of what comes next
-pub next_prefix : (files : List File) (s : State) (kept : Kept) (p : Placed) (left : List Placed) (more : List ℕ) → IsKept s kept → (more ≡ []) ⊎ ((text : List ℕ) × IsTextByKept serial_rules kept p.line p.statement text × IsPrefix more text) → IsNextPrefix files serial_rules s (p ∷ left) more
-next_prefix files s kept p left more is (inl none) = inl none
-next_prefix files s kept p left more is (inr (text, of, prefix)) = inr (text, of files s is, prefix)
+pub next_prefix : (rules : Rules) (files : List File) (s : State) (kept : Kept) (p : Placed) (left : List Placed) (more : List ℕ) → IsKept s kept → (more ≡ []) ⊎ ((text : List ℕ) × IsTextByKept rules kept p.line p.statement text × IsPrefix more text) → IsNextPrefix files rules s (p ∷ left) more
+next_prefix rules files s kept p left more is (inl none) = inl none
+next_prefix rules files s kept p left more is (inr (text, of, prefix)) = inr (text, of files s is, prefix)
 
 -- what holds holds after an error
 pub after_error : {T E : Type 0} (result : Result T E) (P : Type 0) → P → OnErr result P
@@ -91,9 +93,11 @@ taken_more {A} xs i x below is = take_more xs i x below ∙ ap (λ (y : A). take
 pub no_loss : (n before now : ℕ) → RoseBy n before now → ¬ Rose before now → n ≡ 0
 no_loss n before now rose still = omega arith
 
-pub PrintsAll-still : (script : List ℕ) (files : List File) (before : List ℕ) (written : Option (List ℕ)) (faults_before faults_now : ℕ) (placed : List Placed) →
-    IsScript script placed → WritesLawful files placed before written faults_before faults_now → ¬ Rose faults_before faults_now → PrintsAll script files before written
-PrintsAll-still script files before written faults_before faults_now placed spelled h still = record {
+pub PrintsAll-still : (words : List (List ℕ)) (read : Words) → AreLawful words read → (script : List ℕ) (files : List File) (before : List ℕ) (written : Option (List ℕ)) (faults_before faults_now : ℕ) (placed : List Placed) →
+    IsScript script placed → WritesLawful (serial_rules read.batch) files placed before written faults_before faults_now → ¬ Rose faults_before faults_now → PrintsAll words script files before written
+PrintsAll-still words read say script files before written faults_before faults_now placed spelled h still = record {
+  read = read;
+  say = say;
   placed = placed;
   spelled = spelled;
   course = h.course;

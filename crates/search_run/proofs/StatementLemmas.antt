@@ -17,17 +17,16 @@ use Rattle.dyer_signature.specs.declared.bytes.SigPattern.{SigPattern}
 use Rattle.session_core.specs.Answers.{IsAnswer, IsSearchText}
 use Rattle.node_position.specs.Games.{Game}
 use Rattle.search_run.specs.Course.{Finding, ImportCourse, IsImported, losses_of, trees_in}
-use Rattle.search_run.specs.Lawful.{AreSearchTexts, IsNamed, IsStatementText, State, after_import, report_printed, last_of, view_at, waiting_text, with_floor}
+use Rattle.search_run.specs.Lawful.{AreSearchTexts, IsNamed, IsStatementText, Rules, State, after_import, report_printed, last_of, view_at, waiting_text, with_floor}
 use Rattle.search_run.specs.Log.{games_in, segments_of}
 use Rattle.search_run.specs.Outcome.{counts_of}
-use Rattle.search_run.specs.Run.{serial_rules}
 use Rattle.search_run.specs.Steps.{BlockTexts, IsKept, Kept, LeadsOn, kept_report, view_of}
 use Rattle.search_run.specs.Texts.{report_text}
 use Rattle.search_run.proofs.ImportLemmas.{rose_by_none}
 
 -- the last version may be named, and it is seen as it is kept
-pub last_named : (s : State) (kept : Kept) → IsKept s kept → IsNamed serial_rules s (last_of s)
-last_named s kept is = record { from = is.floor; to = omega arith; serial = λ one. refl }
+pub last_named : (rules : Rules) (s : State) (kept : Kept) → IsKept s kept → IsNamed rules s (last_of s)
+last_named rules s kept is = record { from = is.floor; to = omega arith; serial = λ one. refl }
 
 pub view_kept : (s : State) (kept : Kept) → IsKept s kept → view_at s (last_of s) ≡ view_of kept
 view_kept s kept is =
@@ -41,13 +40,13 @@ BlockTexts-more kept (q ∷ searches) p text more h is =
     (h.0, h.1 ++ more, h.2, BlockTexts-more kept searches p h.1 more h.3 is, ap (λ t. t ++ more) h.4 ∙ append_assoc h.0 h.1 more)
 
 -- are the texts of the block
-BlockTexts-are : (s : State) (kept : Kept) → IsKept s kept → (searches : List PlacedSearch) (text : List ℕ) → BlockTexts kept searches text → (greatest : ℕ) × (greatest ≤ last_of s) × AreSearchTexts serial_rules s searches greatest text
-BlockTexts-are s kept is [] text none = (0, omega arith, (refl, none))
-BlockTexts-are s kept is (p ∷ ps) text h =
-    let rest = BlockTexts-are s kept is ps h.1 h.3 in (
+BlockTexts-are : (rules : Rules) (s : State) (kept : Kept) → IsKept s kept → (searches : List PlacedSearch) (text : List ℕ) → BlockTexts kept searches text → (greatest : ℕ) × (greatest ≤ last_of s) × AreSearchTexts rules s searches greatest text
+BlockTexts-are rules s kept is [] text none = (0, omega arith, (refl, none))
+BlockTexts-are rules s kept is (p ∷ ps) text h =
+    let rest = BlockTexts-are rules s kept is ps h.1 h.3 in (
       max (last_of s) rest.0,
       max-le (omega arith) rest.1,
-      (last_of s, h.0, rest.0, h.1, last_named s kept is, rw (view_kept s kept is) h.2, rest.2, refl, h.4),
+      (last_of s, h.0, rest.0, h.1, last_named rules s kept is, rw (view_kept s kept is) h.2, rest.2, refl, h.4),
     )
 
 -- the report that waits is that which is kept
@@ -55,9 +54,9 @@ pub waiting_is : (s : State) (kept : Kept) → IsKept s kept → kept_report kep
 waiting_is s kept is = ap (λ (w : Option (List ℕ)). option_map_or (λ report. report) w []) is.waiting
 
 -- the greatest number that a block names is at most the last version
-greatest-le : (s : State) (searches : List PlacedSearch) (greatest : ℕ) (text : List ℕ) → AreSearchTexts serial_rules s searches greatest text → greatest ≤ last_of s
-greatest-le s [] greatest text h = rw h.0 (omega arith)
-greatest-le s (p ∷ ps) greatest text h = rw h.7 (max-le h.4.to (greatest-le s ps h.2 h.3 h.6))
+greatest-le : (rules : Rules) (s : State) (searches : List PlacedSearch) (greatest : ℕ) (text : List ℕ) → AreSearchTexts rules s searches greatest text → greatest ≤ last_of s
+greatest-le rules s [] greatest text h = rw h.0 (omega arith)
+greatest-le rules s (p ∷ ps) greatest text h = rw h.7 (max-le h.4.to (greatest-le rules s ps h.2 h.3 h.6))
 
 -- a floor that is at most the last version
 pub floor-named : (s : State) (n : ℕ) → s.floor ≤ last_of s → n ≤ last_of s → max s.floor n ≤ last_of s
@@ -67,30 +66,30 @@ pub floor-joined : (waiting : Option (List ℕ)) (floor last : ℕ) → floor �
 floor-joined None floor last le = le
 floor-joined (Some report) floor last le = omega arith
 
-module _ (files : List File) (s : State) (kept : Kept) (is : IsKept s kept) (line : ℕ) (text : List ℕ) where
+module _ (rules : Rules) (files : List File) (s : State) (kept : Kept) (is : IsKept s kept) (line : ℕ) (text : List ℕ) where
   -- ---- the text of a statement
 
-  pub text-import : (path : List ℕ) → text ≡ kept_report kept ++ import_text line path → IsStatementText files serial_rules s line (statement.Import path) text
+  pub text-import : (path : List ℕ) → text ≡ kept_report kept ++ import_text line path → IsStatementText files rules s line (statement.Import path) text
   text-import path of = of ∙ ap (λ t. t ++ import_text line path) (waiting_is s kept is)
 
-  pub text-wait : text ≡ kept_report kept ++ wait_text line kept.version → IsStatementText files serial_rules s line statement.Wait text
+  pub text-wait : text ≡ kept_report kept ++ wait_text line kept.version → IsStatementText files rules s line statement.Wait text
   text-wait of =
       ([], with_floor (report_printed s) (last_of s), (refl, of ∙ ap (λ t. t ++ wait_text line kept.version) (waiting_is s kept is) ∙ ap (λ n. waiting_text s ++ wait_text line n) is.version, refl))
 
-  pub text-until : (number : ℕ) → text ≡ until_text line number kept.version → IsStatementText files serial_rules s line (statement.Until number) text
+  pub text-until : (number : ℕ) → text ≡ until_text line number kept.version → IsStatementText files rules s line (statement.Until number) text
   text-until number of =
-      ([], with_floor s (last_of s), (last_of s, record { named = last_named s kept is; reached = inr refl }, refl, of ∙ ap (λ n. until_text line number n) is.version, refl))
+      ([], with_floor s (last_of s), (last_of s, record { named = last_named rules s kept is; reached = inr refl }, refl, of ∙ ap (λ n. until_text line number n) is.version, refl))
 
-  pub text-together : (searches : List PlacedSearch) → BlockTexts kept searches text → IsStatementText files serial_rules s line (statement.Together searches) text
+  pub text-together : (searches : List PlacedSearch) → BlockTexts kept searches text → IsStatementText files rules s line (statement.Together searches) text
   text-together searches block =
-      let are = BlockTexts-are s kept is searches text block in
+      let are = BlockTexts-are rules s kept is searches text block in
       ([], with_floor s are.0, (are.0, are.2, refl, refl))
 
   -- one that is answered from the games of a version: it names the last one
-  answered-here : (own : Statement) → IsAnswer line (view_of kept) own text → (n : ℕ) × IsNamed serial_rules s n × IsAnswer line (view_at s n) own text × ◌≡◌ {A = List ImportCourse} [] [] × (with_floor s (last_of s) ≡ with_floor s n)
-  answered-here own of = (last_of s, last_named s kept is, rw (view_kept s kept is) of, refl, refl)
+  answered-here : (own : Statement) → IsAnswer line (view_of kept) own text → (n : ℕ) × IsNamed rules s n × IsAnswer line (view_at s n) own text × ◌≡◌ {A = List ImportCourse} [] [] × (with_floor s (last_of s) ≡ with_floor s n)
+  answered-here own of = (last_of s, last_named rules s kept is, rw (view_kept s kept is) of, refl, refl)
 
-  pub text-answered : (own : Statement) → IsAnswer line (view_of kept) own text → IsStatementText files serial_rules s line own text
+  pub text-answered : (own : Statement) → IsAnswer line (view_of kept) own text → IsStatementText files rules s line own text
   text-answered (statement.Search query filter) of = ([], with_floor s (last_of s), answered-here (statement.Search query filter) of)
   text-answered (statement.Kept query) of = ([], with_floor s (last_of s), answered-here (statement.Kept query) of)
   text-answered (statement.Signature pattern) of = ([], with_floor s (last_of s), answered-here (statement.Signature pattern) of)
@@ -104,12 +103,12 @@ module _ (files : List File) (s : State) (kept : Kept) (is : IsKept s kept) (lin
 
 -- ---- where a statement leads
 
-module _ (files : List File) (kept : Kept) (line : ℕ) (text : List ℕ) (before now : ℕ) (later : before ≤ now) where
+module _ (rules : Rules) (files : List File) (kept : Kept) (line : ℕ) (text : List ℕ) (before now : ℕ) (later : before ≤ now) where
   -- a version was named, and nothing else
   named : (s : State) (n : ℕ) → IsKept s kept → n ≤ last_of s → IsKept (with_floor s n) kept
   named s n is to = record { version = is.version; games = is.games; waiting = is.waiting; floor = floor-named s n is.floor to }
 
-  pub leads-wait : LeadsOn files serial_rules kept line statement.Wait text (record { version = kept.version; games = kept.games; waiting = None }) before now
+  pub leads-wait : LeadsOn files rules kept line statement.Wait text (record { version = kept.version; games = kept.games; waiting = None }) before now
   leads-wait = λ s is of. (
     [],
     with_floor (report_printed s) (last_of s),
@@ -118,50 +117,50 @@ module _ (files : List File) (kept : Kept) (line : ℕ) (text : List ℕ) (befor
     rose_by_none before now later,
   )
 
-  pub leads-until : (number : ℕ) → LeadsOn files serial_rules kept line (statement.Until number) text kept before now
+  pub leads-until : (number : ℕ) → LeadsOn files rules kept line (statement.Until number) text kept before now
   leads-until number = λ s is of.
       ([], with_floor s of.2.0, named s of.2.0 is of.2.1.named.to, (of.2.0, of.2.1, refl, of.2.3, refl), rose_by_none before now later)
 
-  pub leads-together : (searches : List PlacedSearch) → LeadsOn files serial_rules kept line (statement.Together searches) text kept before now
+  pub leads-together : (searches : List PlacedSearch) → LeadsOn files rules kept line (statement.Together searches) text kept before now
   leads-together searches = λ s is of.
-      ([], with_floor s of.2.0, named s of.2.0 is (greatest-le s searches of.2.0 text of.2.1), (of.2.0, of.2.1, refl, refl), rose_by_none before now later)
+      ([], with_floor s of.2.0, named s of.2.0 is (greatest-le rules s searches of.2.0 text of.2.1), (of.2.0, of.2.1, refl, refl), rose_by_none before now later)
 
-  pub leads-search : (query : Query) (filter : Filter) → LeadsOn files serial_rules kept line (statement.Search query filter) text kept before now
+  pub leads-search : (query : Query) (filter : Filter) → LeadsOn files rules kept line (statement.Search query filter) text kept before now
   leads-search query filter = λ s is of.
       ([], with_floor s of.2.0, named s of.2.0 is of.2.1.to, (of.2.0, of.2.1, of.2.2, refl, refl), rose_by_none before now later)
 
-  pub leads-kept : (query : Query) → LeadsOn files serial_rules kept line (statement.Kept query) text kept before now
+  pub leads-kept : (query : Query) → LeadsOn files rules kept line (statement.Kept query) text kept before now
   leads-kept query = λ s is of.
       ([], with_floor s of.2.0, named s of.2.0 is of.2.1.to, (of.2.0, of.2.1, of.2.2, refl, refl), rose_by_none before now later)
 
-  pub leads-signature : (pattern : SigPattern) → LeadsOn files serial_rules kept line (statement.Signature pattern) text kept before now
+  pub leads-signature : (pattern : SigPattern) → LeadsOn files rules kept line (statement.Signature pattern) text kept before now
   leads-signature pattern = λ s is of.
       ([], with_floor s of.2.0, named s of.2.0 is of.2.1.to, (of.2.0, of.2.1, of.2.2, refl, refl), rose_by_none before now later)
 
-  pub leads-players : LeadsOn files serial_rules kept line statement.Players text kept before now
+  pub leads-players : LeadsOn files rules kept line statement.Players text kept before now
   leads-players = λ s is of.
       ([], with_floor s of.2.0, named s of.2.0 is of.2.1.to, (of.2.0, of.2.1, of.2.2, refl, refl), rose_by_none before now later)
 
-  pub leads-doubles : LeadsOn files serial_rules kept line statement.Doubles text kept before now
+  pub leads-doubles : LeadsOn files rules kept line statement.Doubles text kept before now
   leads-doubles = λ s is of.
       ([], with_floor s of.2.0, named s of.2.0 is of.2.1.to, (of.2.0, of.2.1, of.2.2, refl, refl), rose_by_none before now later)
 
-  pub leads-game : (number : ℕ) → LeadsOn files serial_rules kept line (statement.Game number) text kept before now
+  pub leads-game : (number : ℕ) → LeadsOn files rules kept line (statement.Game number) text kept before now
   leads-game number = λ s is of.
       ([], with_floor s of.2.0, named s of.2.0 is of.2.1.to, (of.2.0, of.2.1, of.2.2, refl, refl), rose_by_none before now later)
 
 -- an import that found this leads on to what is kept with its games and its report
-pub leads-import : (files : List File) (kept : Kept) (line : ℕ) (path text : List ℕ) (before now : ℕ) (entry : ImportCourse) (finding : Finding) (games : List Game) (report : List ℕ) (version : ℕ) →
-    IsImported files path (counts_of (trees_in kept.games)) entry finding → version ≡ kept.version + length (segments_of 64 finding) → games ≡ kept.games ++ games_in (segments_of 64 finding) → report ≡ report_text line finding version →
+pub leads-import : (rules : Rules) (files : List File) (kept : Kept) (line : ℕ) (path text : List ℕ) (before now : ℕ) (entry : ImportCourse) (finding : Finding) (games : List Game) (report : List ℕ) (version : ℕ) →
+    IsImported files path (counts_of (trees_in kept.games)) entry finding → version ≡ kept.version + length (segments_of rules.batch finding) → games ≡ kept.games ++ games_in (segments_of rules.batch finding) → report ≡ report_text line finding version →
     RoseBy (losses_of (entry ∷ [])) before now →
-    LeadsOn files serial_rules kept line (statement.Import path) text (record { version = version; games = games; waiting = Some report }) before now
-leads-import files kept line path text before now entry finding games report version found version_is games_are report_is paid = λ s is of.
-    let counted : version ≡ length (s.log ++ segments_of 64 finding) = version_is ∙ ap (λ n. n + length (segments_of 64 finding)) is.version ∙ sym (length-append s.log (segments_of 64 finding)) in (
+    LeadsOn files rules kept line (statement.Import path) text (record { version = version; games = games; waiting = Some report }) before now
+leads-import rules files kept line path text before now entry finding games report version found version_is games_are report_is paid = λ s is of.
+    let counted : version ≡ length (s.log ++ segments_of rules.batch finding) = version_is ∙ ap (λ n. n + length (segments_of rules.batch finding)) is.version ∙ sym (length-append s.log (segments_of rules.batch finding)) in (
       entry ∷ [],
-      after_import serial_rules s line finding,
+      after_import rules s line finding,
       record {
         version = counted;
-        games = games_are ∙ ap (λ gs. gs ++ games_in (segments_of 64 finding)) is.games ∙ sym (flat_map-append (λ (g : List Game). g) s.log (segments_of 64 finding));
+        games = games_are ∙ ap (λ gs. gs ++ games_in (segments_of rules.batch finding)) is.games ∙ sym (flat_map-append (λ (g : List Game). g) s.log (segments_of rules.batch finding));
         waiting = ap (λ r. Some r) (report_is ∙ ap (λ n. report_text line finding n) counted);
         floor = rw length-append (omega (arith, floor-joined s.waiting s.floor (last_of s) is.floor));
       },

@@ -1,5 +1,5 @@
 -- What the code keeps of an import, as what was found.
-use Rattle.std.specs.Prelude.{◌≡◌, List, [], map, string_bytes}
+use Rattle.std.specs.Prelude.{◌≡◌, ℕ, List, [], map, string_bytes}
 use Rattle.node_position.specs.Games.{Game}
 use Rattle.search_run.specs.Course.{FileReport, Files, Finding, ImportFile, TooMany, Unlisted, games_of_files, reports_of}
 use Rattle.search_run.specs.Log.{Segment, games_in, segments_of}
@@ -21,19 +21,19 @@ pub record AreKeptFiles (files : List ImportFile) (reports : List FileReport)
   pub games_are : games_of_files files ≡ games
 
 -- files are told by what the report says of each, and by the segments that they make, one for each
--- batch of 64 files
-pub record AreKeptBatches (files : List ImportFile) (reports : List FileReport)
+-- batch of so many files
+pub record AreKeptBatches (batch : ℕ) (files : List ImportFile) (reports : List FileReport)
     (segments : List Segment) : Type 0 where
   pub reports_are : reports_of files ≡ reports
-  pub segments_are : segments_of 64 (Files files) ≡ segments
+  pub segments_are : segments_of batch (Files files) ≡ segments
 
--- what is kept tells what was found
-abbrev pub Tells : Imported → Finding → Type 0
-Tells imported.Unlisted finding = finding ≡ Unlisted
-Tells (imported.TooMany listed) finding = finding ≡ TooMany listed
-Tells (imported.Files files segments) finding =
+-- what is kept of an import by batches of so many files tells what was found
+abbrev pub Tells : ℕ → Imported → Finding → Type 0
+Tells batch imported.Unlisted finding = finding ≡ Unlisted
+Tells batch (imported.TooMany listed) finding = finding ≡ TooMany listed
+Tells batch (imported.Files files segments) finding =
     (found : List ImportFile) × (finding ≡ Files found)
-    × AreKeptBatches found (file_reports files.items) segments.items
+    × AreKeptBatches batch found (file_reports files.items) segments.items
 
 -- the segments that are kept of an import
 abbrev pub segments_kept : Imported → List Segment

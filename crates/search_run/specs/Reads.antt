@@ -45,12 +45,12 @@ pub record HasReadAll (all : List File) (path : List ℕ) (base : Counts) (names
   pub named : names_of files ≡ names
   pub lost : RoseBy (length unread) before now
 
--- the same of files whose games are kept in a segment for each batch
-pub record HasReadBatches (all : List File) (path : List ℕ) (base : Counts)
+-- the same of files whose games are kept in a segment for each batch of so many
+pub record HasReadBatches (batch : ℕ) (all : List File) (path : List ℕ) (base : Counts)
     (names : List (List ℕ)) (before now : ℕ) (reports : List FileReport)
     (segments : List Segment) : Type 0 where
   pub files : List ImportFile
-  pub kept : AreKeptBatches files reports segments
+  pub kept : AreKeptBatches batch files reports segments
   pub unread : List (List ℕ)
   pub read : AreRead all path base files unread
   pub named : names_of files ≡ names

@@ -7,27 +7,27 @@ use Rattle.query_script.specs.declared.statement.Placed.{Placed}
 use Rattle.search_run.specs.Course.{ImportCourse, losses_of}
 use Rattle.search_run.specs.Lawful.{IsLawful, Rules}
 
--- how a serial run names versions: 64 files make one
-abbrev pub serial_rules : Rules
-serial_rules = record { batch = 64; serial = true }
+-- how a serial run names versions: so many files make one
+abbrev pub serial_rules : ℕ → Rules
+serial_rules batch = record { batch = batch; serial = true }
 
 -- A lawful output of these statements was written, by a course whose losses are at most the rise of
 -- the folder's count.
-pub record WritesLawful (files : List File) (placed : List Placed) (before : List ℕ)
-    (written : Option (List ℕ)) (faults_before faults_now : ℕ) : Type 0 where
+pub record WritesLawful (rules : Rules) (files : List File) (placed : List Placed)
+    (before : List ℕ) (written : Option (List ℕ)) (faults_before faults_now : ℕ) : Type 0 where
   pub course : List ImportCourse
   pub text : List ℕ
-  pub lawful : IsLawful files serial_rules course placed text
+  pub lawful : IsLawful files rules course placed text
   pub written_is : written ≡ Some (before ++ text)
   pub paid : RoseBy (losses_of course) faults_before faults_now
 
 -- A prefix of a lawful output of these statements was written, and the losses of its course are at
 -- most the rise of the folder's count.
-pub record WritesPrefix (files : List File) (placed : List Placed) (before : List ℕ)
-    (written : Option (List ℕ)) (faults_before faults_now : ℕ) : Type 0 where
+pub record WritesPrefix (rules : Rules) (files : List File) (placed : List Placed)
+    (before : List ℕ) (written : Option (List ℕ)) (faults_before faults_now : ℕ) : Type 0 where
   pub course : List ImportCourse
   pub whole : List ℕ
-  pub lawful : IsLawful files serial_rules course placed whole
+  pub lawful : IsLawful files rules course placed whole
   pub text : List ℕ
   pub prefix : IsPrefix text whole
   pub written_is : written ≡ Some (before ++ text)

@@ -1,4 +1,4 @@
--- A serial run so far, and one statement of it: words of the private functions.
+-- A run so far, and one statement of it: words of the private functions.
 use Rattle.std.specs.Prelude.{◌≡◌, ◌⊎◌, ℕ, ◌≤◌, List, [], ◌∷◌, ◌++◌, Option, Some, None}
 use Rattle.std.specs.Option.{option_map_or}
 use mathlib.Core.List.{IsPrefix}
@@ -12,7 +12,6 @@ use Rattle.node_position.specs.Games.{Game}
 use Rattle.search_run.specs.Course.{ImportCourse, losses_of}
 use Rattle.search_run.specs.Lawful.{HasPrinted, IsPassed, IsStatementText, Rules, State, last_of}
 use Rattle.search_run.specs.Log.{games_in}
-use Rattle.search_run.specs.Run.{serial_rules}
 
 -- what the code keeps of a state: the number and the games of the last version, and the report that
 -- waits
@@ -80,12 +79,12 @@ pub record StopsInStatement (rules : Rules) (kept : Kept) (p : Placed) (before :
 
 -- The text so far is what these statements print, by a course whose losses are at most the rise of
 -- the folder's count, and this is what is kept of the state there.
-pub record HasRun (files : List File) (placed : List Placed) (kept : Kept) (before : List ℕ)
-    (written : Option (List ℕ)) (faults_before faults_now : ℕ) : Type 0 where
+pub record HasRun (rules : Rules) (files : List File) (placed : List Placed) (kept : Kept)
+    (before : List ℕ) (written : Option (List ℕ)) (faults_before faults_now : ℕ) : Type 0 where
   pub state : State
   pub is_kept : IsKept state kept
   pub course : List ImportCourse
   pub text : List ℕ
-  pub printed : HasPrinted files serial_rules course placed state text
+  pub printed : HasPrinted files rules course placed state text
   pub written_is : written ≡ Some (before ++ text)
   pub paid : RoseBy (losses_of course) faults_before faults_now

@@ -9,7 +9,7 @@ use Rattle.search_run.specs.declared.outcome.Counts.{Counts}
 
 -- an import adds no more segments than it may
 abbrev pub HasFewSegments : Imported → Type 0
-HasFewSegments own = length (segments_kept own) ≤ 1563
+HasFewSegments own = length (segments_kept own) ≤ 100000
 
 -- there are no more games than a base may have
 abbrev pub HasFewGames : Counts → Type 0

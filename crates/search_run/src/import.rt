@@ -34,17 +34,19 @@ fn are_too_many(names: &[String]) -> bool
     names.len() > MAX_NAMES
 }
 
-// Imports the files of a path whose names end in `.sgf`, in a base with these counts. Hands back
-// what was found, and the counts with the games that are to be added.
+// Imports the files of a path whose names end in `.sgf`, by batches of so many and in a base with
+// these counts. Hands back what was found, and the counts with the games that are to be added.
 pub(crate) fn import<F: Folder>(
     alloc: Global,
     folder: &mut F,
     path: &str,
+    batch: usize,
     before: Counts,
 ) -> Result<(Imported, Counts), NoMemory>
-    requires { HasFewGames before }
+    requires some { 1 ≤ batch }
+    requires room { HasFewGames before }
     ensures found { IfTold (F.files folder.old) (λ files. IfOk result (λ r.
-        (entry : ImportCourse) × (finding : Finding) × Tells r.0 finding
+        (entry : ImportCourse) × (finding : Finding) × Tells batch r.0 finding
         × IsImported files path.now before entry finding
         × RoseBy (losses_of (entry ∷ [])) (F.faults folder.old) (F.faults folder.new))) }
     ensures added { IfOk result (λ r. AreAdded before r.1 (trees_in (games_kept r.0))) }
@@ -65,6 +67,6 @@ pub(crate) fn import<F: Folder>(
         let listed = names.len();
         return Ok((Imported::TooMany { listed }, before));
     }
-    let (files, segments, counts) = read_files(alloc, folder, path, &names, before)?;
+    let (files, segments, counts) = read_files(alloc, folder, path, &names, batch, before)?;
     Ok((Imported::Files { files, segments }, counts))
 }

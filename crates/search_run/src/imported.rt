@@ -1,5 +1,5 @@
 // What an import found.
-ghost use Rattle.std.specs.Prelude.{◌≡◌, ◌≤◌, length};
+ghost use Rattle.std.specs.Prelude.{◌≡◌, ◌≤◌, ℕ, length};
 ghost use Rattle.search_run.specs.Course.{Finding};
 ghost use Rattle.search_run.specs.Imported.{Tells};
 ghost use Rattle.search_run.specs.Log.{segments_of};
@@ -67,9 +67,9 @@ pub(crate) enum Imported {
 impl Imported {
     /// How many versions it adds: one for each segment.
     pub fn versions(&self) -> u64
-        ensures value { (finding : Finding) → Tells self.now finding →
-            result ≡ length (segments_of 64 finding) }
-        ensures most { HasFewSegments self.now → result ≤ 1563 }
+        ensures value { (batch : ℕ) (finding : Finding) → Tells batch self.now finding →
+            result ≡ length (segments_of batch finding) }
+        ensures most { HasFewSegments self.now → result ≤ 100000 }
     {
         match self {
             Imported::Files { segments, .. } => segments.len() as u64,

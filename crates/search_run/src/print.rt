@@ -1,5 +1,5 @@
 // The printed report of an import.
-ghost use Rattle.std.specs.Prelude.{◌≡◌, ◌≤◌, ◌++◌, OnOk, count_by, length};
+ghost use Rattle.std.specs.Prelude.{◌≡◌, ◌≤◌, ◌++◌, ℕ, OnOk, count_by, length};
 ghost use Rattle.search_run.specs.Course.{Finding};
 ghost use Rattle.search_run.specs.Imported.{Tells, file_report, file_reports, games_kept};
 ghost use Rattle.search_run.specs.Log.{games_in};
@@ -262,7 +262,8 @@ pub(crate) fn print_report(
     version: u64,
 ) -> Result<(), NoMemory>
     requires { length (games_kept imported.now) ≤ 400000 }
-    ensures { OnOk result ((finding : Finding) → Tells imported.now finding →
+    ensures { OnOk result ((batch : ℕ) → 1 ≤ batch → (finding : Finding) →
+        Tells batch imported.now finding →
         out.new.items ≡ out.old.items ++ report_text line finding version) }
 {
     match imported {

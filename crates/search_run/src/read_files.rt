@@ -4,6 +4,7 @@ ghost use Rattle.std.specs.Prelude.{
   ◌≢◌,
   ◌⊎◌,
   ◌+◌,
+  ◌-◌,
   ◌/◌,
   ◌≤◌,
   ◌++◌,
@@ -41,9 +42,6 @@ use segment_store::{FinishedGame, Segment, SegmentBuilder};
 use sgf_reader::{MAX_FILE, Pair, RawNode};
 use std::alloc::Global;
 use std::sync::ArcStr;
-
-// How many files make one version.
-const BATCH: usize = 64;
 
 // While a file is imported this is held of each node, each value and each setup, beside its bytes
 // and its trees' nodes.
@@ -202,24 +200,27 @@ fn read_batch<F: Folder>(
     Ok((files, segment, counts))
 }
 
-// Imports the files of these names, in order and in batches. Hands back what became of them, a
-// segment for each batch, and the counts with their games.
+// Imports the files of these names, in order and in batches of so many. Hands back what became of
+// them, a segment for each batch, and the counts with their games.
 pub(crate) fn read_files<F: Folder>(
     alloc: Global,
     folder: &mut F,
     path: &str,
     names: &[String],
+    batch: usize,
     before: Counts,
 ) -> Result<(Vec<ImportedFile>, Vec<Segment>, Counts), NoMemory>
-    requires { HasFewGames before }
+    requires some { 1 ≤ batch }
+    requires room { HasFewGames before }
     ensures found { IfTold (F.files folder.old)
         (λ all. All (HasFile all path.now) (map string_bytes names.now) →
-        IfOk result (λ read. HasReadBatches all path.now before (map string_bytes names.now)
-        (F.faults folder.old) (F.faults folder.new)
+        IfOk result (λ read. HasReadBatches batch all path.now before
+        (map string_bytes names.now) (F.faults folder.old) (F.faults folder.new)
         (file_reports read.0.items) read.1.items)) }
     ensures added { IfOk result (λ read. AreAdded before read.2 (trees_in (games_in read.1.items))) }
     ensures room { IfOk result (λ read. HasFewGames read.2) }
-    ensures count { IfOk result (λ read. length read.1.items ≡ (length names.now + 63) / 64) }
+    ensures count { IfOk result (λ read.
+        length read.1.items ≡ (length names.now + (batch - 1)) / batch) }
     ensures same { F.files folder.new ≡ F.files folder.old }
     ensures later { F.faults folder.old ≤ F.faults folder.new }
 {
@@ -227,12 +228,12 @@ pub(crate) fn read_files<F: Folder>(
     let mut segments = Vec::new(alloc);
     let mut counts = before;
     let mut follower = Follower::new();
-    for batch in names.chunks(BATCH) {
+    for chunk in names.chunks(batch) {
         let (mut read, segment, after) = read_batch(
             alloc,
             folder,
             path,
-            batch,
+            chunk,
             &mut follower,
             counts,
         )?;

@@ -46,22 +46,24 @@ impl From<SinkError> for Stopped {
     }
 }
 
-// Runs statements in order, and writes the text of each.
+// Runs statements in order, with imports by batches of so many files, and writes the text of each.
 pub(crate) fn run_statements<R: Threads + Sync, F: Folder, K: Sink>(
     rt: &R,
     alloc: Global,
+    batch: usize,
     placed: &[Placed],
     folder: &mut F,
     out: &mut K,
 ) -> Result<(), Stopped>
-    requires { length placed.now ≤ 1048576 }
+    requires some { 1 ≤ batch }
+    requires few { length placed.now ≤ 1048576 }
     ensures lawful { IfTold (F.files folder.old)
         (λ files. IfTold (K.written out.old) (λ before. OnOk result
-        (WritesLawful files placed.now before (K.written out.new)
+        (WritesLawful (serial_rules batch) files placed.now before (K.written out.new)
         (F.faults folder.old) (F.faults folder.new)))) }
     ensures prefix { IfTold (F.files folder.old)
         (λ files. IfTold (K.written out.old) (λ before. OnErr result
-        (WritesPrefix files placed.now before (K.written out.new)
+        (WritesPrefix (serial_rules batch) files placed.now before (K.written out.new)
         (F.faults folder.old) (F.faults folder.new)))) }
     ensures sink_fault { IsErrOf result Stopped.SinkFault →
         Rose (K.faults out.old) (K.faults out.new) }
@@ -72,7 +74,16 @@ pub(crate) fn run_statements<R: Threads + Sync, F: Folder, K: Sink>(
     let mut session = Session::new();
     let mut standing = Standing::new(alloc);
     for statement in placed {
-        standing = run_statement(rt, alloc, &mut session, standing, statement, folder, out)?;
+        standing = run_statement(
+            rt,
+            alloc,
+            batch,
+            &mut session,
+            standing,
+            statement,
+            folder,
+            out,
+        )?;
     }
     write_all(out, standing.report())?;
     Ok(())
@@ -82,28 +93,30 @@ pub(crate) fn run_statements<R: Threads + Sync, F: Folder, K: Sink>(
 fn run_statement<R: Threads + Sync, F: Folder, K: Sink>(
     rt: &R,
     alloc: Global,
+    batch: usize,
     session: &mut Session,
     standing: Standing,
     placed: &Placed,
     folder: &mut F,
     out: &mut K,
 ) -> Result<Standing, Stopped>
-    requires { standing.version + 1563 < 2 ^ 64 }
+    requires some { 1 ≤ batch }
+    requires number { standing.version + 100000 < 2 ^ 64 }
     ensures passed { IfTold (F.files folder.old)
         (λ files. IfTold (K.written out.old) (λ before. IfOk result (λ next.
-        PassesStatement files serial_rules standing placed.now next before
+        PassesStatement files (serial_rules batch) standing placed.now next before
         (K.written out.new) (F.faults folder.old) (F.faults folder.new)))) }
     ensures stopped { IfTold (K.written out.old)
-        (λ before. OnErr result (StopsInStatement serial_rules standing placed.now before
+        (λ before. OnErr result (StopsInStatement (serial_rules batch) standing placed.now before
         (K.written out.new))) }
     ensures sink_fault { IsErrOf result Stopped.SinkFault →
         Rose (K.faults out.old) (K.faults out.new) }
-    ensures version { IfOk result (λ next. next.version ≤ standing.version + 1563) }
+    ensures version { IfOk result (λ next. next.version ≤ standing.version + 100000) }
     ensures same { F.files folder.new ≡ F.files folder.old }
     ensures later { F.faults folder.old ≤ F.faults folder.new }
     ensures sink_later { K.faults out.old ≤ K.faults out.new }
 {
     let text = standing.text_of(rt, alloc, session, placed)?;
     write_all(out, &text)?;
-    Ok(standing.pass(alloc, folder, placed)?)
+    Ok(standing.pass(alloc, folder, batch, placed)?)
 }

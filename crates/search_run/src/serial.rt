@@ -1,7 +1,22 @@
 // The top call, which runs one statement after another.
-ghost use Rattle.std.specs.Prelude.{◌≡◌, ◌≢◌, ◌≤◌, ◌+◌, ◌↔◌, ◌⊎◌, ℕ, List, [], Some, drop};
+ghost use Rattle.std.specs.Prelude.{
+  ◌≡◌,
+  ◌≢◌,
+  ◌≤◌,
+  ◌+◌,
+  ◌⊎◌,
+  ℕ,
+  List,
+  [],
+  Some,
+  drop,
+  map,
+  string_bytes,
+};
 ghost use Rattle.kb_edges.specs.Faults.{Rose};
 ghost use Rattle.kb_edges.specs.Files.{File};
+ghost use Rattle.query_script.specs.CommandWords.{AreLawful};
+ghost use Rattle.query_script.specs.declared.command_words.Words.{Words};
 ghost use Rattle.search_run.specs.Script.{IsBad, IsInGrammar};
 ghost use Rattle.search_run.specs.Serial.{IsEarly, Prints, PrintsAll, PrintsPrefix};
 ghost use Rattle.search_run.specs.declared.status.Status.{Status};
@@ -11,7 +26,7 @@ use crate::run::{Stopped, run_statements};
 use crate::script::read_whole;
 use crate::status::Status;
 use kb_edges::{Folder, Sink, Source};
-use query_script::ScriptError;
+use query_script::{ScriptError, WordsError, read_words};
 use std::alloc::Global;
 use std::thread::Threads;
 
@@ -19,8 +34,9 @@ use std::thread::Threads;
 /// that ended is told by the [`Status`]. A statement may be answered by several threads; they end
 /// before its text is written.
 ///
-/// The words are those of the command line without the program's name. In this stage the only
-/// lawful list of them is the empty one. The folder is handed back.
+/// The words are those of the command line without the program's name: `--batch N`, by which the
+/// files of an import come into the base N at a time, and `--serial`, which changes nothing here. A
+/// run of lawful words never ends with [`Status::BadWords`]. The folder is handed back.
 pub fn run_serial<R: Threads + Sync, F: Folder, S: Source, K: Sink>(
     rt: &R,
     alloc: Global,
@@ -29,9 +45,14 @@ pub fn run_serial<R: Threads + Sync, F: Folder, S: Source, K: Sink>(
     script: &mut S,
     out: &mut K,
 ) -> (Status, F)
-    // The words come first.
-    ensures bad_words { (result.0 ≡ Status.BadWords) ↔ (words.now ≢ []) }
-    ensures nothing_read { result.0 ≡ Status.BadWords → script.new ≡ script.old }
+    // The words come first. Those that aren't lawful are told so, but for want of memory, and nothing
+    // is read. Lawful ones are never told so.
+    ensures bad_words { result.0 ≡ Status.BadWords → (read : Words) →
+        ¬ AreLawful (map string_bytes words.now) read }
+    ensures lawful_words { result.0 ≢ Status.BadWords → result.0 ≢ Status.NoMemory →
+        (read : Words) × AreLawful (map string_bytes words.now) read }
+    ensures nothing_read { ((read : Words) → ¬ AreLawful (map string_bytes words.now) read) →
+        script.new ≡ script.old }
 
     // Then the script is read.
     ensures script_unread { result.0 ≡ Status.ScriptUnread →
@@ -59,24 +80,25 @@ pub fn run_serial<R: Threads + Sync, F: Folder, S: Source, K: Sink>(
         S.left script.old ≡ Some bytes → F.files folder ≡ Some files →
         K.written out.old ≡ Some before →
         result.0 ≡ Status.Done →
-        Prints bytes files before (K.written out.new) (F.faults folder) (F.faults result.1) }
+        Prints (map string_bytes words.now) bytes files before (K.written out.new)
+        (F.faults folder) (F.faults result.1) }
     ensures stopped { (bytes : List ℕ) (files : List File) (before : List ℕ) →
         S.left script.old ≡ Some bytes → F.files folder ≡ Some files →
         K.written out.old ≡ Some before →
         result.0 ≡ Status.SinkFault →
-        PrintsPrefix bytes files before (K.written out.new) (F.faults folder)
-        (F.faults result.1) }
+        PrintsPrefix (map string_bytes words.now) bytes files before (K.written out.new)
+        (F.faults folder) (F.faults result.1) }
     ensures no_memory { (bytes : List ℕ) (files : List File) (before : List ℕ) →
         S.left script.old ≡ Some bytes → F.files folder ≡ Some files →
         K.written out.old ≡ Some before →
         result.0 ≡ Status.NoMemory → (K.written out.new ≡ Some before) × (result.1 ≡ folder)
-        ⊎ PrintsPrefix bytes files before (K.written out.new) (F.faults folder)
-        (F.faults result.1) }
+        ⊎ PrintsPrefix (map string_bytes words.now) bytes files before (K.written out.new)
+        (F.faults folder) (F.faults result.1) }
 
     // Where nothing fails, the run is done, or memory was wanted. Where the folder doesn't fail,
     // nothing is lost.
-    ensures complete { (bytes : List ℕ) → S.left script.old ≡ Some bytes → words.now ≡ [] →
-        IsInGrammar bytes →
+    ensures complete { (bytes : List ℕ) (read : Words) → S.left script.old ≡ Some bytes →
+        AreLawful (map string_bytes words.now) read → IsInGrammar bytes →
         ¬ Rose (S.faults script.old) (S.faults script.new) →
         ¬ Rose (K.faults out.old) (K.faults out.new) → (result.0 ≡ Status.Done)
         ⊎ (result.0 ≡ Status.NoMemory) }
@@ -84,7 +106,7 @@ pub fn run_serial<R: Threads + Sync, F: Folder, S: Source, K: Sink>(
         S.left script.old ≡ Some bytes → F.files folder ≡ Some files →
         K.written out.old ≡ Some before →
         result.0 ≡ Status.Done → ¬ Rose (F.faults folder) (F.faults result.1) →
-        PrintsAll bytes files before (K.written out.new) }
+        PrintsAll (map string_bytes words.now) bytes files before (K.written out.new) }
 
     // The folder's files stay, and no count of faults falls.
     ensures same { F.files result.1 ≡ F.files folder }
@@ -96,9 +118,11 @@ pub fn run_serial<R: Threads + Sync, F: Folder, S: Source, K: Sink>(
     ensures nothing_written { IsEarly result.0 → K.written out.new ≡ K.written out.old }
     ensures nothing_asked { IsEarly result.0 → result.1 ≡ folder }
 {
-    if !words.is_empty() {
-        return (Status::BadWords, folder);
-    }
+    let said = match read_words(alloc, words) {
+        Ok(said) => said,
+        Err(WordsError::BadWords) => return (Status::BadWords, folder),
+        Err(WordsError::NoMemory) => return (Status::NoMemory, folder),
+    };
     let text = match read_text(alloc, script) {
         Ok(text) => text,
         Err(ReadScriptError::Unread) => return (Status::ScriptUnread, folder),
@@ -110,7 +134,7 @@ pub fn run_serial<R: Threads + Sync, F: Folder, S: Source, K: Sink>(
         Err(ScriptError::NoMemory) => return (Status::NoMemory, folder),
     };
     let mut folder = folder;
-    match run_statements(rt, alloc, &placed, &mut folder, out) {
+    match run_statements(rt, alloc, said.batch as usize, &placed, &mut folder, out) {
         Ok(()) => (Status::Done, folder),
         Err(Stopped::SinkFault) => (Status::SinkFault, folder),
         Err(Stopped::NoMemory) => (Status::NoMemory, folder),

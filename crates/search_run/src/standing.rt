@@ -107,7 +107,9 @@ impl Standing {
         placed: &Placed,
     ) -> Result<Vec<u8>, NoMemory>
         ensures { IfOk result (λ text.
-            IsTextByKept serial_rules self.now placed.now.line placed.now.statement text.items) }
+            (batch : ℕ) →
+            IsTextByKept (serial_rules batch) self.now placed.now.line placed.now.statement
+            text.items) }
     {
         let line = placed.line;
         match &placed.statement {
@@ -191,19 +193,21 @@ impl Standing {
         mut self,
         alloc: Global,
         folder: &mut F,
+        batch: usize,
         placed: &Placed,
     ) -> Result<Standing, NoMemory>
-        requires { self.version + 1563 < 2 ^ 64 }
+        requires some { 1 ≤ batch }
+        requires number { self.version + 100000 < 2 ^ 64 }
         ensures passed { IfTold (F.files folder.old) (λ files. IfOk result (λ next. (text : List ℕ) →
-            LeadsOn files serial_rules self placed.now.line placed.now.statement text next
+            LeadsOn files (serial_rules batch) self placed.now.line placed.now.statement text next
             (F.faults folder.old) (F.faults folder.new))) }
-        ensures version { IfOk result (λ next. next.version ≤ self.version + 1563) }
+        ensures version { IfOk result (λ next. next.version ≤ self.version + 100000) }
         ensures same { F.files folder.new ≡ F.files folder.old }
         ensures later { F.faults folder.old ≤ F.faults folder.new }
     {
         match &placed.statement {
             Statement::Import { path } => {
-                self.pass_import(alloc, folder, placed.line, path.as_str())
+                self.pass_import(alloc, folder, batch, placed.line, path.as_str())
             }
             Statement::Wait => {
                 self.waiting = None;
@@ -225,18 +229,20 @@ impl Standing {
         self,
         alloc: Global,
         folder: &mut F,
+        batch: usize,
         line: u32,
         path: &str,
     ) -> Result<Standing, NoMemory>
-        requires { self.version + 1563 < 2 ^ 64 }
+        requires some { 1 ≤ batch }
+        requires number { self.version + 100000 < 2 ^ 64 }
         ensures passed { IfTold (F.files folder.old) (λ files. IfOk result (λ next. (text : List ℕ) →
-            LeadsOn files serial_rules self line (Statement.Import path.now) text next
+            LeadsOn files (serial_rules batch) self line (Statement.Import path.now) text next
             (F.faults folder.old) (F.faults folder.new))) }
-        ensures version { IfOk result (λ next. next.version ≤ self.version + 1563) }
+        ensures version { IfOk result (λ next. next.version ≤ self.version + 100000) }
         ensures same { F.files folder.new ≡ F.files folder.old }
         ensures later { F.faults folder.old ≤ F.faults folder.new }
     {
-        let (imported, counts) = import(alloc, folder, path, self.counts)?;
+        let (imported, counts) = import(alloc, folder, path, batch, self.counts)?;
         let mut version = self.version;
         let number = version.number() + imported.versions();
         let mut report = Vec::new(alloc);

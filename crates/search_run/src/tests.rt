@@ -572,6 +572,15 @@ fn many_statements(rt: HostRuntime) -> Result<(), Fail> {
     Ok(())
 }
 
+// The words of a command line that are parted by single spaces.
+fn words_in(alloc: Global, line: &str) -> Result<Vec<String>, Fail> {
+    let mut words = Vec::new(alloc);
+    for word in line.split(' ') {
+        words.push(String::from_str(alloc, word)?)?;
+    }
+    Ok(words)
+}
+
 #[test]
 fn words_come_first(rt: HostRuntime) -> Result<(), Fail> {
     let alloc = rt.alloc();
@@ -580,12 +589,71 @@ fn words_come_first(rt: HostRuntime) -> Result<(), Fail> {
         sink: &[0],
         ..NO_FAULTS
     };
-    for word in ["", "--help", "d"] {
-        let words = vec![in alloc; String::from_str(alloc, word)?]?;
+    let bad = [
+        "",
+        "d",
+        "--",
+        "--help",
+        "--batch",
+        "--batch 0",
+        "--batch=4097",
+        "--batch 5 --batch=6",
+        "--serial --serial",
+        "--serial d",
+    ];
+    for line in bad {
+        let words = words_in(alloc, line)?;
         let files = entries(alloc, &ONE_GAME)?;
         let ended = run_words(&rt, alloc, &words, files, b"waits\n".to_vec(alloc)?, faults)?;
-        expect_end(&rt, &ended, Status::BadWords, "", word);
-        assert_eq!(rt; ended.left, 6, "{word}");
+        expect_end(&rt, &ended, Status::BadWords, "", line);
+        assert_eq!(rt; ended.left, 6, "{line}");
     }
+    Ok(())
+}
+
+// Each batch of three files makes a version, and what is found doesn't hang on it.
+#[test]
+fn words_tell_the_batch(rt: HostRuntime) -> Result<(), Fail> {
+    let alloc = rt.alloc();
+    let lawful = [
+        ("--batch 1", 3),
+        ("--batch=0001 --serial", 3),
+        ("--serial --batch=2", 2),
+        ("--batch 2", 2),
+        ("--batch 3", 1),
+        ("--serial", 1),
+        ("--batch=4096 --serial", 1),
+    ];
+    for (line, last) in lawful {
+        let words = words_in(alloc, line)?;
+        let files = entries(alloc, &THREE_GAMES)?;
+        let script = b"import d\nuntil 2\nwait\n".to_vec(alloc)?;
+        let written = format!(in alloc;
+            "1 import d\n\
+             2 until 2 version {last}\n\
+             1 imported files 3 accepted 3 refused 0 full 0 unread 0 games 3 version {last}\n\
+             3 wait version {last}\n"
+        )?;
+        let ended = run_words(&rt, alloc, &words, files, script, NO_FAULTS)?;
+        expect_end(&rt, &ended, Status::Done, &written, line);
+    }
+    Ok(())
+}
+
+#[test]
+fn both_words_before_a_search(rt: HostRuntime) -> Result<(), Fail> {
+    let alloc = rt.alloc();
+    let words = words_in(alloc, "--batch=4096 --serial")?;
+    let files = entries(alloc, &ONE_GAME)?;
+    let script = b"import d\nwait\nsearch same fixed X\n".to_vec(alloc)?;
+    let written = "1 import d\n\
+                   1 imported files 1 accepted 1 refused 0 full 0 unread 0 games 1 version 1\n\
+                   2 wait version 1\n\
+                   3 search version 1 games 1 hits 2\n\
+                   hit 0 1 2 2 0 -\n\
+                   hit 0 3 2 1 0 -\n\
+                   total 2 0 0 0 0 2\n";
+    let ended = run_words(&rt, alloc, &words, files, script, NO_FAULTS)?;
+    expect_end(&rt, &ended, Status::Done, written, "both words");
     Ok(())
 }

@@ -2,12 +2,13 @@ use Rattle.std.proofs.Common.{◌≡◌, ◌<◌, ◌≤◌, ◌∙◌, Err, ap,
 use Rattle.std.specs.Prelude.{string_bytes}
 use Rattle.std.proofs.lemmas.List.{length-map}
 use Rattle.search_run.specs.Course.{TooMany, Unlisted, nothing_lost}
+use Rattle.search_run.proofs.BatchLemmas.{pieces_few}
 use Rattle.search_run.proofs.ImportLemmas.{AreNames-from_listing, AreNames-there, IsImported-read, no_more_names, unlisted_by}
 use Rattle.search_run.proofs.import.import.Goals as goal
 
 pub returns-in-Err-Failed-clause-found : goal.returns-in-Err-Failed-clause-found
 returns-in-Err-Failed-clause-found g c = λ files told.
-    unlisted_by files c.args.path.now c.args.before _ _ (c.in-Err-Failed.ensures.failed (ap Err c.in-Err-Failed.field-0-is))
+    unlisted_by c.args.batch files c.args.path.now c.args.before _ _ (c.in-Err-Failed.ensures.failed (ap Err c.in-Err-Failed.field-0-is))
 
 pub returns-in-Err-Missing-clause-found : goal.returns-in-Err-Missing-clause-found
 returns-in-Err-Missing-clause-found g c = λ files told.
@@ -44,4 +45,11 @@ returns-clause-found g c = λ files told.
     let there = AreNames-there files _ _ are in
     let read = c.in_ok-files.ensures.found files (c.list.ensures.same ∙ told) (rw c.deref-2.ensures.value there) in
     let few : length names ≤ 100000 = no_more_names c.are_too_many.result names (rw c.deref.ensures.value at c.are_too_many.ensures.1) c.if-are_too_many.false in
-    IsImported-read files c.args.path.now c.args.before names _ _ _ c.in_ok-files.files c.in_ok-files.segments c.list.ensures.later (c.in-Ok.ensures.there files told) are few (rw c.deref-2.ensures.value at read)
+    IsImported-read c.args.batch files c.args.path.now c.args.before names _ _ _ c.in_ok-files.files c.in_ok-files.segments c.list.ensures.later (c.in-Ok.ensures.there files told) are few (rw c.deref-2.ensures.value at read)
+
+pub returns-clause-few : goal.returns-clause-few
+returns-clause-few g c =
+    let names = c.sort_names.new.names.items in
+    let few : length names ≤ 100000 = no_more_names c.are_too_many.result names (rw c.deref.ensures.value at c.are_too_many.ensures.1) c.if-are_too_many.false in
+    let counted = rw c.deref-2.ensures.value at c.in_ok-files.ensures.count in
+    omega (arith, counted, pieces_few (length names) c.args.batch c.requires.some, few)

@@ -1,5 +1,6 @@
 use Rattle.std.proofs.Common.{◌≡◌, ◌++◌, ◌∙◌, ◌∷◌, [], append-nil, arith, drop, refl, suc, sym, take}
 use Rattle.std.proofs.lemmas.List.{take_all}
+use Rattle.search_run.specs.Run.{serial_rules}
 use Rattle.search_run.proofs.RunLemmas.{HasRun-more, HasRun-start, WritesPrefix-stopped, WritesLawful-end, after_error, next_prefix, split_here, taken_more}
 use Rattle.search_run.proofs.StatementLemmas.{waiting_is}
 use Rattle.search_run.proofs.run.run_statements.Goals as goal
@@ -11,7 +12,7 @@ returns-in_err-standing-clause-prefix g c = λ files told before written.
     let p = c.statement-item.result in
     let h = c.loop-statement.invariant.run files told before written in
     let stop = c.in_err-standing.ensures.stopped (before ++ h.text) h.written_is in
-    after_error _ _ (WritesPrefix-stopped files placed (take i placed) (p ∷ drop (suc i) placed) c.loop-statement.standing before stop.more _ _ _ _ _ h (split_here placed i p c.loop-statement-test.true c.statement-item.is) (next_prefix files h.state c.loop-statement.standing p (drop (suc i) placed) stop.more h.is_kept stop.prefix) stop.written_is c.in_err-standing.ensures.later)
+    after_error _ _ (WritesPrefix-stopped (serial_rules c.args.batch) files placed (take i placed) (p ∷ drop (suc i) placed) c.loop-statement.standing before stop.more _ _ _ _ _ h (split_here placed i p c.loop-statement-test.true c.statement-item.is) (next_prefix (serial_rules c.args.batch) files h.state c.loop-statement.standing p (drop (suc i) placed) stop.more h.is_kept stop.prefix) stop.written_is c.in_err-standing.ensures.later)
 
 pub loop-statement-init : goal.loop-statement-init
 loop-statement-init g c = record {
@@ -19,7 +20,7 @@ loop-statement-init g c = record {
   later = omega arith;
   sink_later = omega arith;
   version = rw c.new-standing.ensures (omega arith);
-  run = λ files told before written. rw c.new-standing.ensures (HasRun-start files before (g.K.Sink.written c.args.out.now) (g.F.Folder.faults c.args.folder.now) written);
+  run = λ files told before written. rw c.new-standing.ensures (HasRun-start (serial_rules c.args.batch) files before (g.K.Sink.written c.args.out.now) (g.F.Folder.faults c.args.folder.now) written);
 }
 
 pub loop-statement-preserved : goal.loop-statement-preserved
@@ -34,7 +35,7 @@ loop-statement-preserved g c = record {
       let p = c.statement-item.result in
       let h = c.loop-statement.invariant.run files told before written in
       rw (taken_more placed i p c.loop-statement-test.true c.statement-item.is)
-      (HasRun-more files (take i placed) p c.loop-statement.standing c.in_ok-standing.standing before _ _ _ _ _ h (c.in_ok-standing.ensures.passed files (c.loop-statement.invariant.same ∙ told) (before ++ h.text) h.written_is));
+      (HasRun-more (serial_rules c.args.batch) files (take i placed) p c.loop-statement.standing c.in_ok-standing.standing before _ _ _ _ _ h (c.in_ok-standing.ensures.passed files (c.loop-statement.invariant.same ∙ told) (before ++ h.text) h.written_is));
 }
 
 pub returns-in_err-write_all-clause-prefix : goal.returns-in_err-write_all-clause-prefix
@@ -44,7 +45,7 @@ returns-in_err-write_all-clause-prefix g c = λ files told before written.
     let h = c.loop-statement.invariant.run files told before written in
     let part = c.in_err-write_all.ensures.part (before ++ h.text) h.written_is in
     let all : take i placed ≡ placed = take_all i placed (omega arith) in
-    after_error _ _ (WritesPrefix-stopped files placed (take i placed) [] c.loop-statement.standing before part.0 _ _ _ _ _ h (sym (append-nil (take i placed) ∙ all)) (rw (c.report.ensures, waiting_is h.state c.loop-statement.standing h.is_kept) at part.1) part.2 (omega arith))
+    after_error _ _ (WritesPrefix-stopped (serial_rules c.args.batch) files placed (take i placed) [] c.loop-statement.standing before part.0 _ _ _ _ _ h (sym (append-nil (take i placed) ∙ all)) (rw (c.report.ensures, waiting_is h.state c.loop-statement.standing h.is_kept) at part.1) part.2 (omega arith))
 
 pub returns-clause-lawful : goal.returns-clause-lawful
 returns-clause-lawful g c = λ files told before written.
@@ -53,4 +54,4 @@ returns-clause-lawful g c = λ files told before written.
     let h = c.loop-statement.invariant.run files told before written in
     let all : take i placed ≡ placed = take_all i placed (omega arith) in
     let whole = c.in_ok-write_all.ensures.whole (before ++ h.text) h.written_is in
-    rw (← all) (WritesLawful-end files (take i placed) c.loop-statement.standing before _ _ _ _ h (rw c.report.ensures at whole))
+    rw (← all) (WritesLawful-end (serial_rules c.args.batch) files (take i placed) c.loop-statement.standing before _ _ _ _ h (rw c.report.ensures at whole))

@@ -1,5 +1,6 @@
 use Rattle.std.proofs.Common.{◌≡◌, ◌≤◌, ◌*◌, take}
 use Rattle.kb_edges.specs.Told.{IfTold}
+use Rattle.search_run.specs.Run.{serial_rules}
 use Rattle.search_run.specs.Steps.{HasRun}
 use Rattle.search_run.proofs.run.run_statements.Given as goal
 
@@ -8,6 +9,6 @@ invariant-loop-statement g l = record {
   same : g.F.Folder.files l.folder ≡ g.F.Folder.files l.fn.folder;
   later : g.F.Folder.faults l.fn.folder ≤ g.F.Folder.faults l.folder;
   sink_later : g.K.Sink.faults l.fn.out ≤ g.K.Sink.faults l.out;
-  version : l.standing.version ≤ l.statement-index * 1563;
-  run : IfTold (g.F.Folder.files l.fn.folder) (λ files. IfTold (g.K.Sink.written l.fn.out) (λ before. HasRun files (take l.statement-index l.placed) l.standing before (g.K.Sink.written l.out) (g.F.Folder.faults l.fn.folder) (g.F.Folder.faults l.folder)));
+  version : l.standing.version ≤ l.statement-index * 100000;
+  run : IfTold (g.F.Folder.files l.fn.folder) (λ files. IfTold (g.K.Sink.written l.fn.out) (λ before. HasRun (serial_rules l.fn.batch) files (take l.statement-index l.placed) l.standing before (g.K.Sink.written l.out) (g.F.Folder.faults l.fn.folder) (g.F.Folder.faults l.folder)));
 }

@@ -1,4 +1,5 @@
 use Rattle.std.proofs.Common.{arith}
+use Rattle.search_run.specs.Run.{serial_rules}
 use Rattle.search_run.proofs.StatementLemmas.{leads-together}
 use Rattle.search_run.proofs.standing.Standing.pass.Goals as goal
 
@@ -8,4 +9,4 @@ returns-in-Import-clause-passed g c = λ files told.
 
 pub returns-in-Together-clause-passed : goal.returns-in-Together-clause-passed
 returns-in-Together-clause-passed g c = λ files told. λ text.
-    rw c.in-Together.is (leads-together files c.args.self c.args.placed.now.line text _ _ (omega arith) c.in-Together.searches)
+    rw c.in-Together.is (leads-together (serial_rules c.args.batch) files c.args.self c.args.placed.now.line text _ _ (omega arith) c.in-Together.searches)
