@@ -7,6 +7,7 @@ use Rattle.std.proofs.lemmas.List.FromFn.{length-map-range_with_len, get_or-map-
 use Rattle.std.proofs.lemmas.List.Sums.{sum_by-append}
 use Rattle.pattern_images.specs.declared.hit.Hit.{Hit}
 use Rattle.hit_collectors.specs.declared.kind.Kind.{Kind}
+use Rattle.hit_collectors.specs.declared.kind.Kind.TheVariants as kinds
 use Rattle.hit_collectors.specs.Tallies.{BoxTally, count_at, counted_by, numbers_with, raised, with_hits}
 
 -- ---- one number
@@ -80,6 +81,9 @@ numbers_one kind hit numbers =
     (length-set numbers (counted_by kind hit) (raised (get_or numbers (counted_by kind hit) 0) 1))
     (λ k d below. set_up numbers (counted_by kind hit) k d below (nat_eq (counted_by kind hit) k) refl
     ∙ ap (raised (get_or numbers k 0)) (sym (count_one kind hit k)))
+
+pub total_one : (hit : Hit) (n : ℕ) → numbers_with kinds.Total (hit ∷ []) (n ∷ []) ≡ raised n 1 ∷ []
+total_one hit n = numbers_one kinds.Total hit (n ∷ [])
 
 -- ---- boxes
 

@@ -70,8 +70,19 @@ impl Collector for Counter {
 
 // A number raised by one, but not beyond the greatest.
 #[tactic(auto, unfolding(crate::specs::Tallies::greatest))]
-fn one_more(number: u64) -> u64
+#[inline]
+pub(crate) fn one_more(number: u64) -> u64
     ensures { result ≡ raised number 1 }
 {
     number.saturating_add(1)
+}
+
+// A counter of the kind Total that has so many hits.
+#[cfg(test)]
+pub(crate) fn filled(name: String, hits: u64) -> Counter {
+    Counter {
+        name,
+        kind: Kind::Total,
+        numbers: [hits; ROOM],
+    }
 }

@@ -37,6 +37,7 @@ fn feed_box(board: &mut Box<dyn Collector>, hits: &[Hit]) -> Result<(), NoMemory
 }
 
 // Gives a hit to a box.
+#[inline]
 fn give(board: &mut Box<dyn Collector>, hit: &Hit) -> Result<(), NoMemory>
     ensures ok { OnOk result (tally board.new ≡ with_hits (hit.now ∷ []) (tally board.old)) }
     ensures refused { OnErr result (tally board.new ≡ tally board.old) }

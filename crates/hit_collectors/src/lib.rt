@@ -20,3 +20,6 @@ pub use feeding::feed;
 pub use kind::Kind;
 pub use laws::{a_hit_raises_one_number, hits_add_up_to_their_counts};
 pub use retiring::{NoSuchName, retire};
+
+#[cfg(test)]
+mod tests;

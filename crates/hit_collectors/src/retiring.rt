@@ -1,5 +1,5 @@
 // A box is taken out by its name.
-ghost use Rattle.std.specs.Prelude.{◌≡◌, ◌≢◌, ◌<◌, ◌↔◌, length, take, All, IfNone, IfSome, IsTrue, OnErr, OnOk, slice_index_or};
+ghost use Rattle.std.specs.Prelude.{◌≡◌, ◌≢◌, ◌↔◌, map, All, IfNone, IfSome, IsTrue, OnErr, OnOk};
 ghost use Rattle.hit_collectors.specs.Boxes.{IsRetired};
 ghost use Rattle.hit_collectors.specs.Finding.{IsFirstNamed};
 
@@ -24,6 +24,9 @@ impl Error for NoSuchName {}
 pub fn retire(boards: &mut Vec<Box<dyn Collector>>, name: &str) -> Result<(), NoSuchName>
     ensures ok { OnOk result
         (IsRetired (λ board. (tally board).name) name.now boards.old.items boards.new.items) }
+    ensures told { OnOk result (IsRetired (λ told. told.name) name.now
+        (map (λ board. tally board) boards.old.items)
+        (map (λ board. tally board) boards.new.items)) }
     ensures none { OnErr result
         (All (λ board. (tally board).name ≢ name.now) boards.old.items) }
     ensures same { OnErr result (boards.new.items ≡ boards.old.items) }
