@@ -1,0 +1,4 @@
+pub mod Counts
+pub mod FedBoxes
+pub mod RetiredBoxes
+pub mod RoomSteps

@@ -1,0 +1,9 @@
+use Rattle.std.proofs.Common.{◌≡◌, ◌++◌, map, take, drop}
+use Rattle.hit_collectors.specs.Boxes.{all_with_hits}
+use Rattle.hit_collectors.proofs.feeding.feed.Given as goal
+
+abbrev pub invariant-loop-i : goal.invariant-loop-i
+invariant-loop-i g l =
+    map (λ b. (goal.Collector-dyn g (b.vtable, b.value)).tally b.value) l.boards
+    ≡ all_with_hits l.hits (take l.i (map (λ b. (goal.Collector-dyn g (b.vtable, b.value)).tally b.value) l.fn.boards))
+    ++ drop l.i (map (λ b. (goal.Collector-dyn g (b.vtable, b.value)).tally b.value) l.fn.boards)

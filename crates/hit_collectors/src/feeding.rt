@@ -1,0 +1,47 @@
+// Hits are given to boxes.
+ghost use Rattle.std.specs.Prelude.{◌≡◌, ◌∷◌, ◌++◌, [], List, map, OnErr, OnOk};
+ghost use Rattle.pattern_images.specs.declared.hit.Hit.{Hit};
+ghost use Rattle.hit_collectors.specs.Boxes.{IsFedInPart, IsPartTaken, all_with_hits};
+ghost use Rattle.hit_collectors.specs.Tallies.{with_hits};
+
+use crate::Collector;
+use kb_geometry::NoMemory;
+use pattern_images::Hit;
+
+/// Gives all hits, in order, to each box, in order. Each box goes over the hits once.
+///
+/// The only error is `NoMemory`, where a box answers it. The boxes before that one then have all
+/// hits, it has those before the hit that it refused, and the later boxes have none.
+pub fn feed(boards: &mut [Box<dyn Collector>], hits: &[Hit]) -> Result<(), NoMemory>
+    ensures ok { OnOk result (map (λ board. tally board) boards.new
+        ≡ all_with_hits hits.now (map (λ board. tally board) boards.old)) }
+    ensures refused { OnErr result (IsFedInPart hits.now (map (λ board. tally board) boards.old)
+        (map (λ board. tally board) boards.new)) }
+{
+    for i in 0..boards.len() {
+        feed_box(&mut boards[i], hits)?;
+    }
+    Ok(())
+}
+
+// Gives all hits to a box, in order.
+fn feed_box(board: &mut Box<dyn Collector>, hits: &[Hit]) -> Result<(), NoMemory>
+    ensures ok { OnOk result (tally board.new ≡ with_hits hits.now (tally board.old)) }
+    ensures refused { OnErr result
+        (IsPartTaken hits.now (tally board.old) (tally board.new)) }
+{
+    for hit in hits {
+        give(board, hit)?;
+    }
+    Ok(())
+}
+
+// Gives a hit to a box.
+#[inline]
+fn give(board: &mut Box<dyn Collector>, hit: &Hit) -> Result<(), NoMemory>
+    ensures ok { OnOk result (tally board.new ≡ with_hits (hit.now ∷ []) (tally board.old)) }
+    ensures refused { OnErr result (tally board.new ≡ tally board.old) }
+{
+    board.take(hit)?;
+    Ok(())
+}

@@ -1,0 +1,25 @@
+//! Boxes that tally hits: each has a name, a kind and the numbers of that kind.
+//!
+//! Stands on the hits of pattern_images. In `specs/` are the words for what a box tells, for what
+//! hits add to it, and for the report line of a box. The layers above use that [`feed`] adds every
+//! hit to every box, and that [`retire`] takes out the first box of a name.
+#![tactic(auto)]
+
+mod collector;
+mod counter;
+mod counting;
+mod feeding;
+mod kind;
+mod laws;
+mod report;
+mod retiring;
+
+pub use collector::Collector;
+pub use counter::Counter;
+pub use feeding::feed;
+pub use kind::Kind;
+pub use laws::{a_hit_raises_one_number, hits_add_up_to_their_counts};
+pub use retiring::{NoSuchName, retire};
+
+#[cfg(test)]
+mod tests;
