@@ -2,6 +2,6 @@
 pub mod Tallies
 pub mod Boxes
 pub mod Reports
--- Words of private functions.
 pub mod Counters
+-- Words of private functions.
 pub mod Finding

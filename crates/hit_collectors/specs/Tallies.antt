@@ -16,12 +16,12 @@ pub record BoxTally : Type 0 where
   pub numbers : List ℕ
 
 -- how many numbers a tally of a kind has
-abbrev pub size_of : Kind → ℕ
-size_of kind.Total = 1
-size_of kind.Labels = 16
-size_of kind.Phases = 31
-size_of kind.Outcomes = 6
-size_of kind.Nexts = 3
+abbrev pub number_count : Kind → ℕ
+number_count kind.Total = 1
+number_count kind.Labels = 16
+number_count kind.Phases = 31
+number_count kind.Outcomes = 6
+number_count kind.Nexts = 3
 
 -- the most that a number of a tally comes to
 unfoldable pub greatest : ℕ

@@ -1,7 +1,7 @@
 // A box that tallies hits.
 ghost use Rattle.std.specs.Prelude.{◌≡◌, ◌∷◌, ◌++◌, [], length, OnErr, OnOk};
 ghost use Rattle.hit_collectors.specs.Reports.{report_line};
-ghost use Rattle.hit_collectors.specs.Tallies.{BoxTally, size_of, with_hits};
+ghost use Rattle.hit_collectors.specs.Tallies.{BoxTally, number_count, with_hits};
 
 use crate::Kind;
 use kb_geometry::NoMemory;
@@ -19,7 +19,7 @@ pub trait Collector: Drop {
     /// What it counts. It has as many numbers as this kind has.
     fn kind(&self) -> Kind
         ensures kind { result ≡ (tally self.now).kind }
-        ensures sized { length (tally self.now).numbers ≡ size_of (tally self.now).kind };
+        ensures sized { length (tally self.now).numbers ≡ number_count (tally self.now).kind };
 
     /// Adds a hit to its numbers. After `NoMemory` it tells what it told before.
     fn take(&mut self, hit: &Hit) -> Result<(), NoMemory>

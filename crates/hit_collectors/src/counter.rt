@@ -1,8 +1,8 @@
 // A box in fixed room.
 ghost use Rattle.std.specs.Prelude.{◌≡◌, length, replicate, string_bytes, IfOk, IsOk};
-ghost use Rattle.hit_collectors.specs.Tallies.{raised, size_of};
+ghost use Rattle.hit_collectors.specs.Tallies.{raised, number_count};
 
-use crate::counting::{counted_by, size_of};
+use crate::counting::{counted_by, number_count};
 use crate::report::append_report;
 use crate::{Collector, Kind};
 use kb_geometry::{NoMemory, cut_back};
@@ -30,7 +30,7 @@ impl Counter {
         ensures told { IfOk result (λ counter. told_by counter ≡ record {
           name = string_bytes name;
           kind = kind;
-          numbers = replicate (size_of kind) 0;
+          numbers = replicate (number_count kind) 0;
         }) }
     {
         Ok(Counter {
@@ -62,7 +62,7 @@ impl Collector for Counter {
 
     fn report(&self, out: &mut Vec<u8>) -> Result<(), NoMemory> {
         let len = out.len();
-        let numbers = &self.numbers[..size_of(self.kind)];
+        let numbers = &self.numbers[..number_count(self.kind)];
         let done = append_report(out, &self.name, self.kind, numbers);
         cut_back(out, len, done)
     }

@@ -1,6 +1,6 @@
 // Which number of a tally counts a hit.
 ghost use Rattle.std.specs.Prelude.{◌≡◌, ◌<◌, ◌≤◌};
-ghost use Rattle.hit_collectors.specs.Tallies.{counted_by, number_of_next, number_of_outcome, size_of};
+ghost use Rattle.hit_collectors.specs.Tallies.{counted_by, number_of_next, number_of_outcome, number_count};
 
 use crate::Kind;
 use kb_geometry::Outcome;
@@ -16,7 +16,7 @@ const LAST_PHASE: u32 = 30;
 #[inline]
 pub(crate) fn counted_by(kind: Kind, hit: &Hit) -> usize
     ensures value { result ≡ counted_by kind hit.now }
-    ensures below { result < size_of kind }
+    ensures below { result < number_count kind }
 {
     match kind {
         Kind::Total => 0,
@@ -54,8 +54,8 @@ fn number_of_next(next: Option<Next>) -> usize
 }
 
 // How many numbers a tally of this kind has.
-pub(crate) fn size_of(kind: Kind) -> usize
-    ensures value { result ≡ size_of kind }
+pub(crate) fn number_count(kind: Kind) -> usize
+    ensures value { result ≡ number_count kind }
     ensures bound { result ≤ 31 }
 {
     match kind {

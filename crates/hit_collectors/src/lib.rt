@@ -18,7 +18,9 @@ pub use collector::Collector;
 pub use counter::Counter;
 pub use feeding::feed;
 pub use kind::Kind;
-pub use laws::{a_hit_raises_one_number, hits_add_up_to_their_counts};
+pub use laws::{
+    a_hit_raises_one_number, a_name_is_retired_in_one_way, hits_add_up_to_their_counts,
+};
 pub use retiring::{NoSuchName, retire};
 
 #[cfg(test)]
