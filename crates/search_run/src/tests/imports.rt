@@ -162,7 +162,8 @@ fn files_that_fill_the_base(rt: HostRuntime) -> Result<(), Fail> {
         full 400001 5000021 4.sgf\n";
     let files = files_of_games(alloc, &[8, 13, 11, 1, 1])?;
     let mut folder = MemoryFolder::new(files, Vec::new(alloc));
-    let (imported, after) = import(alloc, &mut folder, "d", before)?;
+    let (imported, after) = import(alloc, &mut folder, "d", 2, before)?;
+    assert_eq!(rt; imported.versions(), 3);
     assert_eq!(rt;
         after,
         Counts {
