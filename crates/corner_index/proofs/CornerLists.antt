@@ -1,5 +1,5 @@
 -- The entries of the four corners.
-use Rattle.std.proofs.Common.{◌≡◌, ℕ, zero, suc, ◌+◌, ◌-◌, ◌<◌, ◌≤◌, ◌↔◌, List, [], ◌∷◌, ◌++◌, length, get_or, length-append, sym, ap, ◌∙◌, subst, arith, inl, inr}
+use Rattle.std.proofs.Common.{◌≡◌, ℕ, zero, suc, ◌+◌, ◌-◌, ◌<◌, ◌≤◌, ◌↔◌, List, [], ◌∷◌, ◌++◌, length, get_or, length-append, refl, sym, ap, ◌∙◌, subst, arith, inl, inr}
 use Rattle.std.specs.Prelude.{Contains}
 use Rattle.std.proofs.lemmas.Bool.{cases_lt}
 use Rattle.std.proofs.lemmas.List.{get_or-append-add, get_or_append_left}
@@ -57,3 +57,8 @@ IsIndexOf-none a b c d first second third fourth corner lt key g =
 -- an index has no other games than those of its list
 pub IsIndexOf-below : (games : List (List (List ℕ))) (index : List (List Entry)) (count : ℕ) → IsIndexOf games index → length games ≤ count → HaveGamesBelow index count
 IsIndexOf-below games index count are few corner lt key g there = omega (arith, ((are corner lt key g).0 there).0, few)
+
+-- a list without a game
+pub no_game : (games : List (List (List ℕ))) → length games ≡ 0 → [] ≡ games
+no_game [] none = refl
+no_game (game ∷ games) none = absurd (omega (arith, none))

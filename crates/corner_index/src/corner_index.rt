@@ -1,5 +1,5 @@
 // Which games of a list had which number in which corner.
-ghost use Rattle.std.specs.Prelude.{◌≡◌, ℕ, ◌<◌, ◌-◌, ◌↔◌, List, [], ◌∷◌, ◌++◌, Contains, IfOk, length};
+ghost use Rattle.std.specs.Prelude.{◌≡◌, ℕ, ◌<◌, ◌≤◌, ◌-◌, ◌↔◌, List, [], ◌∷◌, ◌++◌, Contains, IfOk, length};
 ghost use Rattle.std.specs.List.Sorted.{IsStrictlyIncreasing};
 ghost use Rattle.corner_index.specs.CornerGames.{
   HaveGamesBelow,
@@ -57,6 +57,23 @@ impl CornerIndex {
             lower_left: CornerGames::of(alloc, keys.of_corner(2))?,
             lower_right: CornerGames::of(alloc, keys.of_corner(3))?,
         })
+    }
+
+    /// Of a list of games with these numbers, at most 400,000. The only error is `NoMemory`.
+    pub fn of(alloc: Global, games: &[CornerKeys]) -> Result<CornerIndex, NoMemory>
+        requires { length games.now ≤ 400000 }
+        ensures { IfOk result (λ index. IsIndexOf games.now index) }
+    {
+        let [game, ..] = games else {
+            return Ok(CornerIndex::empty(alloc));
+        };
+        if games.len() == 1 {
+            return CornerIndex::of_game(alloc, game);
+        }
+        let (before, behind) = games.split_at(games.len() / 2);
+        let a = CornerIndex::of(alloc, before)?;
+        let b = CornerIndex::of(alloc, behind)?;
+        CornerIndex::join(alloc, &a, &b, before.len() as u32)
     }
 
     /// The games of the first list, then those of the second: `first` is the length of the first

@@ -28,8 +28,8 @@ pub data AreLost (all : List File) (path : List ℕ) : List (List ℕ) → ℕ �
       AreLost all path names count → AreLost all path (names ++ name ∷ []) count
 
 -- The files of these names become this, one after another, in a base with these counts before them:
--- these are the lines of the report and the games that are added. The count of faults rose by the
--- files that were lost.
+-- these are the lines of the report and the games that are added. The count of faults rose by at
+-- least the files that were lost, or stands at its ceiling.
 pub record IsBatchOf (all : List File) (path : List ℕ) (before : Counts) (names : List (List ℕ))
     (faults_before faults_now : ℕ) (reports : List FileReport) (games : List Game) : Type 0 where
   pub files : List ImportFile

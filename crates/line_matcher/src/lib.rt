@@ -1,7 +1,8 @@
 //! The occurrences of placements in one game.
 //!
-//! Stands on kb_geometry, kb_bits, capture_board and pattern_images. The layer above uses that
-//! `match_along` finds exactly the nodes and placements where a placement begins to hold, in order.
+//! Stands on kb_geometry, kb_bits, capture_board and pattern_images. The layers above use its list of
+//! occurrences: exactly the nodes and placements where a placement begins to hold, in order. They
+//! find it by runs; [`match_game`] and the other calls here find it by a walk over the nodes.
 #![tactic(auto)]
 
 mod at_nodes;

@@ -20,7 +20,8 @@ use std::alloc::Global;
 use std::sync::ledger::Ledger;
 
 /// The nodes of a game and the placements that begin to hold there, as [`match_with`] lists them,
-/// each with its place. For the library's callers and tests: the program calls [`match_along`].
+/// each with its place. The program finds them by runs; this is the plain form that tests compare
+/// with.
 ///
 /// The images are those of a board of the game's shape. The count of steps only grows, by at most
 /// the number of the game's nodes. The only error is `NoMemory`.

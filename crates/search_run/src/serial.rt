@@ -46,13 +46,15 @@ pub fn run_serial<R: Threads + Sync, F: Folder, S: Source, K: Sink>(
     out: &mut K,
 ) -> (Status, F)
     // The words come first. Those that aren't lawful are told so, but for want of memory, and nothing
-    // is read. Lawful ones are never told so.
+    // is read, written or asked. Lawful ones are never told so.
     ensures bad_words { result.0 ≡ Status.BadWords → (read : Words) →
         ¬ AreLawful (map string_bytes words.now) read }
     ensures lawful_words { result.0 ≢ Status.BadWords → result.0 ≢ Status.NoMemory →
         (read : Words) × AreLawful (map string_bytes words.now) read }
     ensures nothing_read { ((read : Words) → ¬ AreLawful (map string_bytes words.now) read) →
         script.new ≡ script.old }
+    ensures nothing_done { ((read : Words) → ¬ AreLawful (map string_bytes words.now) read) →
+        (K.written out.new ≡ K.written out.old) × (result.1 ≡ folder) }
 
     // Then the script is read.
     ensures script_unread { result.0 ≡ Status.ScriptUnread →

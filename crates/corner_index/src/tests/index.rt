@@ -29,17 +29,12 @@ const FOUND: [(u8, u64, &[u32]); 12] = [
     (3, 18_446_744_073_709_551_615, &[]),
 ];
 
-// The index of these games, made of those of one game each.
+// The index of these games.
 fn index_of(alloc: Global, games: &[CornerKeys]) -> Result<CornerIndex, Fail>
     requires { length games.now ≤ 400000 }
     ensures { IfOk result (λ index. IsIndexOf games.now index) }
 {
-    let mut index = CornerIndex::empty(alloc);
-    for n in 0..games.len() {
-        let next = CornerIndex::of_game(alloc, &games[n])?;
-        index = CornerIndex::join(alloc, &index, &next, n as u32)?;
-    }
-    Ok(index)
+    Ok(CornerIndex::of(alloc, games)?)
 }
 
 #[test]
