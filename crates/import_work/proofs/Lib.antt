@@ -1,3 +1,5 @@
 mod BatchLemmas
 mod FileLemmas
+mod LostFiles
 mod RoomLemmas
+mod Turns

@@ -4,3 +4,5 @@ pub mod Course
 pub mod Log
 pub mod Outcome
 pub mod Rooms
+-- Words of private functions alone.
+pub mod Steps

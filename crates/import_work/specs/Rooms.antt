@@ -1,5 +1,5 @@
 -- What is added to a base, and that there is room for it.
-use Rattle.std.specs.Prelude.{◌≡◌, List, [], ◌++◌, length}
+use Rattle.std.specs.Prelude.{◌≡◌, ◌≤◌, List, [], ◌++◌, length}
 use Rattle.game_tree.specs.Tree.{Tree}
 use Rattle.import_work.specs.declared.outcome.Counts.{Counts}
 use Rattle.import_work.specs.declared.outcome.FileOutcome.{FileOutcome}
@@ -24,6 +24,10 @@ IsAdded before file.Unread added = added ≡ []
 -- these games are added to a base, and these are its counts before and after
 abbrev pub AreAdded : Counts → Counts → List Tree → Type 0
 AreAdded before after trees = after ≡ with_games before trees
+
+-- a base may have so many games and nodes
+abbrev pub AreWithinLimits : Counts → Type 0
+AreWithinLimits counts = (counts.games ≤ 400000) × (counts.nodes ≤ 67108864)
 
 -- more games are added to a base, and these are its counts before and after
 pub record AddsGames (before after : Counts) (games more : List Game) : Type 0 where

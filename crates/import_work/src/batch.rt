@@ -1,27 +1,34 @@
 // A batch of files.
 ghost use Rattle.std.specs.Prelude.{
   ◌≡◌,
+  ◌≢◌,
   ◌+◌,
   ◌≤◌,
   ◌⊎◌,
   ◌++◌,
-  ◌∷◌,
   [],
-  List,
-  ℕ,
+  None,
   length,
   map,
   string_bytes,
   IfOk,
   OnOk,
 };
+ghost use Rattle.kb_edges.specs.Faults.{RoseBy};
 ghost use Rattle.kb_edges.specs.Told.{IfTold};
 ghost use Rattle.node_position.specs.Games.{AreNodeChanges};
-ghost use Rattle.import_work.specs.declared.outcome.Counts.{Counts};
-ghost use Rattle.import_work.specs.Batches.{IsBatchOf, line_reports};
+ghost use Rattle.import_work.specs.Batches.{
+  AreImportedInTurn,
+  ArePaid,
+  IsBatchOf,
+  games_told,
+  line_reports,
+  names_in,
+  unread_in,
+};
 ghost use Rattle.import_work.specs.Course.{games_from, trees_in};
-ghost use Rattle.import_work.specs.Outcome.{with_games};
-ghost use Rattle.import_work.specs.Rooms.{AddsGames, AreAdded, IsAdded};
+ghost use Rattle.import_work.specs.Rooms.{AddsGames, AreAdded, AreWithinLimits, IsAdded};
+ghost use Rattle.import_work.specs.Steps.{IsOneMoreFile};
 
 use crate::one_file::import_one;
 use crate::outcome::{Counts, FileOutcome, with_added};
@@ -55,7 +62,8 @@ pub struct Batch {
 }
 
 /// Imports the files of these names, in order, into a base with these counts. Each becomes what
-/// [`import_one`] tells of it after the files before it. The only error is `NoMemory`.
+/// [`import_one`] tells of it after the files before it, and has the line of its place. The only
+/// error is `NoMemory`.
 pub fn import_batch<R: Threads + Sync, F: Folder>(
     _rt: &R,
     alloc: Global,
@@ -64,9 +72,21 @@ pub fn import_batch<R: Threads + Sync, F: Folder>(
     names: &[String],
     before: Counts,
 ) -> Result<Batch, NoMemory>
+    ensures in_turn { IfOk result (λ batch. AreImportedInTurn (F.files folder.old) path.now before
+        (F.faults folder.old) (line_reports batch.lines) batch.segment (F.faults folder.new)) }
+    ensures names { IfOk result (λ batch.
+        names_in (line_reports batch.lines) ≡ map string_bytes names.now) }
     ensures found { IfTold (F.files folder.old) (λ all. IfOk result (λ batch.
         IsBatchOf all path.now before (map string_bytes names.now) (F.faults folder.old)
         (F.faults folder.new) (line_reports batch.lines) batch.segment)) }
+    ensures unread { IfOk result (λ batch. ArePaid (F.files folder.old) path.now
+        (unread_in (line_reports batch.lines)) (F.faults folder.old) (F.faults folder.new)) }
+    ensures untold { F.files folder.old ≡ None → IfOk result (λ batch.
+        RoseBy (length (unread_in (line_reports batch.lines))) (F.faults folder.old)
+        (F.faults folder.new)) }
+    ensures counted { IfOk result (λ batch.
+        games_told (line_reports batch.lines) ≡ length batch.segment) }
+    ensures room { IfOk result (λ batch. batch.segment ≢ [] → AreWithinLimits batch.after) }
     ensures added { IfOk result (λ batch. AreAdded before batch.after (trees_in batch.segment)) }
     ensures same { F.files folder.new ≡ F.files folder.old }
     ensures later { F.faults folder.old ≤ F.faults folder.new }
@@ -131,11 +151,9 @@ fn import_next<F: Folder>(
     games: &mut SegmentBuilder,
 ) -> Result<(), NoMemory>
     requires { length games.old ≤ counts.old.games }
-    ensures found { IfTold (F.files folder.old) (λ all. (base : Counts) (done : List (List ℕ))
-        (first : ℕ) → counts.old ≡ with_games base (trees_in games.old) →
-        IsBatchOf all path.now base done first (F.faults folder.old) (line_reports lines.old.items)
-        games.old → OnOk result (IsBatchOf all path.now base (done ++ name.now ∷ []) first
-        (F.faults folder.new) (line_reports lines.new.items) games.new)) }
+    ensures imported { OnOk result (IsOneMoreFile (F.files folder.old) path.now name.now counts.old
+        (F.faults folder.old) (F.faults folder.new) (line_reports lines.old.items)
+        (line_reports lines.new.items) games.old games.new) }
     ensures added { OnOk result (AddsGames counts.old counts.new games.old games.new) }
     ensures same { F.files folder.new ≡ F.files folder.old }
     ensures later { F.faults folder.old ≤ F.faults folder.new }
