@@ -1,5 +1,5 @@
--- Files of a batch, where the folder tells its files, and the games of a file.
-use Rattle.std.proofs.Common.{◌≡◌, ◌≢◌, ◌⊎◌, inl, inr, ℕ, ◌+◌, ◌<◌, ◌≤◌, List, [], ◌∷◌, ◌++◌, Option, Some, length, length-append, map, get_or, take, append-nil, refl, sym, ◌∙◌, ap, subst, arith}
+-- Files of a batch, where the folder tells its files.
+use Rattle.std.proofs.Common.{◌≡◌, ◌≢◌, inl, inr, ℕ, ◌+◌, ◌<◌, List, [], ◌∷◌, ◌++◌, Option, Some, length, map, get_or, take, append-nil, refl, sym, ◌∙◌, ap, subst, arith}
 use Rattle.std.specs.Prelude.{String, string_bytes}
 use Rattle.std.specs.declared.alloc.Global.{Global}
 use Rattle.std.proofs.lemmas.Grind.{flat_map-append}
@@ -7,22 +7,14 @@ use Rattle.std.proofs.lemmas.List.{map_more, map_push}
 use Rattle.kb_edges.specs.Files.{File}
 use Rattle.game_tree.specs.Tree.{Tree}
 use Rattle.node_position.specs.Games.{Game}
-use Rattle.import_work.specs.Batches.{AreImportedInTurn, IsBatchOf, IsImportedFile, line_report, line_reports, names_in, names_of, none, nothing, one_more}
+use Rattle.import_work.specs.Batches.{AreImportedInTurn, IsBatchOf, IsImportedFile, names_in, names_of, none, nothing, one_more}
 use Rattle.import_work.specs.Course.{AreRead, FileReport, ImportFile, games_from, games_of_files, import_file, reports_of, trees_in}
 use Rattle.import_work.specs.Outcome.{IsOutcome, with_games}
-use Rattle.import_work.specs.Rooms.{IsAdded}
-use Rattle.import_work.specs.declared.batch.FileLine.{FileLine}
 use Rattle.import_work.specs.declared.outcome.Counts.{Counts}
 use Rattle.import_work.specs.declared.outcome.FileOutcome.{FileOutcome}
 use Rattle.import_work.specs.declared.outcome.FileOutcome.TheVariants as file
-use Rattle.import_work.proofs.FileLemmas.{length-games_from}
 use Rattle.import_work.proofs.LostFiles.{paid-later, paid-more}
 use Rattle.import_work.proofs.RoomLemmas.{cases_unread, unread_adds_none}
-
--- the line of one file more
-pub lines_push : (all more : List FileLine) (line : FileLine) (name : List ℕ) → more ≡ all ++ line ∷ [] → line.name ≡ name → line_reports more ≡ line_reports all ++ record { name = name; outcome = line.outcome } ∷ []
-lines_push all more line name pushed named =
-    ap line_reports pushed ∙ map_push line_report all line ∙ ap (λ n. line_reports all ++ record { name = n; outcome = line.outcome } ∷ []) named
 
 -- nothing is read yet
 IsBatchOf-start : (all : List File) (path : List ℕ) (base : Counts) (first : ℕ) → IsBatchOf all path base [] first first [] []
@@ -100,26 +92,6 @@ pub batch_told : (told : Option (List File)) (all : List File) (path : List ℕ)
 batch_told told all path base names first reports games now here named h =
     subst (λ ns. IsBatchOf all path base ns first now reports games) named
     (batch_in_turn all path base first reports games now (subst (λ t. AreImportedInTurn t path base first reports games now) here h))
-
--- ---- the games of a file
-
--- there is room for the games of a file behind others that the base has
-pub room_for : (before : Counts) (outcome : FileOutcome) (trees : List Tree) (others : ℕ) → others ≤ before.games → IsAdded before outcome trees → (trees ≡ []) ⊎ (others + length trees ≤ 400000)
-room_for before (file.Accepted games) trees others counted h = inr (omega (arith, counted, h.1.0))
-room_for before (file.Refused of at) trees others counted h = inl h
-room_for before (file.Full games nodes) trees others counted h = inl h
-room_for before file.Unread trees others counted h = inl h
-
--- there is room for all of them, where there is one
-pub room_of_all : (trees : List Tree) (others done : ℕ) → (trees ≡ []) ⊎ (others + length trees ≤ 400000) → done < length trees → others + length trees ≤ 400000
-room_of_all trees others done (inl empty) below = absurd (omega (arith, ap length empty, below))
-room_of_all trees others done (inr fits) below = fits
-
--- there is room for one game more
-pub room_for_more : (name : List ℕ) (before so_far : List Game) (trees all : List Tree) → so_far ≡ before ++ games_from name 0 trees → length before + length all ≤ 400000 → length trees < length all → length so_far < 400000
-room_for_more name before so_far trees all added fits below =
-    let counted : length so_far ≡ length before + length trees = ap length added ∙ length-append before (games_from name 0 trees) ∙ ap (λ n. length before + n) (length-games_from name 0 trees) in
-    omega (arith, counted, fits, below)
 
 -- one name more
 pub names_more : (names : List (String Global)) (i : ℕ) (name : String Global) → i < length names → name ≡ get_or names i name → map string_bytes (take (i + 1) names) ≡ map string_bytes (take i names) ++ string_bytes name ∷ []

@@ -1,5 +1,8 @@
 mod BatchLemmas
 mod FileLemmas
+mod FoundPieces
+mod Judges
 mod LostFiles
 mod RoomLemmas
+mod Texts
 mod Turns

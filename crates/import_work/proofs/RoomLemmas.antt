@@ -35,7 +35,7 @@ with_games-append before trees more =
     let nodes : before.nodes + nodes_of trees + nodes_of more ≡ before.nodes + nodes_of (trees ++ more) = rw nodes_of-append (omega arith) in
     cc
 
-with_games-none : (before : Counts) → with_games before [] ≡ before
+pub with_games-none : (before : Counts) → with_games before [] ≡ before
 with_games-none before =
     let games : before.games + 0 ≡ before.games = omega arith in
     let nodes : before.nodes + 0 ≡ before.nodes = omega arith in
@@ -69,6 +69,13 @@ added_counted before after games h =
 pub trees_in-games_from : (name : List ℕ) (place : ℕ) (trees : List Tree) → trees_in (games_from name place trees) ≡ trees
 trees_in-games_from name place [] = refl
 trees_in-games_from name place (tree ∷ trees) = ap (λ ts. tree ∷ ts) (trees_in-games_from name (place + 1) trees)
+
+-- the counts with the games of a file more
+pub with_file : (base : Counts) (games : List Game) (name : List ℕ) (trees : List Tree) → with_games (with_games base (trees_in games)) trees ≡ with_games base (trees_in (games ++ games_from name 0 trees))
+with_file base games name trees =
+    with_games-append base (trees_in games) trees
+    ∙ ap (λ ts. with_games base (trees_in games ++ ts)) (sym (trees_in-games_from name 0 trees))
+    ∙ ap (with_games base) (sym (trees_in-append games (games_from name 0 trees)))
 
 -- what an outcome adds
 pub IsAdded-outcome : (bytes : List ℕ) (before : Counts) (outcome : FileOutcome) (trees : List Tree) → IsOutcome bytes before outcome trees → IsAdded before outcome trees

@@ -5,4 +5,9 @@ pub mod Log
 pub mod Outcome
 pub mod Rooms
 -- Words of private functions alone.
+pub mod Found
+pub mod Judged
+pub mod Parsed
+pub mod Pieces
+pub mod Reads
 pub mod Steps

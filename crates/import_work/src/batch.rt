@@ -2,10 +2,7 @@
 ghost use Rattle.std.specs.Prelude.{
   ◌≡◌,
   ◌≢◌,
-  ◌+◌,
   ◌≤◌,
-  ◌⊎◌,
-  ◌++◌,
   [],
   None,
   length,
@@ -16,7 +13,6 @@ ghost use Rattle.std.specs.Prelude.{
 };
 ghost use Rattle.kb_edges.specs.Faults.{RoseBy};
 ghost use Rattle.kb_edges.specs.Told.{IfTold};
-ghost use Rattle.node_position.specs.Games.{AreNodeChanges};
 ghost use Rattle.import_work.specs.Batches.{
   AreImportedInTurn,
   ArePaid,
@@ -26,20 +22,18 @@ ghost use Rattle.import_work.specs.Batches.{
   names_in,
   unread_in,
 };
-ghost use Rattle.import_work.specs.Course.{games_from, trees_in};
-ghost use Rattle.import_work.specs.Rooms.{AddsGames, AreAdded, AreWithinLimits, IsAdded};
-ghost use Rattle.import_work.specs.Steps.{IsOneMoreFile};
+ghost use Rattle.import_work.specs.Course.{trees_in};
+ghost use Rattle.import_work.specs.Rooms.{AreAdded, AreWithinLimits};
+ghost use Rattle.import_work.specs.Steps.{AreMoreFiles};
 
-use crate::one_file::import_one;
-use crate::outcome::{Counts, FileOutcome, with_added};
-use capture_board::{Board, ChangeList, NodeDeltas};
-use game_tree::GameTree;
+use crate::judge::judge_all;
+use crate::outcome::{Counts, FileOutcome};
+use crate::pieces::found_files;
+use crate::read::read_all;
 use kb_edges::Folder;
-use kb_geometry::{Items, NoMemory, Shape, Text};
-use node_position::deltas_with;
-use segment_store::{FinishedGame, Segment, SegmentBuilder};
+use kb_geometry::{Items, NoMemory, Text};
+use segment_store::{Segment, SegmentBuilder};
 use std::alloc::Global;
-use std::sync::ArcStr;
 use std::thread::Threads;
 
 /// A file of an import by its name, and what became of it.
@@ -61,11 +55,14 @@ pub struct Batch {
     pub after: Counts,
 }
 
+// The most files whose bytes are held at one time.
+const FILES_AT_ONCE: usize = 64;
+
 /// Imports the files of these names, in order, into a base with these counts. Each becomes what
-/// [`import_one`] tells of it after the files before it, and has the line of its place. The only
-/// error is `NoMemory`.
+/// [`import_one`] tells of it after the files before it, and has the line of its place. The bytes of
+/// at most 64 files are held at one time. The only error is `NoMemory`.
 pub fn import_batch<R: Threads + Sync, F: Folder>(
-    _rt: &R,
+    rt: &R,
     alloc: Global,
     folder: &mut F,
     path: &str,
@@ -94,14 +91,13 @@ pub fn import_batch<R: Threads + Sync, F: Folder>(
     let mut lines = Vec::new(alloc);
     let mut games = SegmentBuilder::new(alloc);
     let mut counts = before;
-    let mut follower = Follower::new();
-    for name in names {
-        import_next(
+    for chunk in names.chunks(FILES_AT_ONCE) {
+        import_some(
+            rt,
             alloc,
             folder,
             path,
-            name.as_str(),
-            &mut follower,
+            chunk,
             &mut counts,
             &mut lines,
             &mut games,
@@ -115,79 +111,28 @@ pub fn import_batch<R: Threads + Sync, F: Folder>(
     })
 }
 
-// What the changes of games are made with: a board and a list with room for the greatest board. A
-// batch makes them once.
-#[derive(Drop)]
-struct Follower {
-    board: Board,
-    changes: ChangeList,
-}
-
-impl Follower {
-    fn new() -> Self {
-        Follower {
-            board: Board::empty(Shape::standard()),
-            changes: ChangeList::new(),
-        }
-    }
-
-    // What each node of a tree changes.
-    fn deltas(&mut self, alloc: Global, tree: &GameTree) -> Result<NodeDeltas, NoMemory>
-        ensures { IfOk result (AreNodeChanges tree.now) }
-    {
-        deltas_with(alloc, tree, &mut self.board, &mut self.changes)
-    }
-}
-
-// Imports one file after others, and adds what became of it, and its games to those of its batch.
-fn import_next<F: Folder>(
+// Imports some files after others: reads them one after another, then tells what they are side by
+// side, and then judges them one after another. Adds their lines and games to those of the batch.
+fn import_some<R: Threads + Sync, F: Folder>(
+    rt: &R,
     alloc: Global,
     folder: &mut F,
     path: &str,
-    name: &str,
-    follower: &mut Follower,
+    names: &[String],
     counts: &mut Counts,
     lines: &mut Vec<FileLine>,
     games: &mut SegmentBuilder,
 ) -> Result<(), NoMemory>
     requires { length games.old ≤ counts.old.games }
-    ensures imported { OnOk result (IsOneMoreFile (F.files folder.old) path.now name.now counts.old
-        (F.faults folder.old) (F.faults folder.new) (line_reports lines.old.items)
-        (line_reports lines.new.items) games.old games.new) }
-    ensures added { OnOk result (AddsGames counts.old counts.new games.old games.new) }
+    ensures imported { OnOk result (AreMoreFiles (F.files folder.old) path.now
+        (map string_bytes names.now) counts.old counts.new (F.faults folder.old)
+        (F.faults folder.new) (line_reports lines.old.items) (line_reports lines.new.items)
+        games.old games.new) }
     ensures same { F.files folder.new ≡ F.files folder.old }
     ensures later { F.faults folder.old ≤ F.faults folder.new }
 {
-    let own_name = Text::new(String::from_str(alloc, name)?);
-    let (outcome, trees) = import_one(alloc, folder, path, name, *counts)?;
-    *counts = with_added(*counts, outcome, &trees);
-    add_games(alloc, follower, name, trees, games)?;
-    lines.push(FileLine {
-        name: own_name,
-        outcome,
-    })?;
-    Ok(())
-}
-
-// Adds the trees of a file of this name, each with its place in the file and what is kept beside it.
-// They share the name.
-fn add_games(
-    alloc: Global,
-    follower: &mut Follower,
-    name: &str,
-    trees: Vec<GameTree>,
-    games: &mut SegmentBuilder,
-) -> Result<(), NoMemory>
-    requires { trees.items ≡ [] ⊎ (length games.old + length trees.items ≤ 400000) }
-    ensures { OnOk result (games.new ≡ games.old ++ games_from name.now 0 trees.items) }
-{
-    let file = ArcStr::from_str(alloc, name)?;
-    let mut place = 0;
-    for tree in trees {
-        let deltas = follower.deltas(alloc, &tree)?;
-        let game = FinishedGame::new(alloc, file.clone()?, place, tree, deltas)?;
-        games.add_finished(alloc, game)?;
-        place += 1;
-    }
+    let texts = read_all(alloc, folder, path, names)?;
+    let files = found_files(rt, alloc, texts)?;
+    judge_all(alloc, files, counts, lines, games)?;
     Ok(())
 }

@@ -8,8 +8,12 @@
 #![tactic(auto)]
 
 mod batch;
+mod found;
+mod judge;
 mod one_file;
 mod outcome;
+mod pieces;
+mod read;
 
 pub use batch::{Batch, FileLine, FileLines, import_batch};
 pub use one_file::import_one;

@@ -1,8 +1,9 @@
 // What becomes of a file by its bytes.
-ghost use Rattle.std.specs.Prelude.{◌≡◌, ◌<◌, [], IfOk, length};
-ghost use Rattle.import_work.specs.declared.outcome.FileOutcome.TheVariants.{Refused};
-ghost use Rattle.import_work.specs.Outcome.{HasRoom, IsOutcome, nodes_of, with_games};
-ghost use Rattle.import_work.specs.Rooms.{IsAdded, IsAddedBy};
+ghost use Rattle.std.specs.Prelude.{◌≡◌, ◌<◌, IfOk, length};
+ghost use Rattle.import_work.specs.declared.outcome.Parsed.TheVariants.{Refused};
+ghost use Rattle.import_work.specs.Parsed.{IsParsed};
+ghost use Rattle.import_work.specs.Outcome.{IsOutcome, nodes_of};
+ghost use Rattle.import_work.specs.Rooms.{IsAddedBy};
 
 use game_tree::{BuildError, GameTree, build};
 use kb_geometry::NoMemory;
@@ -33,6 +34,15 @@ pub enum FileOutcome {
     Unread,
 }
 
+// What a text is: faulty, or games.
+#[derive(Debug, Drop)]
+pub(crate) enum Parsed {
+    // Its first fault, at this byte offset.
+    Refused { kind: FaultKind, at: u32 },
+    // Its games, in order.
+    Games(Vec<GameTree>),
+}
+
 // What becomes of a file with these bytes, and the games that it adds.
 pub(crate) fn outcome_of(
     alloc: Global,
@@ -41,26 +51,38 @@ pub(crate) fn outcome_of(
 ) -> Result<(FileOutcome, Vec<GameTree>), NoMemory>
     ensures { IfOk result (λ r. IsOutcome bytes.now before r.0 r.1.items) }
 {
-    let collection = match read(alloc, bytes) {
-        Ok(collection) => collection,
-        Err(ReadError::Fault(fault)) => return Ok(refused(alloc, fault)),
-        Err(ReadError::NoMemory) => return Err(NoMemory),
-    };
-    let trees = match build(alloc, bytes, &collection) {
-        Ok(trees) => trees,
-        Err(BuildError::Fault(fault)) => return Ok(refused(alloc, fault)),
-        Err(BuildError::NoMemory) => return Err(NoMemory),
-    };
-    Ok(in_room(alloc, trees, before))
+    match parse(alloc, bytes) {
+        Ok(Parsed::Refused { kind, at }) => Ok((
+            FileOutcome::Refused { kind, at },
+            Vec::new(alloc),
+        )),
+        Ok(Parsed::Games(trees)) => Ok(in_room(alloc, trees, before)),
+        Err(error) => Err(error),
+    }
 }
 
-// What becomes of a file with this fault: it adds no game.
-fn refused(alloc: Global, fault: SgfFault) -> (FileOutcome, Vec<GameTree>)
-    ensures outcome { result.0 ≡ Refused fault.kind fault.at }
-    ensures none { result.1.items ≡ [] }
+// What a text is.
+pub(crate) fn parse(alloc: Global, bytes: &[u8]) -> Result<Parsed, NoMemory>
+    ensures { IfOk result (IsParsed bytes.now) }
+{
+    let collection = match read(alloc, bytes) {
+        Ok(collection) => collection,
+        Err(ReadError::Fault(fault)) => return Ok(refused(fault)),
+        Err(ReadError::NoMemory) => return Err(NoMemory),
+    };
+    match build(alloc, bytes, &collection) {
+        Ok(trees) => Ok(Parsed::Games(trees)),
+        Err(BuildError::Fault(fault)) => Ok(refused(fault)),
+        Err(BuildError::NoMemory) => Err(NoMemory),
+    }
+}
+
+// A text with this fault.
+fn refused(fault: SgfFault) -> Parsed
+    ensures { result ≡ Refused fault.kind fault.at }
 {
     let SgfFault { kind, at } = fault;
-    (FileOutcome::Refused { kind, at }, Vec::new(alloc))
+    Parsed::Refused { kind, at }
 }
 
 // These games, where there is room for them.
@@ -88,33 +110,4 @@ fn nodes_of(trees: &[GameTree]) -> u64
         nodes += u64::from(tree.node_count());
     }
     nodes
-}
-
-// The counts of a base with the games more that a file with this outcome adds.
-pub(crate) fn with_added(before: Counts, outcome: FileOutcome, games: &[GameTree]) -> Counts
-    requires { IsAdded before outcome games.now }
-    ensures { result ≡ with_games before games.now }
-{
-    match outcome {
-        FileOutcome::Accepted { games: _count } => with_games(before, games),
-        FileOutcome::Refused {
-            kind: _kind,
-            at: _at,
-        } => before,
-        FileOutcome::Full {
-            games: _games,
-            nodes: _nodes,
-        } => before,
-        FileOutcome::Unread => before,
-    }
-}
-
-// The counts of a base with these games more.
-fn with_games(before: Counts, trees: &[GameTree]) -> Counts
-    requires { HasRoom before trees.now }
-    ensures { result ≡ with_games before trees.now }
-{
-    let games = before.games + trees.len() as u32;
-    let nodes = before.nodes + nodes_of(trees) as u32;
-    Counts { games, nodes }
 }

@@ -1,24 +1,14 @@
-use Rattle.std.proofs.Common.{Err, ap, arith, inl, inr}
-use Rattle.import_work.specs.Outcome.{HaveGames, refused}
-use Rattle.import_work.proofs.RoomLemmas.{IsOutcome-in_room, few_trees}
+use Rattle.std.proofs.Common.{◌≤◌, length}
+use Rattle.import_work.specs.Outcome.{HaveGames, IsFaulty, refused}
+use Rattle.import_work.proofs.RoomLemmas.{IsOutcome-in_room}
 use Rattle.import_work.proofs.outcome.outcome_of.Goals as goal
 
-pub returns-in-Err-Fault : goal.returns-in-Err-Fault
-returns-in-Err-Fault c =
-    let first = c.in-Err-Fault.ensures.fault c.in-Err-Fault.fault (ap Err c.in-Err-Fault.field-0-is) in
-    rw (c.refused.ensures.outcome, c.refused.ensures.none, c.in-Err-Fault.field-0-is) (refused (inl first))
+pub returns-in-Ok-Refused : goal.returns-in-Ok-Refused
+returns-in-Ok-Refused c =
+    let faulty : IsFaulty c.args.bytes.now c.in-Ok-Refused.kind c.in-Ok-Refused.at = rw c.in-Ok-Refused.field-0-is at c.in-Ok-Refused.ensures in
+    rw (c.new.ensures.items) (refused faulty)
 
-pub returns-in-Err-Fault-build : goal.returns-in-Err-Fault-build
-returns-in-Err-Fault-build c =
-    let first = c.in-Err-Fault-build.ensures.fault c.in-Err-Fault-build.fault (ap Err c.in-Err-Fault-build.field-0-is) in
-    rw (c.refused-in-Err-Fault-build.ensures.outcome, c.refused-in-Err-Fault-build.ensures.none, c.in-Err-Fault-build.field-0-is) (refused (inr (c.in-Ok.collection, c.in-Ok.ensures.ok, first)))
-
-pub in_room-requires : goal.in_room-requires
-in_room-requires c =
-    let few = few_trees c.args.bytes.now c.in-Ok.collection c.in-Ok-build.trees.items c.in-Ok.ensures.ok c.in-Ok-build.ensures.ok in
-    omega (arith, few)
-
-pub returns : goal.returns
-returns c =
-    let have : HaveGames c.args.bytes.now c.in-Ok-build.trees.items = (c.in-Ok.collection, c.in-Ok.ensures.ok, c.in-Ok-build.ensures.no_fault, c.in-Ok-build.ensures.ok) in
-    IsOutcome-in_room c.args.bytes.now c.args.before c.in-Ok-build.trees.items c.in_room.result.0 c.in_room.result.1.items have c.in_room.ensures
+pub returns-in-Ok-Games : goal.returns-in-Ok-Games
+returns-in-Ok-Games c =
+    let told : HaveGames c.args.bytes.now c.in-Ok-Games.trees.items × (length c.in-Ok-Games.trees.items ≤ 65536) = rw c.in-Ok-Games.field-0-is at c.in-Ok-Games.ensures in
+    IsOutcome-in_room c.args.bytes.now c.args.before c.in-Ok-Games.trees.items c.in_room.result.0 c.in_room.result.1.items told.0 c.in_room.ensures
