@@ -27,6 +27,7 @@ ghost use Rattle.segment_store.specs.Finished.{
   HadCornerNumber,
   IsCanonicalOf,
 };
+ghost use Rattle.segment_store.specs.CornersOfGames.{AreCornersOfGames};
 ghost use Rattle.segment_store.specs.Blocks.{AreNumbered, games_in};
 
 use crate::block::NumberedBlock;
@@ -53,8 +54,9 @@ pub const MAX_BASE_GAMES: u32 = 400_000;
 #[derive(Debug, Drop)]
 pub struct Segment {
     blocks: BlockList,
-    // Which of the games had which number in which corner.
-    corner_index: CornerIndex,
+    // Which of the games had which number in which corner. Behind a pointer a segment is dropped in
+    // few steps, of which proofs go through each.
+    corner_index: Arc<CornerIndex>,
 }
 
 impl Model for Segment {
@@ -66,7 +68,9 @@ impl Model for Segment {
 
     ghost view = { λ s. s.blocks };
 
-    ghost invariant = { λ s. AreCornersOfGames s.blocks s.corner_index };
+    ghost use Rattle.std.specs.Arc.{arc_value};
+
+    ghost invariant = { λ s. AreCornersOfGames s.blocks (arc_value s.corner_index) };
 }
 
 impl Segment {
@@ -76,11 +80,19 @@ impl Segment {
         ensures { IfOk result (λ segment. segment ≡ map arc_value games.now) }
     {
         let blocks = in_blocks(alloc, games)?;
-        let corner_index = corner_index_of(alloc, games)?;
+        let index = corner_index_of(alloc, games)?;
+        let corner_index = Arc::new(alloc, index)?;
         Ok(Segment {
             blocks,
             corner_index,
         })
+    }
+
+    // Which of the games had which number in which corner.
+    fn corner_index(&self) -> &CornerIndex
+        ensures { AreCornersOfGames self.now result.now }
+    {
+        &*self.corner_index
     }
 
     /// Its blocks, one behind another. Each has the number of its first game.
@@ -175,7 +187,7 @@ impl Segment {
             ↔ IsSomeAnd (slice_get self.now g) (λ game. HadCornerNumber game corner key) }
         ensures ascending { IsStrictlyIncreasing result.now }
     {
-        self.corner_index.games_with(corner, key)
+        self.corner_index().games_with(corner, key)
     }
 
     /// The day of a game, as [`day_of`](info_filter::day_of) gives it for its date.
@@ -214,7 +226,8 @@ pub fn merge(alloc: Global, a: &Segment, b: &Segment) -> Result<Segment, NoMemor
 {
     let blocks = merged(alloc, &a.blocks, &b.blocks)?;
     let first = a.blocks.game_count();
-    let corner_index = CornerIndex::join(alloc, &a.corner_index, &b.corner_index, first)?;
+    let index = CornerIndex::join(alloc, a.corner_index(), b.corner_index(), first)?;
+    let corner_index = Arc::new(alloc, index)?;
     Ok(Segment {
         blocks,
         corner_index,
