@@ -2,10 +2,12 @@
 use Rattle.std.specs.Prelude.{◌≡◌, ◌⊎◌, ◌&&◌, ◌↔◌, ℕ, ◌+◌, ◌<◌, ◌++◌, ◌∷◌, [], Bool, IsTrue, false, List, Option, slice_index, slice_index_or}
 use Rattle.std.specs.Int.{bit_at}
 use Rattle.kb_geometry.specs.declared.stone.Cell.{Cell}
+use Rattle.kb_geometry.specs.declared.stone.Cell.TheVariants as cell
+use Rattle.kb_geometry.specs.Board.{point_count}
 use Rattle.capture_index.specs.declared.stretch.Want.{Want}
 use Rattle.capture_index.specs.Stretches.{is_wanted, no_want}
 use Rattle.final_index.specs.declared.ever_sets.EverSets.{EverSets}
-use Rattle.final_index.specs.Planes.{HadThere}
+use Rattle.final_index.specs.Planes.{HadThere, PlaneGames}
 use Rattle.candidate_sieve.specs.declared.candidates.Candidate.{Candidate}
 
 -- the want asks nothing: it is one of all cells
@@ -28,6 +30,24 @@ abbrev pub HaveEach : List (Option EverSets) → ℕ → List Want → ℕ → �
 HaveEach games base wants there count word =
     (g : ℕ) → g < 64 → (bit_at word g ≡ 1) ↔ ((bit_at there g ≡ 1)
     × HadEach games base wants count g)
+
+-- so for those of the first so many wants that allow an empty point, or for the others
+abbrev pub HadEachOfKind : List (Option EverSets) → ℕ → List Want → Bool → ℕ → ℕ → Type 0
+HadEachOfKind games base wants empty count g = (k : ℕ) → k < count →
+    (slice_index_or wants k no_want).empty ≡ empty →
+    HadWanted games g (slice_index_or wants k no_want)
+    (base + (slice_index_or wants k no_want).offset)
+
+-- the games of the word are those of another that had these
+abbrev pub HaveEachOfKind : List (Option EverSets) → ℕ → List Want → Bool → ℕ → ℕ → ℕ → Type 0
+HaveEachOfKind games base wants empty there count word =
+    (g : ℕ) → g < 64 → (bit_at word g ≡ 1) ↔ ((bit_at there g ≡ 1)
+    × HadEachOfKind games base wants empty count g)
+
+-- in the games of the word each point of the board was empty at some node
+abbrev pub AreBare : PlaneGames → ℕ → Type 0
+AreBare planes bare = (g p : ℕ) → g < 64 → bit_at bare g ≡ 1 → p < point_count planes.shape →
+    HadThere planes.games g cell.Empty p
 
 -- the list has gained a candidate with these games, if there is one
 abbrev pub IsAddedFor : ℕ → ℕ → List Candidate → List Candidate → Type 0

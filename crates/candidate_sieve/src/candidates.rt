@@ -3,7 +3,7 @@ ghost use Rattle.std.specs.Prelude.{◌≡◌, ◌+◌, ◌<◌, ◌≤◌, ◌�
 ghost use Rattle.std.specs.Int.{bit_at};
 ghost use Rattle.kb_geometry.specs.Board.{point_count};
 ghost use Rattle.capture_index.specs.declared.stretch.Want.{Want};
-ghost use Rattle.candidate_sieve.specs.BlockGames.{AreAddedFor, HadWanted, HaveEach, IsAddedFor};
+ghost use Rattle.candidate_sieve.specs.BlockGames.{AreAddedFor, AreBare, HadWanted, HaveEach, HaveEachOfKind, IsAddedFor};
 ghost use Rattle.candidate_sieve.specs.Candidates.{AreCandidatesAdded};
 
 use crate::placement_rows::{PlacementRow, PlacementRows};
@@ -41,9 +41,10 @@ pub fn add_candidates(
         found.old.items found.new.items) }
 {
     let there = asked & planes.present();
+    let bare = planes.always_empty();
     let _count = rows.images.len();
     for row in &rows.rows {
-        fill_room(planes, *row, wants.of_class(row.class), there, room)?;
+        fill_room(planes, bare, *row, wants.of_class(row.class), there, room)?;
         let numbers = &rows.numbers[row.start..row.start + row.count];
         add_row(numbers, room, found)?;
     }
@@ -51,42 +52,76 @@ pub fn add_candidates(
 }
 
 // Fills the room with a word for each placement of a row: the games of those that are there which
-// may have it.
+// may have it. In the bare games each point was empty at some node.
 fn fill_room(
     planes: &Planes,
+    bare: u64,
     row: PlacementRow,
     wants: &[Want],
     there: u64,
     room: &mut Vec<u64>,
 ) -> Result<(), NoMemory>
-    requires { All (λ (w : Want). row.base + w.offset + row.count ≤ point_count planes.now.shape)
-        wants.now }
+    requires bare { AreBare planes.now bare }
+    requires on_board { All (λ (w : Want). row.base + w.offset + row.count
+        ≤ point_count planes.now.shape) wants.now }
     ensures count { OnOk result (length room.new.items ≡ row.count) }
     ensures games { OnOk result ((k : ℕ) → k < row.count → HaveEach planes.now.games (row.base + k)
         wants.now there (length wants.now) (slice_index room.new.items k)) }
 {
     room.clear();
     room.resize(row.count, there)?;
-    keep_wanted(planes, row.base, wants, room);
+    keep_wanted(planes, bare, row.base, wants, room);
     Ok(())
 }
 
 // Keeps in each word the games that had, for each want, a cell that it allows on its point, which
-// stands behind the base for the first word, behind the next point for the next, and so on. Where no
-// game is left in any word, the other wants aren't looked at.
-fn keep_wanted(planes: &Planes, base: u16, wants: &[Want], words: &mut [u64])
-    requires { All (λ (w : Want). base + w.offset + length words.old ≤ point_count planes.now.shape)
-        wants.now }
+// stands behind the base for the first word, behind the next point for the next, and so on. Most
+// games are bare, and then wants that allow an empty point ask nothing.
+fn keep_wanted(planes: &Planes, bare: u64, base: u16, wants: &[Want], words: &mut [u64])
+    requires bare { AreBare planes.now bare }
+    requires on_board { All (λ (w : Want). base + w.offset + length words.old
+        ≤ point_count planes.now.shape) wants.now }
     ensures count { length words.new ≡ length words.old }
     ensures kept { (k : ℕ) → k < length words.old → HaveEach planes.now.games (base + k) wants.now
         (slice_index words.old k) (length wants.now) (slice_index words.new k) }
 {
+    keep_of_kind(planes, base, wants, false, words);
+    if have_none_but(words, bare) {
+        return;
+    }
+    keep_of_kind(planes, base, wants, true, words);
+}
+
+// Keeps in each word the games that had a cell which is allowed, for each want that allows an empty
+// point, or for each other one. Where no game is left in any word, the rest isn't looked at.
+fn keep_of_kind(planes: &Planes, base: u16, wants: &[Want], empty: bool, words: &mut [u64])
+    requires { All (λ (w : Want). base + w.offset + length words.old ≤ point_count planes.now.shape)
+        wants.now }
+    ensures count { length words.new ≡ length words.old }
+    ensures kept { (k : ℕ) → k < length words.old → HaveEachOfKind planes.now.games (base + k)
+        wants.now empty (slice_index words.old k) (length wants.now) (slice_index words.new k) }
+{
     for want in wants {
-        keep_want(planes, *want, base + want.offset, words);
-        if are_empty(words) {
-            return;
+        if want.empty == empty {
+            keep_want(planes, *want, base + want.offset, words);
+            if are_empty(words) {
+                return;
+            }
         }
     }
+}
+
+// Whether the words have no games but these.
+fn have_none_but(words: &[u64], games: u64) -> bool
+    ensures { IsTrue result → (k g : ℕ) → k < length words.now →
+        bit_at (slice_index words.now k) g ≡ 1 → bit_at games g ≡ 1 }
+{
+    for k in 0..words.len() {
+        if words[k] & games != words[k] {
+            return false;
+        }
+    }
+    true
 }
 
 // Whether no game is left in any of the words.

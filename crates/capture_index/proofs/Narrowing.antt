@@ -24,7 +24,7 @@ pub time-read : (index : PackedRuns) (p i : ℕ) (time : Time) → i ≡ p → p
 time-read index p i time e lt read = get_or_read index.times.items p time (omega (arith, index.points)) (read ∙ ap (λ (k : ℕ). get_or index.times.items k time) e) _
 
 -- the cell of a point with a word, and of one with a list
-packed_cell-word : (index : PackedRuns) (p n : ℕ) → is_many (time_at index p) ≡ false → packed_cell index p n ≡ cell_by (run_of_word (time_at index p) ∷ []) n
+pub packed_cell-word : (index : PackedRuns) (p n : ℕ) → is_many (time_at index p) ≡ false → packed_cell index p n ≡ cell_by (run_of_word (time_at index p) ∷ []) n
 packed_cell-word index p n few = ap (λ (b : Bool). cell_by (cond b (list_in index.ends.items index.runs.items ((time_at index p).word - MANY)) (run_of_word (time_at index p) ∷ [])) n) few
 
 packed_cell-list : (index : PackedRuns) (p n : ℕ) → is_many (time_at index p) ≡ true → packed_cell index p n ≡ cell_by (list_in index.ends.items index.runs.items ((time_at index p).word - MANY)) n

@@ -49,6 +49,11 @@ abbrev pub runs_of : List ℕ → List Run → Time → List Run
 runs_of ends runs time =
     if is_many time then list_in ends runs (time.word - MANY) else run_of_word time ∷ []
 
+-- the want is met at a node by a point with this word, unless it has a list
+abbrev pub IsWantedByWord : Time → Want → ℕ → Type 0
+IsWantedByWord time want n = is_many time ≡ false →
+    IsTrue (is_wanted want (cell_by (run_of_word time ∷ []) n))
+
 -- the stretch with one want more, if the word of its point tells
 pub record IsNarrowed (before : Bounds) (time : Time) (want : Want) (nodes : ℕ) (after : Bounds) :
     Type 0 where

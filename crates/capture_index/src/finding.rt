@@ -29,6 +29,9 @@ impl PackedRuns {
         ensures apart { OnOk result (AreApart 0 self.now.nodes found.new.items) }
     {
         found.clear();
+        if self.are_never_met(base, wants) {
+            return Ok(());
+        }
         let bounds = self.bounds(base, wants);
         if bounds.from >= bounds.to {
             return Ok(());
@@ -80,7 +83,7 @@ impl PackedRuns {
     }
 
     // The word of the point so far behind base.
-    fn time_of(&self, base: u16, offset: u16) -> Time
+    pub(crate) fn time_of(&self, base: u16, offset: u16) -> Time
         requires { base + offset < point_count self.now.shape }
         ensures { result ≡ time_at self.now (base + offset) }
     {

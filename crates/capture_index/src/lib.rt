@@ -11,6 +11,7 @@ mod cutting;
 mod finding;
 mod growing;
 mod laws;
+mod never_met;
 mod node_cells;
 mod nodes_where;
 mod packed_runs;

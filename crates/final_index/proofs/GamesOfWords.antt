@@ -16,7 +16,7 @@ use Rattle.kb_bits.proofs.Ascending.{same_from_members}
 use Rattle.final_index.specs.declared.ever_sets.EverSets.{EverSets}
 use Rattle.final_index.specs.Ever.{set_of}
 use Rattle.final_index.specs.Planes.{HadThere, PlaneGames}
-use Rattle.final_index.specs.PlaneWords.{AreJoined, ArePlaneWords, AreSetsNoted, IsJoined, bit_in, code_of, game_in, games_in, points_with}
+use Rattle.final_index.specs.PlaneWords.{AreJoined, ArePlaneWords, AreSetsNoted, IsJoined, bit_in, start_of, game_in, games_in, points_with}
 
 -- each of the words is 0
 zero_words : (n k : ℕ) → slice_index (replicate n 0) k ≡ 0
@@ -25,18 +25,18 @@ zero_words n k = elim (cases_lt k n) [ inl lt ↦ get_or-replicate n k 0 0 lt | 
 -- ---- the points of a game
 
 module _ (points : ℕ) (words : List ℕ) (g : ℕ) (stone : Cell) where
-  pub Contains-points_with : (p : ℕ) → Contains (points_with points words g stone) p ↔ ((p < points) × (bit_in words g stone p ≡ 1))
+  pub Contains-points_with : (p : ℕ) → Contains (points_with points words g stone) p ↔ ((p < points) × (bit_in points words g stone p ≡ 1))
   unfolding points_with
   Contains-points_with p = (
-    λ h. let k = Contains-from_numbers_below points (λ p. nat_eq (bit_in words g stone p) 1) p h in (k.0, eqb-true (bit_in words g stone p) 1 k.1),
-    λ h. Contains-numbers_below points (λ p. nat_eq (bit_in words g stone p) 1) p h.0 (eq-eqb (bit_in words g stone p) 1 h.1),
+    λ h. let k = Contains-from_numbers_below points (λ p. nat_eq (bit_in points words g stone p) 1) p h in (k.0, eqb-true (bit_in points words g stone p) 1 k.1),
+    λ h. Contains-numbers_below points (λ p. nat_eq (bit_in points words g stone p) 1) p h.0 (eq-eqb (bit_in points words g stone p) 1 h.1),
   )
 
   IsStrictlyIncreasing-points_with : IsStrictlyIncreasing (points_with points words g stone)
   unfolding points_with
-  IsStrictlyIncreasing-points_with = IsStrictlyIncreasing-numbers_below points (λ p. nat_eq (bit_in words g stone p) 1)
+  IsStrictlyIncreasing-points_with = IsStrictlyIncreasing-numbers_below points (λ p. nat_eq (bit_in points words g stone p) 1)
 
-  points_with-is : (xs : List ℕ) → IsStrictlyIncreasing xs → ((p : ℕ) → Contains xs p ↔ ((p < points) × (bit_in words g stone p ≡ 1))) → points_with points words g stone ≡ xs
+  points_with-is : (xs : List ℕ) → IsStrictlyIncreasing xs → ((p : ℕ) → Contains xs p ↔ ((p < points) × (bit_in points words g stone p ≡ 1))) → points_with points words g stone ≡ xs
   points_with-is xs up same = same_from_members (points_with points words g stone) xs IsStrictlyIncreasing-points_with up
       (λ p. let here = Contains-points_with p in (λ h. (same p).1 (here.0 h), λ h. here.1 ((same p).0 h)))
 
@@ -73,16 +73,16 @@ module _ (points present : ℕ) (words : List ℕ) (g : ℕ) where
 
   -- the game with these sets
   game_in-is : bit_at present g ≡ 1 → (sets : EverSets) → ((stone : Cell) → IsStrictlyIncreasing (set_of sets stone)) →
-      ((stone : Cell) (p : ℕ) → Contains (set_of sets stone) p ↔ ((p < points) × (bit_in words g stone p ≡ 1))) → game_in points present words g ≡ Some sets
+      ((stone : Cell) (p : ℕ) → Contains (set_of sets stone) p ↔ ((p < points) × (bit_in points words g stone p ≡ 1))) → game_in points present words g ≡ Some sets
   game_in-is e sets up same = game_in-present e ∙ ap (λ (s : EverSets). Some s)
       (same_sets (sets_in points words g) sets (λ stone. set_of-sets_in points words g stone ∙ points_with-is points words g stone (set_of sets stone) (up stone) (same stone)))
 
   -- what is told of the game by its bits
   module _ (there : (k : ℕ) → bit_at (slice_index words k) g ≡ 1 → bit_at present g ≡ 1) (stone : Cell) (p : ℕ) (lt : p < points) where
-    pub told_by_bit : (bit_in words g stone p ≡ 1) ↔ IsSomeAnd (game_in points present words g) (λ sets. Contains (set_of sets stone) p)
+    pub told_by_bit : (bit_in points words g stone p ≡ 1) ↔ IsSomeAnd (game_in points present words g) (λ sets. Contains (set_of sets stone) p)
     told_by_bit = (
       λ one.
-          let is = game_in-present (there (3 * p + code_of stone) one) in
+          let is = game_in-present (there (start_of points stone + p) one) in
           let inside = (Contains-points_with points words g stone p).1 (lt, one) in
           subst (λ (game : Option EverSets). IsSomeAnd game (λ sets. Contains (set_of sets stone) p)) (sym is) (subst (λ (ns : List ℕ). Contains ns p) (sym (set_of-sets_in points words g stone)) inside),
       λ h. elim (cases_eq (bit_at present g) 1) [
@@ -95,13 +95,13 @@ module _ (points present : ℕ) (words : List ℕ) (g : ℕ) where
 
 -- games with the same bits are the same
 module _ (points present : ℕ) (words : List ℕ) (g : ℕ) (present' : ℕ) (words' : List ℕ) (g' : ℕ) where
-  game_in-same : (bit_at present g ≡ 1) ↔ (bit_at present' g' ≡ 1) → ((stone : Cell) (p : ℕ) → (bit_in words g stone p ≡ 1) ↔ (bit_in words' g' stone p ≡ 1)) →
+  game_in-same : (bit_at present g ≡ 1) ↔ (bit_at present' g' ≡ 1) → ((stone : Cell) (p : ℕ) → (bit_in points words g stone p ≡ 1) ↔ (bit_in points words' g' stone p ≡ 1)) →
       game_in points present words g ≡ game_in points present' words' g'
   game_in-same same bits =
       elim (cases_eq (bit_at present g) 1) [
         | inl e ↦ game_in-is points present words g e (sets_in points words' g')
             (λ stone. subst IsStrictlyIncreasing (sym (set_of-sets_in points words' g' stone)) (IsStrictlyIncreasing-points_with points words' g' stone))
-            (λ stone p. subst (λ (ns : List ℕ). Contains ns p ↔ ((p < points) × (bit_in words g stone p ≡ 1))) (sym (set_of-sets_in points words' g' stone))
+            (λ stone p. subst (λ (ns : List ℕ). Contains ns p ↔ ((p < points) × (bit_in points words g stone p ≡ 1))) (sym (set_of-sets_in points words' g' stone))
             (let there = Contains-points_with points words' g' stone p in (
               λ h. ((there.0 h).0, (bits stone p).1 (there.0 h).1),
               λ h. there.1 (h.0, (bits stone p).0 h.1),
@@ -173,23 +173,23 @@ module _ (points count : ℕ) (few : count ≤ 64) (words : List ℕ) (none : wo
 
 module _ (points count present : ℕ) (words : List ℕ) (are : ArePlaneWords points count present words) where
   -- the bit of a game in a word tells whether it had the cell
-  pub HadThere-bits : (g : ℕ) (stone : Cell) (p : ℕ) → p < points → (bit_in words g stone p ≡ 1) ↔ HadThere (games_in points present words count) g stone p
+  pub HadThere-bits : (g : ℕ) (stone : Cell) (p : ℕ) → p < points → (bit_in points words g stone p ≡ 1) ↔ HadThere (games_in points present words count) g stone p
   HadThere-bits g stone p lt =
       elim (cases_lt g count) [
-        | inl below ↦ subst (λ (game : Option EverSets). (bit_in words g stone p ≡ 1) ↔ IsSomeAnd game (λ sets. Contains (set_of sets stone) p)) (sym (games_in-at points present words count g None below))
+        | inl below ↦ subst (λ (game : Option EverSets). (bit_in points words g stone p ≡ 1) ↔ IsSomeAnd game (λ sets. Contains (set_of sets stone) p)) (sym (games_in-at points present words count g None below))
             (told_by_bit points present words g (λ k. are.there k g) stone p lt)
         | inr past ↦
             let nothing = get_or_past (games_in points present words count) g None (omega (arith, length-games_in points present words count)) in (
-              λ one. absurd (omega (arith, are.counted g (are.there (3 * p + code_of stone) g one))),
+              λ one. absurd (omega (arith, are.counted g (are.there (start_of points stone + p) g one))),
               λ h. absurd (subst (λ (game : Option EverSets). IsSomeAnd game (λ sets. Contains (set_of sets stone) p)) nothing h),
             )
       ]
 
   pub HadThere-seen : (shape : Shape) (now : PlaneGames) → ◌≡◌ {A = PlaneGames} (record { shape = shape; games = games_in points present words count }) now → (g : ℕ) (stone : Cell) (p : ℕ) → p < points →
-      (word : ℕ) → slice_index words (3 * p + code_of stone) ≡ word → (bit_at word g ≡ 1) ↔ HadThere now.games g stone p
+      (word : ℕ) → slice_index words (start_of points stone + p) ≡ word → (bit_at word g ≡ 1) ↔ HadThere now.games g stone p
   HadThere-seen shape now seen g stone p lt word is =
       subst (λ (w : ℕ). (bit_at w g ≡ 1) ↔ HadThere now.games g stone p) is
-      (subst (λ (v : PlaneGames). (bit_in words g stone p ≡ 1) ↔ HadThere v.games g stone p) seen (HadThere-bits g stone p lt))
+      (subst (λ (v : PlaneGames). (bit_in points words g stone p ≡ 1) ↔ HadThere v.games g stone p) seen (HadThere-bits g stone p lt))
 
   -- a game behind that isn't on such a board
   module _ (room : count < 64) where
@@ -246,29 +246,29 @@ module _ (points count present : ℕ) (words : List ℕ) (are : ArePlaneWords po
       earlier g lt = game_in-same points present words g present' words' g
           (let same = present-other g (λ e. omega arith) in (λ e. same ∙ e, λ e. sym same ∙ e))
           (λ stone p. (
-            λ e. (noted.bits (3 * p + code_of stone) g).1 (inl e),
-            λ e. elim ((noted.bits (3 * p + code_of stone) g).0 e) [ inl was ↦ was | inr now ↦ absurd (omega (arith, now.0)) ],
+            λ e. (noted.bits (start_of points stone + p) g).1 (inl e),
+            λ e. elim ((noted.bits (start_of points stone + p) g).0 e) [ inl was ↦ was | inr now ↦ absurd (omega (arith, now.0)) ],
           ))
 
-      same_place : (c d : Cell) (p q : ℕ) → 3 * p + code_of c ≡ 3 * q + code_of d → (c ≡ d) × (p ≡ q)
-      same_place cell.Empty cell.Empty p q e = (refl, omega arith)
-      same_place cell.Empty cell.Black p q e = absurd (omega arith)
-      same_place cell.Empty cell.White p q e = absurd (omega arith)
-      same_place cell.Black cell.Empty p q e = absurd (omega arith)
-      same_place cell.Black cell.Black p q e = (refl, omega arith)
-      same_place cell.Black cell.White p q e = absurd (omega arith)
-      same_place cell.White cell.Empty p q e = absurd (omega arith)
-      same_place cell.White cell.Black p q e = absurd (omega arith)
-      same_place cell.White cell.White p q e = (refl, omega arith)
+      same_place : (c d : Cell) (p q : ℕ) → p < points → q < points → start_of points c + p ≡ start_of points d + q → (c ≡ d) × (p ≡ q)
+      same_place cell.Empty cell.Empty p q one other e = (refl, omega arith)
+      same_place cell.Empty cell.Black p q one other e = absurd (omega arith)
+      same_place cell.Empty cell.White p q one other e = absurd (omega arith)
+      same_place cell.Black cell.Empty p q one other e = absurd (omega arith)
+      same_place cell.Black cell.Black p q one other e = (refl, omega arith)
+      same_place cell.Black cell.White p q one other e = absurd (omega arith)
+      same_place cell.White cell.Empty p q one other e = absurd (omega arith)
+      same_place cell.White cell.Black p q one other e = absurd (omega arith)
+      same_place cell.White cell.White p q one other e = (refl, omega arith)
 
       -- the bits of the new game are the points of its sets
-      added_bits : (stone : Cell) (p : ℕ) → Contains (set_of sets stone) p ↔ ((p < points) × (bit_in words' count stone p ≡ 1))
+      added_bits : (stone : Cell) (p : ℕ) → Contains (set_of sets stone) p ↔ ((p < points) × (bit_in points words' count stone p ≡ 1))
       added_bits stone p = (
-        λ h. let lt = on_board stone p h in (lt, (noted.bits (3 * p + code_of stone) count).1 (inr (refl, (stone, (p, lt, h, refl))))),
-        λ h. elim ((noted.bits (3 * p + code_of stone) count).0 h.1) [
-          | inl was ↦ absurd (omega (arith, are.counted count (are.there (3 * p + code_of stone) count was)))
+        λ h. let lt = on_board stone p h in (lt, (noted.bits (start_of points stone + p) count).1 (inr (refl, (stone, (p, lt, h, refl))))),
+        λ h. elim ((noted.bits (start_of points stone + p) count).0 h.1) [
+          | inl was ↦ absurd (omega (arith, are.counted count (are.there (start_of points stone + p) count was)))
           | inr now ↦
-              let place = same_place stone now.1.0 p now.1.1.0 now.1.1.3 in
+              let place = same_place stone now.1.0 p now.1.1.0 h.0 now.1.1.1 now.1.1.3 in
               subst₂ (λ (c : Cell) (q : ℕ). Contains (set_of sets c) q) (sym place.0) (sym place.1) now.1.1.2
         ],
       )
@@ -308,8 +308,8 @@ module _ (points count present : ℕ) (words : List ℕ) (are : ArePlaneWords po
   of_first g lt = game_in-same points present words g both words'' g
       (λ e. (joined g).1 (inl e), λ e. elim ((joined g).0 e) [ inl one ↦ one | inr at ↦ absurd (omega (arith, at.1)) ])
       (λ stone p. (
-        λ e. (all (3 * p + code_of stone) g).1 (inl e),
-        λ e. elim ((all (3 * p + code_of stone) g).0 e) [ inl one ↦ one | inr at ↦ absurd (omega (arith, at.1)) ],
+        λ e. (all (start_of points stone + p) g).1 (inl e),
+        λ e. elim ((all (start_of points stone + p) g).0 e) [ inl one ↦ one | inr at ↦ absurd (omega (arith, at.1)) ],
       ))
 
   module _ (g i : ℕ) (at : g ≡ i + count) where
@@ -330,7 +330,7 @@ module _ (points count present : ℕ) (words : List ℕ) (are : ArePlaneWords po
     of_second : game_in points present' words' i ≡ game_in points both words'' g
     of_second = game_in-same points present' words' i both words'' g
         (λ e. (joined g).1 (inr (i, at, e)), second_present)
-        (λ stone p. (λ e. (all (3 * p + code_of stone) g).1 (inr (i, at, e)), second_bit (3 * p + code_of stone)))
+        (λ stone p. (λ e. (all (start_of points stone + p) g).1 (inr (i, at, e)), second_bit (start_of points stone + p)))
 
   pub games_in-joined : games_in points both words'' (count + count') ≡ games_in points present words count ++ games_in points present' words' count'
   games_in-joined =

@@ -1,14 +1,10 @@
 -- The games that a word keeps where it is cut with other words.
-use Rattle.std.proofs.Common.{◌≡◌, ℕ, ◌+◌, ◌*◌, ◌<◌, ◌↔◌, ◌⊎◌, inl, inr, List, slice_index, bit_and, bit_or, sym, ap, ◌∙◌, arith}
+use Rattle.std.proofs.Common.{◌≡◌, ℕ, ◌<◌, ◌↔◌, ◌⊎◌, inl, inr, List, slice_index, bit_and, bit_or, sym, ap, ◌∙◌, subst, ◌+◌, ◌-◌, take, drop, arith}
 use Prim.Native.Nat.{min, max}
 use Rattle.std.specs.Int.{bit_at}
-use Rattle.std.proofs.lemmas.Bool.{cases_eq}
+use Rattle.std.proofs.lemmas.List.{get_or-drop, get_or-take}
+use Rattle.std.proofs.lemmas.Bool.{cases_eq, cases_lt}
 use Rattle.std.proofs.lemmas.Nat.Bits.{bit_at-lt, bit_at_and, bit_at_or}
-use Rattle.kb_geometry.specs.declared.shape.Shape.{Shape}
-use Rattle.kb_geometry.specs.declared.stone.Cell.{Cell}
-use Rattle.final_index.specs.Planes.{HadThere, PlaneGames}
-use Rattle.final_index.specs.PlaneWords.{ArePlaneWords, code_of, games_in}
-use Rattle.final_index.proofs.GamesOfWords.{HadThere-seen}
 
 pub or-bit : (a b g : ℕ) → (bit_at (bit_or a b) g ≡ 1) ↔ ((bit_at a g ≡ 1) ⊎ (bit_at b g ≡ 1))
 or-bit a b g =
@@ -26,27 +22,35 @@ and-bit a b g =
     let other = bit_at-lt b g in
     (λ e. (omega (arith, e, is, one, other), omega (arith, e, is, one, other)), λ h. omega (arith, is, h.0, h.1))
 
-module _ (points count present : ℕ) (words : List ℕ) (are : ArePlaneWords points count present words) (shape : Shape) (now : PlaneGames)
-    (seen : ◌≡◌ {A = PlaneGames} (record { shape = shape; games = games_in points present words count }) now) (before after p g : ℕ) (inside : p < points) where
-  -- where a word is cut with that of a cell on the point
-  pub kept-told : (stone : Cell) (at : ℕ) → at ≡ 3 * p + code_of stone → after ≡ bit_and before (slice_index words at) → (bit_at after g ≡ 1) ↔ ((bit_at before g ≡ 1) × HadThere now.games g stone p)
-  kept-told stone at is cut =
-      let had = HadThere-seen points count present words are shape now seen g stone p inside (slice_index words at) (ap (slice_index words) (sym is)) in
-      let both = and-bit before (slice_index words at) g in
-      let bits = ap (λ (w : ℕ). bit_at w g) cut in (
-        λ e. let h = both.0 (sym bits ∙ e) in (h.0, had.0 h.1),
-        λ h. bits ∙ both.1 (h.0, had.1 h.1),
-      )
+-- where a word is cut with one whose bits tell something
+pub kept-told : (before word after g : ℕ) (had : Type 0) → (bit_at word g ≡ 1) ↔ had → after ≡ bit_and before word → (bit_at after g ≡ 1) ↔ ((bit_at before g ≡ 1) × had)
+kept-told before word after g had told cut =
+    let both = and-bit before word g in
+    let bits = ap (λ (w : ℕ). bit_at w g) cut in (
+      λ e. let h = both.0 (sym bits ∙ e) in (h.0, told.0 h.1),
+      λ h. bits ∙ both.1 (h.0, told.1 h.1),
+    )
 
-  -- where it is cut with those of two cells joined
-  pub kept_either-told : (stone stone' : Cell) (at at' : ℕ) → at ≡ 3 * p + code_of stone → at' ≡ 3 * p + code_of stone' → after ≡ bit_and before (bit_or (slice_index words at) (slice_index words at')) →
-      (bit_at after g ≡ 1) ↔ ((bit_at before g ≡ 1) × (HadThere now.games g stone p ⊎ HadThere now.games g stone' p))
-  kept_either-told stone stone' at at' is is' cut =
-      let had = HadThere-seen points count present words are shape now seen g stone p inside (slice_index words at) (ap (slice_index words) (sym is)) in
-      let had' = HadThere-seen points count present words are shape now seen g stone' p inside (slice_index words at') (ap (slice_index words) (sym is')) in
-      let both = and-bit before (bit_or (slice_index words at) (slice_index words at')) g in
-      let one = or-bit (slice_index words at) (slice_index words at') g in
-      let bits = ap (λ (w : ℕ). bit_at w g) cut in (
-        λ e. let h = both.0 (sym bits ∙ e) in (h.0, elim (one.0 h.1) [ inl t ↦ inl (had.0 t) | inr t ↦ inr (had'.0 t) ]),
-        λ h. bits ∙ both.1 (h.0, one.1 (elim h.1 [ inl t ↦ inl (had.1 t) | inr t ↦ inr (had'.1 t) ])),
-      )
+-- where it is cut with two such words joined
+pub kept_either-told : (before word word' after g : ℕ) (had had' : Type 0) → (bit_at word g ≡ 1) ↔ had → (bit_at word' g ≡ 1) ↔ had' → after ≡ bit_and before (bit_or word word') →
+    (bit_at after g ≡ 1) ↔ ((bit_at before g ≡ 1) × (had ⊎ had'))
+kept_either-told before word word' after g had had' told told' cut =
+    let one = or-bit word word' g in
+    kept-told before (bit_or word word') after g (had ⊎ had')
+    (λ e. elim (one.0 e) [ inl t ↦ inl (told.0 t) | inr t ↦ inr (told'.0 t) ], λ h. one.1 (elim h [ inl t ↦ inl (told.1 t) | inr t ↦ inr (told'.1 t) ])) cut
+
+-- the bits of a word that are in one word more
+pub common-more : (word : ℕ) (plane : List ℕ) (n common : ℕ) → ((g : ℕ) → (bit_at common g ≡ 1) ↔ ((bit_at word g ≡ 1) × ((p : ℕ) → p < n → bit_at (slice_index plane p) g ≡ 1))) →
+    (g : ℕ) → (bit_at (bit_and common (slice_index plane n)) g ≡ 1) ↔ ((bit_at word g ≡ 1) × ((p : ℕ) → p < n + 1 → bit_at (slice_index plane p) g ≡ 1))
+common-more word plane n common so_far g =
+    let both = and-bit common (slice_index plane n) g in (
+      λ e.
+          let h = both.0 e in
+          let was = (so_far g).0 h.0 in
+          (was.0, λ p lt. elim (cases_lt p n) [ inl before ↦ was.1 p before | inr last ↦ let here : n ≡ p = omega (arith, lt, last) in subst (λ (q : ℕ). bit_at (slice_index plane q) g ≡ 1) here h.1 ]),
+      λ h. both.1 ((so_far g).1 (h.0, λ p lt. h.1 p (omega (arith, lt))), h.1 n (omega arith)),
+    )
+
+-- a word of the part of a list from a place on
+pub sliced-word : (xs : List ℕ) (start count p : ℕ) → p < count → slice_index (take (start + count - start) (drop start xs)) p ≡ slice_index xs (start + p)
+sliced-word xs start count p lt = get_or-take (start + count - start) (drop start xs) p 0 (omega (arith, lt)) ∙ get_or-drop start xs p 0

@@ -8,7 +8,7 @@ use Rattle.kb_geometry.specs.declared.stone.Cell.{Cell}
 use Rattle.kb_geometry.specs.declared.stone.Cell.TheVariants as cell
 use Rattle.final_index.specs.declared.ever_sets.EverSets.{EverSets}
 use Rattle.final_index.specs.Ever.{set_of}
-use Rattle.final_index.specs.PlaneWords.{AreNoted, AreSetsNoted, IsWordIn, code_of}
+use Rattle.final_index.specs.PlaneWords.{AreNoted, AreSetsNoted, IsWordIn, start_of}
 
 -- ---- one word is replaced
 
@@ -21,8 +21,8 @@ module _ (words : List ℕ) (k word : ℕ) (inside : k < length words) where
 
 -- ---- one set, point by point
 
-module _ (stone : Cell) (members : List ℕ) (g : ℕ) (before : List ℕ) where
-  pub AreNoted-start : AreNoted 0 stone members g before before
+module _ (points : ℕ) (stone : Cell) (members : List ℕ) (g : ℕ) (before : List ℕ) where
+  pub AreNoted-start : AreNoted points 0 stone members g before before
   AreNoted-start = record {
     room = refl;
     bits = λ k i. (
@@ -31,12 +31,12 @@ module _ (stone : Cell) (members : List ℕ) (g : ℕ) (before : List ℕ) where
     );
   }
 
-  module _ (p : ℕ) (words : List ℕ) (so_far : AreNoted p stone members g before words) where
-    more : (k : ℕ) → IsWordIn p stone members k → IsWordIn (p + 1) stone members k
+  module _ (p : ℕ) (words : List ℕ) (so_far : AreNoted points p stone members g before words) where
+    more : (k : ℕ) → IsWordIn points p stone members k → IsWordIn points (p + 1) stone members k
     more k at = (at.0, omega (arith, at.1), at.2, at.3)
 
     -- the point isn't in the set
-    pub AreNoted-skip : (Contains members p → ⊥) → AreNoted (p + 1) stone members g before words
+    pub AreNoted-skip : (Contains members p → ⊥) → AreNoted points (p + 1) stone members g before words
     AreNoted-skip none = record {
       room = so_far.room;
       bits = λ k i. (
@@ -54,11 +54,11 @@ module _ (stone : Cell) (members : List ℕ) (g : ℕ) (before : List ℕ) where
       );
     }
 
-    module _ (inside : Contains members p) (at : ℕ) (is : at ≡ 3 * p + code_of stone) (within : at < length words) (narrow : g < 64) where
+    module _ (inside : Contains members p) (at : ℕ) (is : at ≡ start_of points stone + p) (within : at < length words) (narrow : g < 64) where
       abbrev pub word : ℕ
       word = bit_or (slice_index words at) (1 * 2 ^ g % 2 ^ 64)
 
-      forth : (k i : ℕ) → (bit_at (slice_index (set words at word) k) i ≡ 1) → (bit_at (slice_index before k) i ≡ 1) ⊎ ((i ≡ g) × IsWordIn (p + 1) stone members k)
+      forth : (k i : ℕ) → (bit_at (slice_index (set words at word) k) i ≡ 1) → (bit_at (slice_index before k) i ≡ 1) ⊎ ((i ≡ g) × IsWordIn points (p + 1) stone members k)
       forth k i one =
           elim (cases_eq k at) [
             | inl here ↦ elim (cases_eq i g) [
@@ -96,7 +96,7 @@ module _ (stone : Cell) (members : List ℕ) (g : ℕ) (before : List ℕ) where
       gained k i bit here =
           ap (λ (w : ℕ). bit_at w i) (word-same words at word within k here) ∙ ap (λ (j : ℕ). bit_at word j) bit ∙ bit_at_set_same w64 (slice_index words at) g narrow
 
-      pub AreNoted-more : AreNoted (p + 1) stone members g before (set words at word)
+      pub AreNoted-more : AreNoted points (p + 1) stone members g before (set words at word)
       AreNoted-more = record {
         room = length-set words at word ∙ so_far.room;
         bits = λ k i. (
@@ -113,8 +113,8 @@ module _ (stone : Cell) (members : List ℕ) (g : ℕ) (before : List ℕ) where
 
 -- ---- the sets of a game
 
-module _ (points : ℕ) (sets : EverSets) (g : ℕ) (words one two three : List ℕ) (empty : AreNoted points cell.Empty sets.empty g words one) (black : AreNoted points cell.Black sets.black g one two) (white : AreNoted points cell.White sets.white g two three) where
-  which : (k i : ℕ) (stone : Cell) → (i ≡ g) → IsWordIn points stone (set_of sets stone) k → bit_at (slice_index three k) i ≡ 1
+module _ (points : ℕ) (sets : EverSets) (g : ℕ) (words one two three : List ℕ) (empty : AreNoted points points cell.Empty sets.empty g words one) (black : AreNoted points points cell.Black sets.black g one two) (white : AreNoted points points cell.White sets.white g two three) where
+  which : (k i : ℕ) (stone : Cell) → (i ≡ g) → IsWordIn points points stone (set_of sets stone) k → bit_at (slice_index three k) i ≡ 1
   which k i cell.Empty bit at = (white.bits k i).1 (inl ((black.bits k i).1 (inl ((empty.bits k i).1 (inr (bit, at))))))
   which k i cell.Black bit at = (white.bits k i).1 (inl ((black.bits k i).1 (inr (bit, at))))
   which k i cell.White bit at = (white.bits k i).1 (inr (bit, at))

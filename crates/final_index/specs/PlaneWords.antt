@@ -8,19 +8,19 @@ use Rattle.kb_bits.specs.Members.{numbers_below}
 use Rattle.final_index.specs.declared.ever_sets.EverSets.{EverSets}
 use Rattle.final_index.specs.Ever.{set_of}
 
--- the place of a cell's word among the three words of a point
-abbrev pub code_of : Cell → ℕ
-code_of cell.Empty = 0
-code_of cell.Black = 1
-code_of cell.White = 2
+-- where the words of a cell begin, for a board with so many points
+abbrev pub start_of : ℕ → Cell → ℕ
+start_of points cell.Empty = 0
+start_of points cell.Black = points
+start_of points cell.White = 2 * points
 
--- the bit of a game in the word of a cell and point
-abbrev pub bit_in : List ℕ → ℕ → Cell → ℕ → ℕ
-bit_in words g stone p = bit_at (slice_index words (3 * p + code_of stone)) g
+-- the bit of a game in the word of a cell and point, on a board with so many points
+abbrev pub bit_in : ℕ → List ℕ → ℕ → Cell → ℕ → ℕ
+bit_in points words g stone p = bit_at (slice_index words (start_of points stone + p)) g
 
 -- the points of a board with so many at which a game has its bit for the cell, ascending
 unfoldable pub points_with : ℕ → List ℕ → ℕ → Cell → List ℕ
-points_with points words g stone = numbers_below points (λ p. bit_in words g stone p == 1)
+points_with points words g stone = numbers_below points (λ p. bit_in points words g stone p == 1)
 
 -- the sets of a game that has its bit among those present
 unfoldable pub game_in : ℕ → ℕ → List ℕ → ℕ → Option EverSets
@@ -43,16 +43,18 @@ pub record ArePlaneWords (points count present : ℕ) (words : List ℕ) : Type 
   pub there : (k g : ℕ) → bit_at (slice_index words k) g ≡ 1 → bit_at present g ≡ 1
 
 -- the word is that of the cell and one of the first so many points, which is in the set
-abbrev pub IsWordIn : ℕ → Cell → List ℕ → ℕ → Type 0
-IsWordIn end stone members k = (p : ℕ) × (p < end) × Contains members p
-    × (k ≡ 3 * p + code_of stone)
+abbrev pub IsWordIn : ℕ → ℕ → Cell → List ℕ → ℕ → Type 0
+IsWordIn points end stone members k = (p : ℕ) × (p < end) × Contains members p
+    × (k ≡ start_of points stone + p)
 
--- A game has gained its bit in the words of a cell and of the members of a set.
-pub record AreNoted (end : ℕ) (stone : Cell) (members : List ℕ) (g : ℕ)
+-- A game has gained its bit in the words of a cell and of the members of a set, of the first so many
+-- points.
+pub record AreNoted (points end : ℕ) (stone : Cell) (members : List ℕ) (g : ℕ)
     (before after : List ℕ) : Type 0 where
   pub room : length after ≡ length before
   pub bits : (k i : ℕ) → (bit_at (slice_index after k) i ≡ 1) ↔
-      ((bit_at (slice_index before k) i ≡ 1) ⊎ ((i ≡ g) × IsWordIn end stone members k))
+      ((bit_at (slice_index before k) i ≡ 1)
+      ⊎ ((i ≡ g) × IsWordIn points end stone members k))
 
 -- A game has gained its bit in the words of each cell and of the points of its set.
 pub record AreSetsNoted (points : ℕ) (sets : EverSets) (g : ℕ)
@@ -60,7 +62,7 @@ pub record AreSetsNoted (points : ℕ) (sets : EverSets) (g : ℕ)
   pub room : length after ≡ length before
   pub bits : (k i : ℕ) → (bit_at (slice_index after k) i ≡ 1) ↔
       ((bit_at (slice_index before k) i ≡ 1)
-      ⊎ ((i ≡ g) × ((stone : Cell) × IsWordIn points stone (set_of sets stone) k)))
+      ⊎ ((i ≡ g) × ((stone : Cell) × IsWordIn points points stone (set_of sets stone) k)))
 
 -- the bits of one word, and behind them those of another
 abbrev pub IsJoined : ℕ → ℕ → ℕ → ℕ → Type 0

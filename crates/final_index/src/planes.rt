@@ -30,7 +30,7 @@ ghost use Rattle.kb_geometry.specs.declared.stone.Cell.{Cell};
 ghost use Rattle.kb_geometry.specs.Board.{point_count};
 ghost use Rattle.final_index.specs.Ever.{set_of};
 ghost use Rattle.final_index.specs.Planes.{HadThere};
-ghost use Rattle.final_index.specs.PlaneWords.{AreJoined, AreNoted, AreSetsNoted, IsJoined, code_of};
+ghost use Rattle.final_index.specs.PlaneWords.{AreJoined, AreNoted, AreSetsNoted, IsJoined, start_of};
 
 use crate::ever_sets::EverSets;
 use kb_bits::{BitBoard, members_ascend};
@@ -50,7 +50,7 @@ pub struct Planes {
     count: usize,
     // The bits of the games on boards of the shape.
     present: u64,
-    // Three words for each point: where it was empty, black, and white.
+    // A word for each point where it was empty, then one for each where it was black, then white.
     words: Vec<u64>,
 }
 
@@ -115,6 +115,28 @@ impl Planes {
         self.present
     }
 
+    /// The games on boards of the shape in which each point was empty at some node, the one at this
+    /// node and the other at that: a bit for each, by its number. All games that begin with an empty
+    /// board are among them.
+    pub fn always_empty(&self) -> u64
+        ensures { (g : ℕ) → g < 64 → (bit_at result g ≡ 1)
+            ↔ (IsSome (slice_index_or self.now.games g None)
+            × ((p : ℕ) → p < point_count self.now.shape → HadThere self.now.games g Cell.Empty p)) }
+    {
+        common(self.present(), self.plane(Cell::Empty))
+    }
+
+    // The words of a cell, one for each point.
+    fn plane(&self, cell: Cell) -> &[u64]
+        ensures count { length result.now ≡ point_count self.now.shape }
+        ensures words { (p g : ℕ) → p < point_count self.now.shape →
+            (bit_at (slice_index result.now p) g ≡ 1) ↔ HadThere self.now.games g cell p }
+    {
+        let points = self.shape.count();
+        let start = start_of(points, cell);
+        &self.words[start..start + usize::from(points)]
+    }
+
     /// One game more, by its sets. Without sets it is on a board of another shape.
     pub fn push(&mut self, ever: Option<&EverSets>)
         requires few { length self.old.games < 64 }
@@ -156,7 +178,7 @@ impl Planes {
         ensures { (g : ℕ) → g < 64 →
             (bit_at result g ≡ 1) ↔ HadThere self.now.games g cell point }
     {
-        self.words[3 * usize::from(point) + code_of(cell)]
+        self.plane(cell)[usize::from(point)]
     }
 
     /// Keeps of each word the games that had the cell at some node on its point: the first word is
@@ -168,7 +190,7 @@ impl Planes {
             (bit_at (slice_index words.new k) g ≡ 1) ↔ ((bit_at (slice_index words.old k) g ≡ 1)
             × HadThere self.now.games g cell (from + k)) }
     {
-        cut(words, &self.words, 3 * usize::from(from) + code_of(cell));
+        cut(words, self.plane(cell), usize::from(from));
     }
 
     /// Keeps of each word the games that had one cell or the other at some node on its point: the
@@ -180,13 +202,7 @@ impl Planes {
             (bit_at (slice_index words.new k) g ≡ 1) ↔ ((bit_at (slice_index words.old k) g ≡ 1)
             × (HadThere self.now.games g one (from + k) ⊎ HadThere self.now.games g other (from + k))) }
     {
-        let first = 3 * usize::from(from);
-        cut_by_either(
-            words,
-            &self.words,
-            first + code_of(one),
-            first + code_of(other),
-        );
+        cut_by_either(words, self.plane(one), self.plane(other), usize::from(from));
     }
 
     /// The games of the first, then those of the second: together at most 64, on boards of one
@@ -209,15 +225,15 @@ impl Planes {
     }
 }
 
-// The place of a cell's word among the three words of a point.
-fn code_of(cell: Cell) -> usize
-    ensures value { result ≡ code_of cell }
-    ensures few { result < 3 }
+// Where the words of a cell begin, for a board with so many points.
+fn start_of(points: u16, cell: Cell) -> usize
+    ensures value { result ≡ start_of points cell }
+    ensures room { result + points ≤ 3 * points }
 {
     match cell {
         Cell::Empty => 0,
-        Cell::Black => 1,
-        Cell::White => 2,
+        Cell::Black => usize::from(points),
+        Cell::White => 2 * usize::from(points),
     }
 }
 
@@ -236,40 +252,53 @@ fn note_sets(words: &mut [u64], points: u16, sets: &EverSets, game: usize)
 fn note(words: &mut [u64], points: u16, cell: Cell, members: &BitBoard, game: usize)
     requires few { game < 64 }
     requires room { length words.old ≡ 3 * points }
-    ensures { AreNoted points cell members.now game words.old words.new }
+    ensures { AreNoted points points cell members.now game words.old words.new }
 {
-    let code = code_of(cell);
+    let start = start_of(points, cell);
     for point in 0..points {
         if members.contains(point) {
-            words[3 * usize::from(point) + code] |= 1 << game;
+            words[start + usize::from(point)] |= 1 << game;
         }
     }
 }
 
-// Cuts each word with the word of one cell on its point.
-fn cut(words: &mut [u64], all: &[u64], start: usize)
-    requires { (k : ℕ) → k < length words.old → start + 3 * k < length all.now }
+// Cuts each word with a word of a plane: the first with the one at this place, the next with the one
+// behind it, and so on.
+fn cut(words: &mut [u64], plane: &[u64], from: usize)
+    requires { from + length words.old ≤ length plane.now }
     ensures count { length words.new ≡ length words.old }
     ensures each { (k : ℕ) → k < length words.old → slice_index words.new k
-        ≡ bit_and (slice_index words.old k) (slice_index all.now (start + 3 * k)) }
+        ≡ bit_and (slice_index words.old k) (slice_index plane.now (from + k)) }
 {
     for k in 0..words.len() {
-        words[k] &= all[start + 3 * k];
+        words[k] &= plane[from + k];
     }
 }
 
-// Cuts each word with the joined words of two cells on its point.
-fn cut_by_either(words: &mut [u64], all: &[u64], one: usize, other: usize)
-    requires one { (k : ℕ) → k < length words.old → one + 3 * k < length all.now }
-    requires other { (k : ℕ) → k < length words.old → other + 3 * k < length all.now }
+// Cuts each word with the joined words of two planes.
+fn cut_by_either(words: &mut [u64], one: &[u64], other: &[u64], from: usize)
+    requires one { from + length words.old ≤ length one.now }
+    requires other { from + length words.old ≤ length other.now }
     ensures count { length words.new ≡ length words.old }
     ensures each { (k : ℕ) → k < length words.old → slice_index words.new k
         ≡ bit_and (slice_index words.old k)
-        (bit_or (slice_index all.now (one + 3 * k)) (slice_index all.now (other + 3 * k))) }
+        (bit_or (slice_index one.now (from + k)) (slice_index other.now (from + k))) }
 {
     for k in 0..words.len() {
-        words[k] &= all[one + 3 * k] | all[other + 3 * k];
+        words[k] &= one[from + k] | other[from + k];
     }
+}
+
+// The bits of a word that are in each word of a plane.
+fn common(word: u64, plane: &[u64]) -> u64
+    ensures { (g : ℕ) → (bit_at result g ≡ 1) ↔ ((bit_at word g ≡ 1)
+        × ((p : ℕ) → p < length plane.now → bit_at (slice_index plane.now p) g ≡ 1)) }
+{
+    let mut common = word;
+    for p in 0..plane.len() {
+        common &= plane[p];
+    }
+    common
 }
 
 // The words of two lists joined, one by one.

@@ -1,5 +1,5 @@
 -- A game that is built node by node.
-use Rattle.std.proofs.Common.{◌≡◌, ◌⊎◌, ◌≤◌, ◌<◌, ◌+◌, ◌++◌, ◌∙◌, ℕ, zero, suc, List, [], ◌∷◌, All, Contains, Option, Some, None, IfSome, refl, sym, ap, subst, arith, length, length-append, get_or, take, drop, length-take-le, add-one, inl, inr}
+use Rattle.std.proofs.Common.{◌≡◌, ◌⊎◌, ◌≤◌, ◌<◌, ◌+◌, ◌++◌, ◌∙◌, ℕ, zero, suc, List, [], ◌∷◌, All, Contains, Option, Some, None, IfSome, refl, sym, ap, subst, arith, length, length-append, get_or, take, drop, length-take-le, inl, inr}
 use Rattle.std.specs.List.{AllZip}
 use Rattle.std.proofs.Math.Seq.{split_at}
 use Rattle.std.proofs.lemmas.Grind.{flat_map-append}
@@ -150,26 +150,20 @@ next-at text raw shape k d b known below h =
       ascending = AllPairs-part (λ (p q : Pair). p.value.from < q.value.from) (λ (n : RawNode). n.pairs) raw.nodes (get_or raw.nodes k d) ascend there;
     }
 
--- an item of the nodes behind the root
-module _ (text : List ℕ) (raw : RawGame) (shape : Shape) (known : IsOfText text raw) (others : List RawNode) (behind : (root : RawNode) × (raw.nodes ≡ root ∷ others)) (i : ℕ) (item : RawNode) (below : i < length others) (is : item ≡ get_or others i item) where
-  within_game : i + 1 < length raw.nodes
-  within_game = let e = ap length (behind.1) in omega (arith, e)
+-- a node of the game
+module _ (text : List ℕ) (raw : RawGame) (shape : Shape) (known : IsOfText text raw) (k : ℕ) (node : RawNode) (below : k < length raw.nodes) (is : node ≡ get_or raw.nodes k node) where
+  pub node-next : (b : Built) → HasBuilt text raw shape k b → IsNext text b node
+  node-next b h = subst (IsNext text b) (sym is) (next-at text raw shape k node b known below h)
 
-  place : get_or raw.nodes (i + 1) item ≡ item
-  place = ap (λ ns. get_or ns (i + 1) item) (behind.1) ∙ ap (λ n. get_or (behind.0 ∷ others) n item) (add-one i) ∙ sym is
+  pub node-read : (b after : Built) → HasBuilt text raw shape k b → IsNodeRead text shape node b after → HasBuilt text raw shape (k + 1) after
+  node-read b after h read = HasBuilt-more text raw shape k node b after below h (subst (λ (n : RawNode). IsNodeRead text shape n b after) is read)
 
-  pub item-next : (b : Built) → HasBuilt text raw shape (i + 1) b → IsNext text b item
-  item-next b h = subst (IsNext text b) place (next-at text raw shape (i + 1) item b known within_game h)
-
-  pub item-read : (b after : Built) → HasBuilt text raw shape (i + 1) b → IsNodeRead text shape item b after → HasBuilt text raw shape (i + 1 + 1) after
-  item-read b after h read = HasBuilt-more text raw shape (i + 1) item b after within_game h (subst (λ (n : RawNode). IsNodeRead text shape n b after) (sym place) read)
-
-  pub item-bad : (b : Built) (f : SgfFault) → HasBuilt text raw shape (i + 1) b → IsFirstNodeFault text shape item.pairs f.kind f.at → IsNodeBad text raw shape f
-  item-bad b f h first = record {
-    done = take (i + 1) raw.nodes;
-    node = item;
-    rest = drop (suc (i + 1)) raw.nodes;
-    split = split_at raw.nodes (i + 1) item within_game ∙ ap (λ (n : RawNode). take (i + 1) raw.nodes ++ n ∷ drop (suc (i + 1)) raw.nodes) place;
+  pub node-bad : (b : Built) (f : SgfFault) → HasBuilt text raw shape k b → IsFirstNodeFault text shape node.pairs f.kind f.at → IsNodeBad text raw shape f
+  node-bad b f h first = record {
+    done = take k raw.nodes;
+    node = node;
+    rest = drop (suc k) raw.nodes;
+    split = split_at raw.nodes k node below ∙ ap (λ (n : RawNode). take k raw.nodes ++ n ∷ drop (suc k) raw.nodes) (sym is);
     clean = h.clean;
     first = first;
   }

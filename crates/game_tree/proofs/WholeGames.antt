@@ -1,8 +1,9 @@
 -- A whole game that is built: its tree, or its first fault.
-use Rattle.std.proofs.Common.{◌≡◌, ◌⊎◌, ◌≤◌, ◌<◌, ◌∙◌, ℕ, List, [], ◌∷◌, All, Contains, Option, Some, None, IfSome, sym, ap, subst, arith, length, get_or, inl, inr, codes}
+use Rattle.std.proofs.Common.{◌≡◌, ◌⊎◌, ◌≤◌, ◌<◌, ◌∙◌, ℕ, List, [], ◌∷◌, All, Contains, Option, Some, None, IfSome, sym, ap, subst, arith, length, get_or, drop, inl, inr, codes}
 use Rattle.std.specs.Prelude.{slice_get}
 use Rattle.std.specs.Option.{option_map_or}
 use Rattle.std.specs.List.{AllZip}
+use lib.Seq.{drop-cons}
 use Rattle.std.proofs.lemmas.List.{length-map, take_all}
 use Rattle.kb_geometry.specs.declared.shape.Shape.{Shape}
 use Rattle.sgf_reader.specs.declared.collection.Pair.{Pair}
@@ -37,6 +38,10 @@ some_eq e = cc
 -- a game of a text has a root
 pub root-there : (text : List ℕ) (raw : RawGame) → IsOfText text raw → 1 ≤ length raw.nodes
 root-there text raw known = (of_text text raw known).0.some
+
+-- the root of a game, and the other nodes
+pub root-first : (raw : RawGame) (root : RawNode) → 1 ≤ length raw.nodes → root ≡ get_or raw.nodes 0 root → raw.nodes ≡ root ∷ drop 1 raw.nodes
+root-first raw root some is = drop-cons raw.nodes 0 root some ∙ ap (λ (n : RawNode). n ∷ drop 1 raw.nodes) (sym is)
 
 module _ (text : List ℕ) (raw : RawGame) (known : IsOfText text raw) (root : RawNode) (others : List RawNode) (is : raw.nodes ≡ root ∷ others) where
   some : 0 < length raw.nodes

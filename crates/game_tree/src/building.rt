@@ -9,7 +9,7 @@ ghost use Rattle.game_tree.specs.ValueFaults.{HasValueFault, IsFirstValueFault};
 
 use crate::GameTree;
 use crate::game::build_game;
-use sgf_reader::{Collection, SgfFault};
+use sgf_reader::{Collection, FlatCollection, SgfFault};
 use std::alloc::{AllocError, AllocFailed, Global};
 use std::error::Error;
 use std::fmt;
@@ -58,12 +58,36 @@ impl<T: Drop> From<AllocFailed<T>> for BuildError {
     }
 }
 
-/// Builds the game trees of a collection that [`sgf_reader::read`] gave for this text, one for each
-/// game, in order, or answers the first fault of its values.
+/// Builds the game trees of a collection that [`sgf_reader::read_flat`] gave for this text, one for
+/// each game, in order, or answers the first fault of its values.
 ///
 /// A value's fault is of the kinds from `NotGo` to `TwoMoves`, and its place is the offset of the
 /// value's `[`. That of least offset is answered, and at one value `TwoMoves` comes before
 /// `BadPoint`.
+pub fn build_flat(
+    alloc: Global,
+    text: &[u8],
+    collection: &FlatCollection,
+) -> Result<Vec<GameTree>, BuildError>
+    requires { IsRead text.now collection.now }
+    ensures ok { IfOk result (λ trees. AreTreesOf text.now collection.now trees.items) }
+    ensures no_fault { IfOk result (λ _. (kind : FaultKind) (at : ℕ) →
+        ¬ HasValueFault text.now collection.now kind at) }
+    ensures fault { (f : SgfFault) → result ≡ Err (Fault f) →
+        IsFirstValueFault text.now collection.now f.kind f.at }
+{
+    let mut trees = Vec::with_capacity(alloc, collection.game_count())?;
+    for number in 0..collection.game_count() {
+        match build_game(alloc, text, &collection.game(number)) {
+            Ok(tree) => trees.push(tree)?,
+            Err(error) => return Err(error),
+        }
+    }
+    Ok(trees)
+}
+
+/// Builds the game trees of a collection that [`sgf_reader::read`] gave for this text, as
+/// [`build_flat`] does.
 pub fn build(
     alloc: Global,
     text: &[u8],
@@ -76,14 +100,8 @@ pub fn build(
     ensures fault { (f : SgfFault) → result ≡ Err (Fault f) →
         IsFirstValueFault text.now collection.now f.kind f.at }
 {
-    let mut trees = Vec::new(alloc);
-    for raw in collection.games.as_slice() {
-        match build_game(alloc, text, raw) {
-            Ok(tree) => trees.push(tree)?,
-            Err(error) => return Err(error),
-        }
-    }
-    Ok(trees)
+    let flat = FlatCollection::of(alloc, collection)?;
+    build_flat(alloc, text, &flat)
 }
 
 #[cfg(test)]

@@ -12,7 +12,7 @@ ghost use Rattle.std.specs.Prelude.{
   [],
   length,
   map,
-  get_or,
+  drop,
   All,
   Contains,
   Option,
@@ -43,12 +43,16 @@ use crate::node_values::read_values;
 use crate::root::{SIZE, board_of, first_fault, first_value, game_fault, information, second_move};
 use crate::{BuildError, GameTree, Move, TreeBuilder};
 use kb_geometry::{NoMemory, Shape};
-use sgf_reader::{Pair, RawGame, RawNode, SgfFault};
+use sgf_reader::{FlatGame, FlatNode, SgfFault};
 use std::alloc::Global;
 
 // The tree of a raw game of a text without a fault of its syntax, or the first fault of the game's
 // values.
-pub(crate) fn build_game(alloc: Global, text: &[u8], raw: &RawGame) -> Result<GameTree, BuildError>
+pub(crate) fn build_game(
+    alloc: Global,
+    text: &[u8],
+    raw: &FlatGame<'_>,
+) -> Result<GameTree, BuildError>
     requires read { IsOfText text.now raw.now }
     ensures ok { IfOk result (λ tree. IsTreeOf text.now raw.now tree) }
     ensures no_fault { IfOk result (λ _. (of : FaultKind) (at : ℕ) →
@@ -56,11 +60,11 @@ pub(crate) fn build_game(alloc: Global, text: &[u8], raw: &RawGame) -> Result<Ga
     ensures fault { (f : SgfFault) → result ≡ Err (Fault f) →
         IsFirstGameFault text.now raw.now f.kind f.at }
 {
-    let (root, _) = root_and_others(raw.nodes.as_slice());
-    let pairs = root.pairs.as_slice();
+    let root = raw.node(0);
+    let pairs = root.pairs();
     let game = game_fault(text, pairs);
     match board_of(text, first_value(text, pairs, SIZE)) {
-        Ok(shape) => build_on(alloc, text, raw, shape, game),
+        Ok(shape) => build_on(alloc, text, raw, &root, shape, game),
         Err(size) => {
             let fault = first_fault(first_fault(size, game), second_move(text, pairs));
             Err(BuildError::Fault(fault))
@@ -68,15 +72,17 @@ pub(crate) fn build_game(alloc: Global, text: &[u8], raw: &RawGame) -> Result<Ga
     }
 }
 
-// The tree of a raw game on this board.
+// The tree of a raw game with this root, on this board.
 fn build_on(
     alloc: Global,
     text: &[u8],
-    raw: &RawGame,
+    raw: &FlatGame<'_>,
+    root: &FlatNode<'_>,
     shape: Shape,
     game: Option<SgfFault>,
 ) -> Result<GameTree, BuildError>
     requires read { IsOfText text.now raw.now }
+    requires root { raw.now.nodes ≡ root.now ∷ drop 1 raw.now.nodes }
     requires board { IsBoard text.now raw.now shape }
     requires game { IsGameFault text.now (root_pairs raw.now) game }
     ensures ok { IfOk result (λ tree. IsTreeOf text.now raw.now tree) }
@@ -85,47 +91,36 @@ fn build_on(
     ensures fault { (f : SgfFault) → result ≡ Err (Fault f) →
         IsFirstGameFault text.now raw.now f.kind f.at }
 {
-    let nodes = raw.nodes.as_slice();
-    let (root, others) = root_and_others(nodes);
-    let mut builder = TreeBuilder::with_room(alloc, shape, nodes.len())?;
+    let mut builder = TreeBuilder::with_room(alloc, shape, raw.node_count())?;
     if let Err(error) = read_root(text, shape, root, game, &mut builder) {
         return Err(error);
     }
-    if let Err(error) = read_others(text, raw, shape, others, &mut builder) {
+    if let Err(error) = read_others(text, raw, shape, &mut builder) {
         return Err(error);
     }
     builder.is_grown();
-    match information(alloc, text, root.pairs.as_slice()) {
+    match information(alloc, text, root.pairs()) {
         Ok(info) => Ok(builder.finish(info)),
         Err(NoMemory) => Err(BuildError::NoMemory),
     }
 }
 
-// The root of a game, and its other nodes.
-fn root_and_others(nodes: &[RawNode]) -> (&RawNode, &[RawNode])
-    requires some { 1 ≤ length nodes.now }
-    ensures { nodes.now ≡ result.0.now ∷ result.1.now }
-{
-    (&nodes[0], &nodes[1..])
-}
-
 // The nodes below the root.
 fn read_others(
     text: &[u8],
-    raw: &RawGame,
+    raw: &FlatGame<'_>,
     shape: Shape,
-    others: &[RawNode],
     builder: &mut TreeBuilder,
 ) -> Result<(), BuildError>
     requires read { IsOfText text.now raw.now }
-    requires others { (root : RawNode) × (raw.now.nodes ≡ root ∷ others.now) }
     requires root { HasBuilt text.now raw.now shape 1 builder.old }
     ensures ok { IfOk result
         (λ _. HasBuilt text.now raw.now shape (length raw.now.nodes) builder.new) }
     ensures fault { (f : SgfFault) → result ≡ Err (Fault f) → IsNodeBad text.now raw.now shape f }
 {
-    for node in others {
-        if let Err(error) = read_node(text, shape, node, builder) {
+    for number in 1..raw.node_count() {
+        let node = raw.node(number);
+        if let Err(error) = read_node(text, shape, &node, builder) {
             return Err(error);
         }
     }
@@ -136,7 +131,7 @@ fn read_others(
 fn read_root(
     text: &[u8],
     shape: Shape,
-    root: &RawNode,
+    root: &FlatNode<'_>,
     game: Option<SgfFault>,
     builder: &mut TreeBuilder,
 ) -> Result<(), BuildError>
@@ -150,7 +145,7 @@ fn read_root(
     ensures fault { (f : SgfFault) → result ≡ Err (Fault f) →
         IsRootBad text.now shape root.now game f }
 {
-    match read_values(text, shape, root.pairs.as_slice(), builder) {
+    match read_values(text, shape, root.pairs(), builder) {
         Err(BuildError::Fault(fault)) => Err(BuildError::Fault(first_fault(fault, game))),
         Err(BuildError::NoMemory) => Err(BuildError::NoMemory),
         Ok(played) => match game {
@@ -164,7 +159,7 @@ fn read_root(
 fn read_node(
     text: &[u8],
     shape: Shape,
-    node: &RawNode,
+    node: &FlatNode<'_>,
     builder: &mut TreeBuilder,
 ) -> Result<(), BuildError>
     requires shape { builder.old.shape ≡ shape }
@@ -177,7 +172,7 @@ fn read_node(
     ensures fault { (f : SgfFault) → result ≡ Err (Fault f) →
         IsFirstNodeFault text.now shape node.now.pairs f.kind f.at }
 {
-    match read_values(text, shape, node.pairs.as_slice(), builder) {
+    match read_values(text, shape, node.pairs(), builder) {
         Err(error) => Err(error),
         Ok(played) => add_node(node, played, builder),
     }
@@ -185,7 +180,7 @@ fn read_node(
 
 // Ends the node whose values were read.
 fn add_node(
-    node: &RawNode,
+    node: &FlatNode<'_>,
     played: Option<Move>,
     builder: &mut TreeBuilder,
 ) -> Result<(), BuildError>
@@ -195,7 +190,7 @@ fn add_node(
     ensures ok { IfOk result (λ _. builder.new ≡ with_node builder.old node.now.parent played) }
     ensures fault { (f : SgfFault) → ¬ (result ≡ Err (Fault f)) }
 {
-    match builder.add_node(node.parent, played) {
+    match builder.add_node(node.parent(), played) {
         Ok(()) => Ok(()),
         Err(_) => Err(BuildError::NoMemory),
     }

@@ -2,8 +2,9 @@
 //!
 //! Stands on kb_geometry and node_paths, and on sgf_reader for the collections that trees are built
 //! of. In `specs/` are the words for a tree, its main line, its move numbers and its positions, for
-//! values and their faults, and for the trees of a collection. The layers above use that [`build`]
-//! gives the trees of a collection or its first fault, and that a tree's readers show the tree.
+//! values and their faults, and for the trees of a collection. The layers above use that
+//! [`build_flat`] and [`build`] give the trees of a collection or its first fault, and that a tree's
+//! readers show the tree.
 #![tactic(auto)]
 
 mod builder;
@@ -23,7 +24,7 @@ mod tree;
 mod value;
 
 pub(crate) use builder::TreeBuilder;
-pub use building::{BuildError, build};
+pub use building::{BuildError, build, build_flat};
 pub use bytes::Bytes;
 pub use children::Children;
 pub use info::Info;

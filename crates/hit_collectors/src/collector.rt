@@ -32,3 +32,24 @@ pub trait Collector: Drop {
         ensures ok { OnOk result (out.new.items ≡ out.old.items ++ report_line (tally self.now)) }
         ensures refused { OnErr result (out.new.items ≡ out.old.items) };
 }
+
+/// A box shows what is in it.
+impl Collector for Box<dyn Collector> {
+    ghost tally = { λ board. (Collector-box board).tally board.value };
+
+    fn name(&self) -> &str {
+        (**self).name()
+    }
+
+    fn kind(&self) -> Kind {
+        (**self).kind()
+    }
+
+    fn take(&mut self, hit: &Hit) -> Result<(), NoMemory> {
+        (**self).take(hit)
+    }
+
+    fn report(&self, out: &mut Vec<u8>) -> Result<(), NoMemory> {
+        (**self).report(out)
+    }
+}

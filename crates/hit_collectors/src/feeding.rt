@@ -12,11 +12,11 @@ use pattern_images::Hit;
 ///
 /// The only error is `NoMemory`, where a box answers it. The boxes before that one then have all
 /// hits, it has those before the hit that it refused, and the later boxes have none.
-pub fn feed(boards: &mut [Box<dyn Collector>], hits: &[Hit]) -> Result<(), NoMemory>
-    ensures ok { OnOk result (map (λ board. tally board) boards.new
-        ≡ all_with_hits hits.now (map (λ board. tally board) boards.old)) }
-    ensures refused { OnErr result (IsFedInPart hits.now (map (λ board. tally board) boards.old)
-        (map (λ board. tally board) boards.new)) }
+pub fn feed<C: Collector>(boards: &mut [C], hits: &[Hit]) -> Result<(), NoMemory>
+    ensures ok { OnOk result (map (λ board. C.tally board) boards.new
+        ≡ all_with_hits hits.now (map (λ board. C.tally board) boards.old)) }
+    ensures refused { OnErr result (IsFedInPart hits.now (map (λ board. C.tally board) boards.old)
+        (map (λ board. C.tally board) boards.new)) }
 {
     for i in 0..boards.len() {
         feed_box(&mut boards[i], hits)?;
@@ -25,23 +25,13 @@ pub fn feed(boards: &mut [Box<dyn Collector>], hits: &[Hit]) -> Result<(), NoMem
 }
 
 // Gives all hits to a box, in order.
-fn feed_box(board: &mut Box<dyn Collector>, hits: &[Hit]) -> Result<(), NoMemory>
-    ensures ok { OnOk result (tally board.new ≡ with_hits hits.now (tally board.old)) }
+fn feed_box<C: Collector>(board: &mut C, hits: &[Hit]) -> Result<(), NoMemory>
+    ensures ok { OnOk result (C.tally board.new ≡ with_hits hits.now (C.tally board.old)) }
     ensures refused { OnErr result
-        (IsPartTaken hits.now (tally board.old) (tally board.new)) }
+        (IsPartTaken hits.now (C.tally board.old) (C.tally board.new)) }
 {
     for hit in hits {
-        give(board, hit)?;
+        board.take(hit)?;
     }
-    Ok(())
-}
-
-// Gives a hit to a box.
-#[inline]
-fn give(board: &mut Box<dyn Collector>, hit: &Hit) -> Result<(), NoMemory>
-    ensures ok { OnOk result (tally board.new ≡ with_hits (hit.now ∷ []) (tally board.old)) }
-    ensures refused { OnErr result (tally board.new ≡ tally board.old) }
-{
-    board.take(hit)?;
     Ok(())
 }

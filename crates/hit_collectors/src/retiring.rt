@@ -21,14 +21,14 @@ impl Error for NoSuchName {}
 
 /// Drops the first box of this name, and leaves the others in order. `NoSuchName` exactly where no
 /// box has it, and then nothing changes. Nothing is allocated.
-pub fn retire(boards: &mut Vec<Box<dyn Collector>>, name: &str) -> Result<(), NoSuchName>
+pub fn retire<C: Collector>(boards: &mut Vec<C>, name: &str) -> Result<(), NoSuchName>
     ensures ok { OnOk result
-        (IsRetired (λ board. (tally board).name) name.now boards.old.items boards.new.items) }
+        (IsRetired (λ board. (C.tally board).name) name.now boards.old.items boards.new.items) }
     ensures told { OnOk result (IsRetired (λ told. told.name) name.now
-        (map (λ board. tally board) boards.old.items)
-        (map (λ board. tally board) boards.new.items)) }
+        (map (λ board. C.tally board) boards.old.items)
+        (map (λ board. C.tally board) boards.new.items)) }
     ensures none { OnErr result
-        (All (λ board. (tally board).name ≢ name.now) boards.old.items) }
+        (All (λ board. (C.tally board).name ≢ name.now) boards.old.items) }
     ensures same { OnErr result (boards.new.items ≡ boards.old.items) }
 {
     let Some(i) = first_named(boards, name) else {
@@ -40,10 +40,10 @@ pub fn retire(boards: &mut Vec<Box<dyn Collector>>, name: &str) -> Result<(), No
 }
 
 // The number of the first box of this name.
-fn first_named(boards: &[Box<dyn Collector>], name: &str) -> Option<usize>
+fn first_named<C: Collector>(boards: &[C], name: &str) -> Option<usize>
     ensures some { IfSome result (λ i.
-        IsFirstNamed (λ board. (tally board).name) name.now boards.now i) }
-    ensures none { IfNone result (All (λ board. (tally board).name ≢ name.now) boards.now) }
+        IsFirstNamed (λ board. (C.tally board).name) name.now boards.now i) }
+    ensures none { IfNone result (All (λ board. (C.tally board).name ≢ name.now) boards.now) }
 {
     for i in 0..boards.len() {
         if has_name(&boards[i], name) {
@@ -54,8 +54,8 @@ fn first_named(boards: &[Box<dyn Collector>], name: &str) -> Option<usize>
 }
 
 // Whether a box has this name.
-fn has_name(board: &Box<dyn Collector>, name: &str) -> bool
-    ensures { IsTrue result ↔ ((tally board.now).name ≡ name.now) }
+fn has_name<C: Collector>(board: &C, name: &str) -> bool
+    ensures { IsTrue result ↔ ((C.tally board.now).name ≡ name.now) }
 {
     board.name() == name
 }

@@ -1,8 +1,19 @@
 mod BatchLemmas
-mod FileLemmas
+pub mod FileLemmas
 mod FoundPieces
+pub mod FoundSegments
+pub mod GivenSegments
+pub mod ImportsExist
 mod Judges
+pub mod Losses
 mod LostFiles
-mod RoomLemmas
+pub mod NameLemmas
+pub mod NamesExist
+pub mod OneFinding
+pub mod OutcomesExist
+pub mod ReadFiles
+pub mod RoomLemmas
+pub mod SegmentLemmas
+mod StepLemmas
 mod Texts
-mod Turns
+pub mod Turns

@@ -12,8 +12,9 @@ use Rattle.sgf_reader.specs.Faults.{IsRead}
 use Rattle.sgf_reader.specs.Grammar.{raw_game}
 use Rattle.sgf_reader.proofs.WithinLimits.{read-within_limits}
 use Rattle.game_tree.specs.Trees.{AreTreesOf, IsTreeOf}
-use Rattle.import_work.specs.Outcome.{HaveGames, IsOutcome, accepted, full, games_after, nodes_after, nodes_of, refused, with_games}
+use Rattle.import_work.specs.Outcome.{HaveGames, IsOutcome, accepted, counts_of, full, games_after, nodes_after, nodes_of, refused, with_games}
 use Rattle.import_work.specs.Rooms.{AddsGames, AreAdded, IsAdded, IsAddedBy}
+use Rattle.import_work.specs.Batches.{IsTurnedAway}
 use Rattle.import_work.specs.Course.{games_from, trees_in}
 use Rattle.node_position.specs.Games.{Game}
 
@@ -138,3 +139,23 @@ few_trees bytes collection trees is_read are =
     let few = limits.few in
     let games : length collection.games ≡ length is_read.0 = ap (λ (c : Collection). length c.games) is_read.2 ∙ length-map is_read.0 raw_game in
     omega (arith, few, games, length-AllZip (IsTreeOf bytes) collection.games trees are)
+
+-- a file that is turned away adds nothing
+pub turned_away : (before : Counts) (outcome : FileOutcome) (trees : List Tree) → IsAdded before outcome trees → IsTurnedAway outcome → (trees ≡ []) × (with_games before trees ≡ before)
+turned_away before (file.Accepted games) trees added away = absurd away
+turned_away before (file.Refused of at) trees added away = (added, sym (with_games-is before trees added))
+turned_away before (file.Full games nodes) trees added away = (added, sym (with_games-is before trees added))
+turned_away before file.Unread trees added away = (added, sym (with_games-is before trees added))
+
+-- the counts of a base with more games
+counts_of-append : (trees more : List Tree) → with_games (counts_of trees) more ≡ counts_of (trees ++ more)
+counts_of-append trees more =
+    let games : length trees + length more ≡ length (trees ++ more) = rw length-append refl in
+    let nodes : nodes_of trees + nodes_of more ≡ nodes_of (trees ++ more) = sym (nodes_of-append trees more) in
+    cc
+
+-- a base whose counts are known gets more games
+pub counts_of-more : (before after : Counts) (games found more : List Game) → before ≡ counts_of (trees_in games) → AreAdded before after (trees_in found) → more ≡ games ++ found → after ≡ counts_of (trees_in more)
+counts_of-more before after games found more h added pushed =
+    rw (pushed, trees_in-append games found)
+    (added ∙ ap (λ (c : Counts). with_games c (trees_in found)) h ∙ counts_of-append (trees_in games) (trees_in found))

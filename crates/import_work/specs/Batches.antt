@@ -47,6 +47,13 @@ games_added (file.Refused of at) = 0
 games_added (file.Full games nodes) = 0
 games_added file.Unread = 0
 
+-- a file with this outcome was refused, or there was no room for it, or it wasn't read
+abbrev pub IsTurnedAway : FileOutcome → Type 0
+IsTurnedAway (file.Accepted games) = ⊥
+IsTurnedAway (file.Refused of at) = Unit {0}
+IsTurnedAway (file.Full games nodes) = Unit {0}
+IsTurnedAway file.Unread = Unit {0}
+
 -- how many games the lines tell as added
 abbrev pub games_told : List FileReport → ℕ
 games_told reports = sum_by (λ (r : FileReport). games_added r.outcome) reports

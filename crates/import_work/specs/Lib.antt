@@ -1,12 +1,15 @@
 -- Words that contracts of public functions rest on.
 pub mod Batches
 pub mod Course
+pub mod Imports
 pub mod Log
 pub mod Outcome
 pub mod Rooms
 -- Words of private functions alone.
 pub mod Found
+pub mod ImportFields
 pub mod Judged
+pub mod Listings
 pub mod Parsed
 pub mod Pieces
 pub mod Reads

@@ -89,6 +89,31 @@ pub fn import_batch<R: Threads + Sync, F: Folder>(
     ensures later { F.faults folder.old ≤ F.faults folder.new }
 {
     let mut lines = Vec::new(alloc);
+    let (segment, after) = import_names(rt, alloc, folder, path, names, before, &mut lines)?;
+    Ok(Batch {
+        segment,
+        lines: Items::new(lines),
+        after,
+    })
+}
+
+// Imports the files of these names, in order, into a base with these counts, and adds their lines to
+// those of others. Hands back the segment of their games, and the counts with them.
+pub(crate) fn import_names<R: Threads + Sync, F: Folder>(
+    rt: &R,
+    alloc: Global,
+    folder: &mut F,
+    path: &str,
+    names: &[String],
+    before: Counts,
+    lines: &mut Vec<FileLine>,
+) -> Result<(Segment, Counts), NoMemory>
+    ensures imported { IfOk result (λ r. AreMoreFiles (F.files folder.old) path.now
+        (map string_bytes names.now) before r.1 (F.faults folder.old) (F.faults folder.new)
+        (line_reports lines.old.items) (line_reports lines.new.items) [] r.0) }
+    ensures same { F.files folder.new ≡ F.files folder.old }
+    ensures later { F.faults folder.old ≤ F.faults folder.new }
+{
     let mut games = SegmentBuilder::new(alloc);
     let mut counts = before;
     for chunk in names.chunks(FILES_AT_ONCE) {
@@ -99,16 +124,12 @@ pub fn import_batch<R: Threads + Sync, F: Folder>(
             path,
             chunk,
             &mut counts,
-            &mut lines,
+            lines,
             &mut games,
         )?;
     }
     let segment = games.finish(alloc)?;
-    Ok(Batch {
-        segment,
-        lines: Items::new(lines),
-        after: counts,
-    })
+    Ok((segment, counts))
 }
 
 // Imports some files after others: reads them one after another, then tells what they are side by

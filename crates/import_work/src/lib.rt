@@ -2,22 +2,33 @@
 //!
 //! Stands on segment_store, node_position, capture_board, game_tree, sgf_reader, kb_edges and
 //! kb_geometry. In `specs/` are what becomes of a file by its bytes and by the games and nodes that
-//! the base has before it, the files of an import, and the segments that they make. The layer above
-//! uses that [`import_one`] tells what becomes of a file, and that [`import_batch`] tells it of
-//! files one after another.
+//! the base has before it, what an import finds in a folder, and the segments that it makes. The
+//! layer above uses that [`import_one`] tells what becomes of a file, that [`import_batch`] tells it
+//! of files one after another, and that an [`Import`] gives the segments of all files under a path.
 #![tactic(auto)]
 
 mod batch;
 mod found;
+mod import;
 mod judge;
+mod laws;
+mod listing;
 mod one_file;
 mod outcome;
 mod pieces;
 mod read;
+mod report;
 
 pub use batch::{Batch, FileLine, FileLines, import_batch};
+pub use import::Import;
+pub use laws::{
+    a_file_has_one_outcome, a_file_that_is_turned_away_adds_nothing, an_import_adds_up,
+    an_import_gives_what_it_finds, an_import_has_one_list_of_names,
+    an_import_loses_by_faults_alone, an_import_without_a_loss_finds_one_thing,
+};
 pub use one_file::import_one;
 pub use outcome::{Counts, FileOutcome, MAX_BASE_NODES};
+pub use report::{Report, ReportBody};
 
 #[cfg(test)]
 mod tests;

@@ -5,11 +5,17 @@ ghost use Rattle.import_work.specs.Parsed.{IsParsed};
 ghost use Rattle.import_work.specs.Outcome.{IsOutcome, nodes_of};
 ghost use Rattle.import_work.specs.Rooms.{IsAddedBy};
 
-use game_tree::{BuildError, GameTree, build};
+use game_tree::{BuildError, GameTree, Setup, build_flat};
 use kb_geometry::NoMemory;
 use segment_store::MAX_BASE_GAMES;
-use sgf_reader::{FaultKind, ReadError, SgfFault, read};
+use sgf_reader::{FaultKind, Pair, ReadError, SgfFault, read_flat};
 use std::alloc::Global;
+
+// While a text is parsed this is held of each value and each setup, beside its bytes, 16 bytes for
+// each node that was read, and its trees' nodes.
+const _: () = prove!(size_of::<Pair>() == 16);
+
+const _: () = prove!(size_of::<Setup>() == 5);
 
 /// The most nodes that a base may have.
 pub const MAX_BASE_NODES: u32 = 67_108_864;
@@ -65,12 +71,12 @@ pub(crate) fn outcome_of(
 pub(crate) fn parse(alloc: Global, bytes: &[u8]) -> Result<Parsed, NoMemory>
     ensures { IfOk result (IsParsed bytes.now) }
 {
-    let collection = match read(alloc, bytes) {
+    let collection = match read_flat(alloc, bytes) {
         Ok(collection) => collection,
         Err(ReadError::Fault(fault)) => return Ok(refused(fault)),
         Err(ReadError::NoMemory) => return Err(NoMemory),
     };
-    match build(alloc, bytes, &collection) {
+    match build_flat(alloc, bytes, &collection) {
         Ok(trees) => Ok(Parsed::Games(trees)),
         Err(BuildError::Fault(fault)) => Ok(refused(fault)),
         Err(BuildError::NoMemory) => Err(NoMemory),

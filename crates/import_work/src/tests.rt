@@ -5,6 +5,9 @@ use sgf_reader::FaultKind;
 use std::alloc::Global;
 use std::test::Fail;
 
+mod damaged;
+mod imports;
+
 // A file: its name and its text.
 type File = (&'static str, &'static str);
 
@@ -129,5 +132,70 @@ fn a_batch_without_files_is_an_empty_segment(rt: HostRuntime) -> Result<(), Fail
     assert!(rt; batch.segment.game_count() == 0);
     assert!(rt; batch.lines.as_slice().is_empty());
     assert!(rt; batch.after == before);
+    Ok(())
+}
+
+// Files of the path `d` with the names `100000.sgf`, `100001.sgf` and so on, each a game of one
+// node, but for the text of the name `100063.sgf`.
+fn numbered_files(alloc: Global, count: u32) -> Result<Vec<FileEntry>, Fail> {
+    let mut files = Vec::new(alloc);
+    for number in 0..count {
+        let text = if number == 63 { "hello" } else { "(;)" };
+        let number = number.saturating_add(100_000);
+        files.push(FileEntry {
+            path: String::from_str(alloc, "d")?,
+            name: format!(in alloc; "{number}.sgf")?,
+            bytes: text.as_bytes().to_vec(alloc)?,
+        })?;
+    }
+    Ok(files)
+}
+
+#[test]
+fn more_files_than_are_held_at_one_time(rt: HostRuntime) -> Result<(), Fail> {
+    let alloc = rt.alloc();
+    let mut names = Vec::new(alloc);
+    for file in &numbered_files(alloc, 70)? {
+        names.push(String::from_str(alloc, file.name.as_str())?)?;
+    }
+    let mut folder = MemoryFolder::new(numbered_files(alloc, 70)?, Vec::new(alloc));
+    // There is room for 68 of the 69 games.
+    let before = Counts {
+        games: 399_932,
+        nodes: 0,
+    };
+    let batch = import_batch(&rt, alloc, &mut folder, "d", names.as_slice(), before)?;
+    let table = [
+        (62, FileOutcome::Accepted { games: 1 }),
+        (
+            63,
+            FileOutcome::Refused {
+                kind: FaultKind::NoGame,
+                at: 5,
+            },
+        ),
+        (64, FileOutcome::Accepted { games: 1 }),
+        (68, FileOutcome::Accepted { games: 1 }),
+        (
+            69,
+            FileOutcome::Full {
+                games: 400_001,
+                nodes: 69,
+            },
+        ),
+    ];
+    for (number, outcome) in table {
+        let became = batch.lines.as_slice().get(number).map(|line| line.outcome);
+        assert!(rt; became == Some(outcome));
+    }
+    assert!(rt; batch.lines.as_slice().len() == 70);
+    assert!(rt; batch.segment.game_count() == 68);
+    assert!(rt;
+        batch.after
+            == Counts {
+                games: 400_000,
+                nodes: 68
+            }
+    );
     Ok(())
 }

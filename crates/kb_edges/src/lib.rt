@@ -1,12 +1,14 @@
 //! The traits of the outside: a source of bytes, a sink for bytes and a folder of files, each with
-//! a count of its faults, and their implementations in memory and over the system. It stands on
-//! nothing but the standard library. The layer above is generic over `Source`, `Sink` and `Folder`,
-//! and knows of them what their clauses say: above all, that a failure is answered only where the
-//! count of faults rose in that call.
+//! a count of its faults, and their implementations in memory and over the system; and the gate that
+//! an importer asks before it publishes. It stands on nothing but the standard library. The layer
+//! above is generic over `Source`, `Sink`, `Folder` and `Gate`, and knows of the first three what
+//! their clauses say: above all, that a failure is answered only where the count of faults rose in
+//! that call.
 #![tactic(auto)]
 
 mod errors;
 mod file_entry;
+mod gate;
 mod laws;
 mod lookup;
 mod memory_folder;
@@ -20,6 +22,7 @@ mod traits;
 
 pub use errors::{FolderError, ReadFailed, SinkError};
 pub use file_entry::FileEntry;
+pub use gate::{Gate, OpenGate};
 pub use laws::{each_path_has_a_listing, the_greatest_limit_is_268435456};
 pub use lookup::sort_names;
 pub use memory_folder::MemoryFolder;

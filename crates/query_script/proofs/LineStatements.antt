@@ -1,5 +1,6 @@
 -- What the words of a line spell, and what a line is.
-use Rattle.std.proofs.Common.{◌≡◌, ◌≢◌, ◌∙◌, ℕ, List, [], ◌∷◌, Option, Some, None, Result, Ok, Err, IfOk, IfNone, codes, refl, sym, subst, inl, inr, arith}
+use Rattle.std.proofs.Common.{◌≡◌, ◌≢◌, ◌∙◌, ℕ, List, [], ◌∷◌, Option, Some, None, Result, Ok, Err, IfOk, IfNone, codes, if◌then◌else◌, refl, sym, ap, subst, inl, inr, arith}
+use Rattle.std.specs.Str.{bytes_eq}
 use Rattle.pattern_images.specs.declared.query.Query.{Query}
 use Rattle.dyer_signature.specs.declared.bytes.SigPattern.{SigPattern}
 use Rattle.info_filter.specs.declared.filter.Filter.{Filter}
@@ -41,118 +42,145 @@ pub no_statement : (words : List Word) →
     ((query : Query) (filter : Filter) → ¬ IsStatement words (statement.Search query filter)) → ((path : List ℕ) → ¬ IsStatement words (statement.Import path)) → words ≢ bare (codes "wait") ∷ [] →
     ((number : ℕ) → ¬ IsStatement words (statement.Until number)) → ((query : Query) → ¬ IsStatement words (statement.Kept query)) → ((pattern : SigPattern) → ¬ IsStatement words (statement.Signature pattern)) →
     words ≢ bare (codes "players") ∷ [] → words ≢ bare (codes "doubles") ∷ [] → ((number : ℕ) → ¬ IsStatement words (statement.Game number)) →
+    words ≢ bare (codes "report") ∷ [] → ((name : List ℕ) → ¬ IsStatement words (statement.Retire name)) →
     (s : Statement) → ¬ IsStatement words s
-no_statement words searched import_ wait until kept signature players doubles game (statement.Import path) is = import_ path is
-no_statement words searched import_ wait until kept signature players doubles game statement.Wait is = wait is
-no_statement words searched import_ wait until kept signature players doubles game (statement.Until number) is = until number is
-no_statement words searched import_ wait until kept signature players doubles game (statement.Search query filter) is = searched query filter is
-no_statement words searched import_ wait until kept signature players doubles game (statement.Together searches) is = is
-no_statement words searched import_ wait until kept signature players doubles game (statement.Kept query) is = kept query is
-no_statement words searched import_ wait until kept signature players doubles game (statement.Signature pattern) is = signature pattern is
-no_statement words searched import_ wait until kept signature players doubles game statement.Players is = players is
-no_statement words searched import_ wait until kept signature players doubles game statement.Doubles is = doubles is
-no_statement words searched import_ wait until kept signature players doubles game (statement.Game number) is = game number is
+no_statement words searched import_ wait until kept signature players doubles game report retire (statement.Import path) is = import_ path is
+no_statement words searched import_ wait until kept signature players doubles game report retire statement.Wait is = wait is
+no_statement words searched import_ wait until kept signature players doubles game report retire (statement.Until number) is = until number is
+no_statement words searched import_ wait until kept signature players doubles game report retire (statement.Search query filter) is = searched query filter is
+no_statement words searched import_ wait until kept signature players doubles game report retire (statement.Together searches) is = is
+no_statement words searched import_ wait until kept signature players doubles game report retire (statement.Kept query) is = kept query is
+no_statement words searched import_ wait until kept signature players doubles game report retire (statement.Signature pattern) is = signature pattern is
+no_statement words searched import_ wait until kept signature players doubles game report retire statement.Players is = players is
+no_statement words searched import_ wait until kept signature players doubles game report retire statement.Doubles is = doubles is
+no_statement words searched import_ wait until kept signature players doubles game report retire (statement.Game number) is = game number is
+no_statement words searched import_ wait until kept signature players doubles game report retire statement.Report is = report is
+no_statement words searched import_ wait until kept signature players doubles game report retire (statement.Retire name) is = retire name is
 
--- The bare word with which a statement begins.
-pub data IsKeyword : List ℕ → Type 0 where
-  import_word : IsKeyword (codes "import")
-  wait_word : IsKeyword (codes "wait")
-  until_word : IsKeyword (codes "until")
-  search_word : IsKeyword (codes "search")
-  kept_word : IsKeyword (codes "kept")
-  signature_word : IsKeyword (codes "signature")
-  players_word : IsKeyword (codes "players")
-  doubles_word : IsKeyword (codes "doubles")
-  game_word : IsKeyword (codes "game")
+-- ---- the kinds of statements, by the words with which they begin
 
-keyword_of : (words : List Word) (s : Statement) → IsStatement words s → (name : List ℕ) × (rest : List Word) × (words ≡ bare name ∷ rest) × IsKeyword name
-keyword_of words (statement.Import path) (w, is, path_is) = (codes "import", w ∷ [], is, import_word)
-keyword_of words statement.Wait is = (codes "wait", [], is, wait_word)
-keyword_of words (statement.Until number) (w, is, number_is, bound) = (codes "until", w ∷ [], is, until_word)
-keyword_of words (statement.Search query filter) (body, is, spelled) = (codes "search", body, is, search_word)
-keyword_of words (statement.Together searches) is = absurd is
-keyword_of words (statement.Kept query) (body, is, spelled) = (codes "kept", body, is, kept_word)
-keyword_of words (statement.Signature pattern) (is, pattern_is) = (codes "signature", bare pattern.bytes ∷ [], is, signature_word)
-keyword_of words statement.Players is = (codes "players", [], is, players_word)
-keyword_of words statement.Doubles is = (codes "doubles", [], is, doubles_word)
-keyword_of words (statement.Game number) (w, is, number_is, bound) = (codes "game", w ∷ [], is, game_word)
+-- What a statement that takes one line does.
+pub data Kind : Type 0 where
+  imports : Kind
+  waits : Kind
+  awaits : Kind
+  searches : Kind
+  counts : Kind
+  signs : Kind
+  players : Kind
+  doubles : Kind
+  shows : Kind
+  reports : Kind
+  retires : Kind
 
-pub not_together : (name : List ℕ) → IsKeyword name → name ≢ codes "together"
-not_together _ import_word e = cc e
-not_together _ wait_word e = cc e
-not_together _ until_word e = cc e
-not_together _ search_word e = cc e
-not_together _ kept_word e = cc e
-not_together _ signature_word e = cc e
-not_together _ players_word e = cc e
-not_together _ doubles_word e = cc e
-not_together _ game_word e = cc e
+-- the kind of a statement; a block has none
+abbrev pub kind_of : Statement → Option Kind
+kind_of (statement.Import path) = Some imports
+kind_of statement.Wait = Some waits
+kind_of (statement.Until number) = Some awaits
+kind_of (statement.Search query filter) = Some searches
+kind_of (statement.Together others) = None
+kind_of (statement.Kept query) = Some counts
+kind_of (statement.Signature pattern) = Some signs
+kind_of statement.Players = Some players
+kind_of statement.Doubles = Some doubles
+kind_of (statement.Game number) = Some shows
+kind_of statement.Report = Some reports
+kind_of (statement.Retire name) = Some retires
 
-not_end : (name : List ℕ) → IsKeyword name → name ≢ codes "end"
-not_end _ import_word e = cc e
-not_end _ wait_word e = cc e
-not_end _ until_word e = cc e
-not_end _ search_word e = cc e
-not_end _ kept_word e = cc e
-not_end _ signature_word e = cc e
-not_end _ players_word e = cc e
-not_end _ doubles_word e = cc e
-not_end _ game_word e = cc e
+-- the kind of the statements that begin with this bare word
+abbrev pub kind_named : List ℕ → Option Kind
+kind_named name =
+    if bytes_eq name (codes "import") then Some imports
+    else (if bytes_eq name (codes "wait") then Some waits
+    else (if bytes_eq name (codes "until") then Some awaits
+    else (if bytes_eq name (codes "search") then Some searches
+    else (if bytes_eq name (codes "kept") then Some counts
+    else (if bytes_eq name (codes "signature") then Some signs
+    else (if bytes_eq name (codes "players") then Some players
+    else (if bytes_eq name (codes "doubles") then Some doubles
+    else (if bytes_eq name (codes "game") then Some shows
+    else (if bytes_eq name (codes "report") then Some reports
+    else (if bytes_eq name (codes "retire") then Some retires
+    else None))))))))))
+
+-- the statement is of this kind
+abbrev pub IsOfKind : Option Kind → Statement → Type 0
+IsOfKind (Some imports) s = (path : List ℕ) × (s ≡ statement.Import path)
+IsOfKind (Some waits) s = s ≡ statement.Wait
+IsOfKind (Some awaits) s = (number : ℕ) × (s ≡ statement.Until number)
+IsOfKind (Some searches) s = IsSearch s
+IsOfKind (Some counts) s = (query : Query) × (s ≡ statement.Kept query)
+IsOfKind (Some signs) s = (pattern : SigPattern) × (s ≡ statement.Signature pattern)
+IsOfKind (Some players) s = s ≡ statement.Players
+IsOfKind (Some doubles) s = s ≡ statement.Doubles
+IsOfKind (Some shows) s = (number : ℕ) × (s ≡ statement.Game number)
+IsOfKind (Some reports) s = s ≡ statement.Report
+IsOfKind (Some retires) s = (name : List ℕ) × (s ≡ statement.Retire name)
+IsOfKind None s = Unit {0}
+
+of_kind : (s : Statement) → IsOfKind (kind_of s) s
+of_kind (statement.Import path) = (path, refl)
+of_kind statement.Wait = refl
+of_kind (statement.Until number) = (number, refl)
+of_kind (statement.Search query filter) = (query, filter, refl)
+of_kind (statement.Together others) = tt
+of_kind (statement.Kept query) = (query, refl)
+of_kind (statement.Signature pattern) = (pattern, refl)
+of_kind statement.Players = refl
+of_kind statement.Doubles = refl
+of_kind (statement.Game number) = (number, refl)
+of_kind statement.Report = refl
+of_kind (statement.Retire name) = (name, refl)
+
+-- the words begin with a bare word that names the kind of the statement
+record IsNamed (words : List Word) (s : Statement) : Type 0 where
+  name : List ℕ
+  rest : List Word
+  kind : Kind
+  begins : words ≡ bare name ∷ rest
+  names : kind_named name ≡ Some kind
+  is_kind : kind_of s ≡ Some kind
+
+name_of : (words : List Word) (s : Statement) → IsStatement words s → IsNamed words s
+name_of words (statement.Import path) (w, is, path_is) = record { name = codes "import"; rest = w ∷ []; kind = imports; begins = is; names = refl; is_kind = refl }
+name_of words statement.Wait is = record { name = codes "wait"; rest = []; kind = waits; begins = is; names = refl; is_kind = refl }
+name_of words (statement.Until number) (w, is, number_is, bound) = record { name = codes "until"; rest = w ∷ []; kind = awaits; begins = is; names = refl; is_kind = refl }
+name_of words (statement.Search query filter) (body, is, spelled) = record { name = codes "search"; rest = body; kind = searches; begins = is; names = refl; is_kind = refl }
+name_of words (statement.Together others) is = absurd is
+name_of words (statement.Kept query) (body, is, spelled) = record { name = codes "kept"; rest = body; kind = counts; begins = is; names = refl; is_kind = refl }
+name_of words (statement.Signature pattern) (is, pattern_is) = record { name = codes "signature"; rest = bare pattern.bytes ∷ []; kind = signs; begins = is; names = refl; is_kind = refl }
+name_of words statement.Players is = record { name = codes "players"; rest = []; kind = players; begins = is; names = refl; is_kind = refl }
+name_of words statement.Doubles is = record { name = codes "doubles"; rest = []; kind = doubles; begins = is; names = refl; is_kind = refl }
+name_of words (statement.Game number) (w, is, number_is, bound) = record { name = codes "game"; rest = w ∷ []; kind = shows; begins = is; names = refl; is_kind = refl }
+name_of words statement.Report is = record { name = codes "report"; rest = []; kind = reports; begins = is; names = refl; is_kind = refl }
+name_of words (statement.Retire name) (is, utf8) = record { name = codes "retire"; rest = bare name ∷ []; kind = retires; begins = is; names = refl; is_kind = refl }
+
+-- words that begin with a name spell a statement of its kind
+pub of_name : (words rest : List Word) (name : List ℕ) (s : Statement) → words ≡ bare name ∷ rest → IsStatement words s → IsOfKind (kind_named name) s
+of_name words rest name s is spelled =
+    let own = name_of words s spelled in
+    let both : bare own.name ∷ own.rest ≡ bare name ∷ rest = sym own.begins ∙ is in
+    let same : own.name ≡ name = cc in
+    subst (λ k. IsOfKind k s) (own.is_kind ∙ sym own.names ∙ ap kind_named same) (of_kind s)
+
+-- words that begin with another name spell no statement
+pub no_name : (words rest : List Word) (name : List ℕ) (s : Statement) → kind_named name ≡ None → words ≡ bare name ∷ rest → ¬ IsStatement words s
+no_name words rest name s none is spelled =
+    let own = name_of words s spelled in
+    let both : bare own.name ∷ own.rest ≡ bare name ∷ rest = sym own.begins ∙ is in
+    let same : own.name ≡ name = cc in
+    let apart : None ≡ Some own.kind = sym none ∙ ap kind_named (sym same) ∙ own.names in
+    absurd (cc apart)
 
 other_first : (a b : ℕ) (x y : List ℕ) → a ≢ b → a ∷ x ≢ b ∷ y
 other_first a b x y differ e = let first : a ≡ b = cc in differ first
-
-not_comment : (name rest : List ℕ) → IsKeyword name → name ≢ 35 ∷ rest
-not_comment _ rest import_word = other_first 105 35 _ rest (λ e. omega (arith, e))
-not_comment _ rest wait_word = other_first 119 35 _ rest (λ e. omega (arith, e))
-not_comment _ rest until_word = other_first 117 35 _ rest (λ e. omega (arith, e))
-not_comment _ rest search_word = other_first 115 35 _ rest (λ e. omega (arith, e))
-not_comment _ rest kept_word = other_first 107 35 _ rest (λ e. omega (arith, e))
-not_comment _ rest signature_word = other_first 115 35 _ rest (λ e. omega (arith, e))
-not_comment _ rest players_word = other_first 112 35 _ rest (λ e. omega (arith, e))
-not_comment _ rest doubles_word = other_first 100 35 _ rest (λ e. omega (arith, e))
-not_comment _ rest game_word = other_first 103 35 _ rest (λ e. omega (arith, e))
-
--- one word is no statement but for its own name
-pub one_word : (words : List Word) (name : List ℕ) (s : Statement) → ((other : List ℕ) → IsKeyword other → other ≢ name) → words ≡ bare name ∷ [] → ¬ IsStatement words s
-one_word words name s differs is spelled =
-    let (other, rest, begins, key) = keyword_of words s spelled in
-    let both : bare other ∷ rest ≡ bare name ∷ [] = sym begins ∙ is in
-    let same : other ≡ name = cc in
-    differs other key same
-
--- words with different names
-pub two_names : (a b : ℕ) (x y : List ℕ) (words one other : List Word) → words ≡ bare (a ∷ x) ∷ one → words ≡ bare (b ∷ y) ∷ other → a ≢ b → ⊥
-two_names a b x y words one other is is' differ =
-    let both : bare (a ∷ x) ∷ one ≡ bare (b ∷ y) ∷ other = sym is ∙ is' in
-    let first : a ≡ b = cc in
-    differ first
-
--- the names of a search and of a question for signatures
-pub search_or_signature : (words one other : List Word) → words ≡ bare (codes "search") ∷ one → words ≡ bare (codes "signature") ∷ other → ⊥
-search_or_signature words one other is is' =
-    let both : bare (codes "search") ∷ one ≡ bare (codes "signature") ∷ other = sym is ∙ is' in
-    let second : ◌≡◌ {A = ℕ} 101 105 = cc in
-    omega (arith, second)
-
--- words that spell a search spell no other statement
-pub search_alone : (words body : List Word) (s : Statement) → words ≡ bare (codes "search") ∷ body → IsStatement words s → IsSearch s
-search_alone words body (statement.Import path) name (w, is, path_is) = absurd (two_names 115 105 _ _ words body _ name is (λ e. omega (arith, e)))
-search_alone words body statement.Wait name is = absurd (two_names 115 119 _ _ words body _ name is (λ e. omega (arith, e)))
-search_alone words body (statement.Until number) name (w, is, number_is, bound) = absurd (two_names 115 117 _ _ words body _ name is (λ e. omega (arith, e)))
-search_alone words body (statement.Search query filter) name is = (query, filter, refl)
-search_alone words body (statement.Together searches) name is = absurd is
-search_alone words body (statement.Kept query) name (rest, is, spelled) = absurd (two_names 115 107 _ _ words body _ name is (λ e. omega (arith, e)))
-search_alone words body (statement.Signature pattern) name (is, pattern_is) = absurd (search_or_signature words body _ name is)
-search_alone words body statement.Players name is = absurd (two_names 115 112 _ _ words body _ name is (λ e. omega (arith, e)))
-search_alone words body statement.Doubles name is = absurd (two_names 115 100 _ _ words body _ name is (λ e. omega (arith, e)))
-search_alone words body (statement.Game number) name (w, is, number_is, bound) = absurd (two_names 115 103 _ _ words body _ name is (λ e. omega (arith, e)))
 
 -- a line that spells a search spells no other statement
 pub SpellsStatement-search : (text : List ℕ) (s other : Statement) → SpellsStatement text s → SpellsStatement text other → IsSearch other → IsSearch s
 SpellsStatement-search text s other (words, are, spelled) (others, are_others, spelled_other) (query, filter, is) =
     let (body, name, is_body) = subst (IsStatement others) is spelled_other in
-    search_alone words body s (AreWords-once text words others are are_others ∙ name) spelled
+    of_name words body (codes "search") s (AreWords-once text words others are are_others ∙ name) spelled
 
 -- ---- skipped lines
 
@@ -180,8 +208,9 @@ skipped-line text skip = (
   (λ together. skipped-no_name text (codes "together") (bare (codes "together") ∷ []) [] skip together (λ more. other_first 116 35 _ more (λ e. omega (arith, e))) refl),
   (λ end. skipped-no_name text (codes "end") (bare (codes "end") ∷ []) [] skip end (λ more. other_first 101 35 _ more (λ e. omega (arith, e))) refl),
   (λ s (words, are, spelled).
-      let (name, rest, begins, key) = keyword_of words s spelled in
-      skipped-no_name text name words rest skip are (λ more. not_comment name more key) begins),
+      let own = name_of words s spelled in
+      skipped-no_name text own.name words own.rest skip are
+      (λ more comment. let apart : None ≡ Some own.kind = ap kind_named (sym comment) ∙ own.names in absurd (cc apart)) own.begins),
 )
 
 -- ---- other lines
@@ -192,7 +221,7 @@ together-line text words are shown is = (
   subst (AreWords text) is are,
   shown,
   (λ end. let both : bare (codes "end") ∷ [] ≡ bare (codes "together") ∷ [] = AreWords-once text (bare (codes "end") ∷ []) words end are ∙ is in absurd (cc both)),
-  (λ s (others, are_others, spelled). one_word others (codes "together") s not_together (AreWords-once text others words are_others are ∙ is) spelled),
+  (λ s (others, are_others, spelled). no_name others [] (codes "together") s refl (AreWords-once text others words are_others are ∙ is) spelled),
 )
 
 -- the end of a block
@@ -201,7 +230,7 @@ end-line text words are shown is = (
   subst (AreWords text) is are,
   shown,
   (λ together. let both : bare (codes "together") ∷ [] ≡ bare (codes "end") ∷ [] = AreWords-once text (bare (codes "together") ∷ []) words together are ∙ is in absurd (cc both)),
-  (λ s (others, are_others, spelled). one_word others (codes "end") s not_end (AreWords-once text others words are_others are ∙ is) spelled),
+  (λ s (others, are_others, spelled). no_name others [] (codes "end") s refl (AreWords-once text others words are_others are ∙ is) spelled),
 )
 
 -- a statement

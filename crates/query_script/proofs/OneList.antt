@@ -1,5 +1,5 @@
 -- Lines have one list of statements and one least bad line, and not both.
-use Rattle.std.proofs.Common.{◌≡◌, ◌<◌, ◌∙◌, ℕ, inl, inr, List, [], ◌∷◌, codes, length, get_or, ap, subst, arith}
+use Rattle.std.proofs.Common.{◌≡◌, ◌<◌, ◌∙◌, ℕ, inl, inr, List, [], ◌∷◌, codes, length, get_or, refl, ap, subst, arith}
 use Rattle.std.specs.List.{AllPairs, Any}
 use Rattle.std.specs.Prelude.{Contains}
 use Rattle.std.proofs.lemmas.Bool.{cases_lt}
@@ -14,7 +14,7 @@ use Rattle.query_script.specs.declared.statement.Statement.TheVariants as statem
 use Rattle.query_script.specs.Script.{AreSearchesOf, AreStatements, IsLeastBadLine, IsPlacedAt, IsSearchOf, StandsAlone, IsStatementAt, line_at}
 use Rattle.query_script.specs.Statements.{IsStatement, SpellsStatement, SpellsSearch, SpellsTogether}
 use Rattle.query_script.specs.Words.{bare}
-use Rattle.query_script.proofs.LineStatements.{not_together, one_word}
+use Rattle.query_script.proofs.LineStatements.{no_name}
 use Rattle.query_script.proofs.LineWords.{AreWords-once}
 use Rattle.query_script.proofs.ToldStatements.{statement_once}
 
@@ -38,7 +38,7 @@ search_once text p q f g one other = same_search p q f g (spells_once text (stat
 -- a line that begins a block spells no statement
 not_both : (text : List ℕ) (s : Statement) → SpellsTogether text → SpellsStatement text s → ⊥
 not_both text s together (words, are, is) =
-    one_word words (codes "together") s not_together (AreWords-once text words (bare (codes "together") ∷ []) are together) is
+    no_name words [] (codes "together") s refl (AreWords-once text words (bare (codes "together") ∷ []) are together) is
 
 -- ---- lists in order of lines
 
@@ -101,6 +101,8 @@ module _ (lines : List (List ℕ)) where
   alone_once k s statement.Players one other = spells_once (line_at lines k) s statement.Players one.spelled other.spelled
   alone_once k s statement.Doubles one other = spells_once (line_at lines k) s statement.Doubles one.spelled other.spelled
   alone_once k s (statement.Game number) one other = spells_once (line_at lines k) s (statement.Game number) one.spelled other.spelled
+  alone_once k s statement.Report one other = spells_once (line_at lines k) s statement.Report one.spelled other.spelled
+  alone_once k s (statement.Retire name) one other = spells_once (line_at lines k) s (statement.Retire name) one.spelled other.spelled
 
   block_once : (k : ℕ) (searches : List PlacedSearch) (t : Statement) → IsStatementAt lines k (statement.Together searches) → IsStatementAt lines k t →
       statement.Together searches ≡ t
@@ -114,6 +116,8 @@ module _ (lines : List (List ℕ)) where
   block_once k searches statement.Players one other = absurd (not_both (line_at lines k) statement.Players one.0 other.spelled)
   block_once k searches statement.Doubles one other = absurd (not_both (line_at lines k) statement.Doubles one.0 other.spelled)
   block_once k searches (statement.Game number) one other = absurd (not_both (line_at lines k) (statement.Game number) one.0 other.spelled)
+  block_once k searches statement.Report one other = absurd (not_both (line_at lines k) statement.Report one.0 other.spelled)
+  block_once k searches (statement.Retire name) one other = absurd (not_both (line_at lines k) (statement.Retire name) one.0 other.spelled)
 
   stands_once : (k : ℕ) (s t : Statement) → IsStatementAt lines k s → IsStatementAt lines k t → s ≡ t
   stands_once k (statement.Import path) t one other = alone_once k (statement.Import path) t one other
@@ -126,6 +130,8 @@ module _ (lines : List (List ℕ)) where
   stands_once k statement.Players t one other = alone_once k statement.Players t one other
   stands_once k statement.Doubles t one other = alone_once k statement.Doubles t one other
   stands_once k (statement.Game number) t one other = alone_once k (statement.Game number) t one other
+  stands_once k statement.Report t one other = alone_once k statement.Report t one other
+  stands_once k (statement.Retire name) t one other = alone_once k (statement.Retire name) t one other
 
   same_placed : (p q : Placed) → p.line ≡ q.line → p.statement ≡ q.statement → p ≡ q
   same_placed p q line statement =

@@ -25,6 +25,8 @@ stands_cases (statement.Signature pattern) h = inl h
 stands_cases statement.Players h = inl h
 stands_cases statement.Doubles h = inl h
 stands_cases (statement.Game number) h = inl h
+stands_cases statement.Report h = inl h
+stands_cases (statement.Retire name) h = inl h
 
 -- what a line outside blocks spells stands there alone
 stands_there : {lines : List (List ℕ)} {k : ℕ} (s : Statement) → SpellsStatement (line_at lines k) s → ((j : ℕ) → ¬ IsInBlock lines j k) → IsStatementAt lines k s
@@ -38,6 +40,8 @@ stands_there (statement.Signature pattern) h outside = record { spelled = h; out
 stands_there statement.Players h outside = record { spelled = h; outside = outside }
 stands_there statement.Doubles h outside = record { spelled = h; outside = outside }
 stands_there (statement.Game number) h outside = record { spelled = h; outside = outside }
+stands_there statement.Report h outside = record { spelled = h; outside = outside }
+stands_there (statement.Retire name) h outside = record { spelled = h; outside = outside }
 
 module _ (lines : List (List ℕ)) where
   -- nothing is read yet

@@ -19,11 +19,10 @@ use Rattle.query_script.specs.Reading.{BeginsOtherwise}
 use Rattle.query_script.specs.Search.{IsKeptBody}
 use Rattle.query_script.specs.Statements.{IsPath, IsSignaturePattern, IsStatement, most_number}
 use Rattle.query_script.specs.Words.{IsNumber, bare, bytes_of}
-use Rattle.query_script.proofs.LineStatements.{search_alone, search_or_signature, two_names}
+use Rattle.query_script.proofs.LineStatements.{of_name}
 use Rattle.query_script.proofs.Numbers.{IsNumber-once}
 use Rattle.query_script.proofs.FilteredBodies.{told_filtered_body}
 use Rattle.query_script.proofs.KeptBodies.{told_kept_body}
-use Rattle.pattern_images.specs.declared.query.Query.{Query}
 use Rattle.query_script.proofs.ToldSearches.{behind_name, same_bare, same_first, told_name, told_up_to}
 
 -- the statement that words spell, and no other
@@ -35,104 +34,6 @@ NoStatement words = (s : Statement) → IsStatement words s → ⊥
 
 abbrev pub ToldStatement : List Word → Type 0
 ToldStatement words = HasStatement words ⊎ NoStatement words
-
--- ---- words that begin with the name of a statement spell no other kind
-
-import_alone : (words rest : List Word) (s : Statement) → words ≡ bare (codes "import") ∷ rest → IsStatement words s → (path : List ℕ) × (s ≡ statement.Import path)
-import_alone words rest (statement.Import path) name told = (path, refl)
-import_alone words rest statement.Wait name is = absurd (two_names 105 119 _ _ words rest _ name is (λ e. omega (arith, e)))
-import_alone words rest (statement.Until number) name (w, is, number_is, bound) = absurd (two_names 105 117 _ _ words rest _ name is (λ e. omega (arith, e)))
-import_alone words rest (statement.Search query filter) name (body, is, spelled) = absurd (two_names 105 115 _ _ words rest _ name is (λ e. omega (arith, e)))
-import_alone words rest (statement.Signature pattern) name (is, pattern_is) = absurd (two_names 105 115 _ _ words rest _ name is (λ e. omega (arith, e)))
-import_alone words rest statement.Players name is = absurd (two_names 105 112 _ _ words rest _ name is (λ e. omega (arith, e)))
-import_alone words rest statement.Doubles name is = absurd (two_names 105 100 _ _ words rest _ name is (λ e. omega (arith, e)))
-import_alone words rest (statement.Game number) name (w, is, number_is, bound) = absurd (two_names 105 103 _ _ words rest _ name is (λ e. omega (arith, e)))
-import_alone words rest (statement.Kept query) name (body, is, spelled) = absurd (two_names 105 107 _ _ words rest _ name is (λ e. omega (arith, e)))
-import_alone words rest (statement.Together searches) name told = absurd told
-
-wait_alone : (words rest : List Word) (s : Statement) → words ≡ bare (codes "wait") ∷ rest → IsStatement words s → s ≡ statement.Wait
-wait_alone words rest (statement.Import path) name (w, is, path_is) = absurd (two_names 119 105 _ _ words rest _ name is (λ e. omega (arith, e)))
-wait_alone words rest statement.Wait name told = refl
-wait_alone words rest (statement.Until number) name (w, is, number_is, bound) = absurd (two_names 119 117 _ _ words rest _ name is (λ e. omega (arith, e)))
-wait_alone words rest (statement.Search query filter) name (body, is, spelled) = absurd (two_names 119 115 _ _ words rest _ name is (λ e. omega (arith, e)))
-wait_alone words rest (statement.Signature pattern) name (is, pattern_is) = absurd (two_names 119 115 _ _ words rest _ name is (λ e. omega (arith, e)))
-wait_alone words rest statement.Players name is = absurd (two_names 119 112 _ _ words rest _ name is (λ e. omega (arith, e)))
-wait_alone words rest statement.Doubles name is = absurd (two_names 119 100 _ _ words rest _ name is (λ e. omega (arith, e)))
-wait_alone words rest (statement.Game number) name (w, is, number_is, bound) = absurd (two_names 119 103 _ _ words rest _ name is (λ e. omega (arith, e)))
-wait_alone words rest (statement.Kept query) name (body, is, spelled) = absurd (two_names 119 107 _ _ words rest _ name is (λ e. omega (arith, e)))
-wait_alone words rest (statement.Together searches) name told = absurd told
-
-until_alone : (words rest : List Word) (s : Statement) → words ≡ bare (codes "until") ∷ rest → IsStatement words s → (number : ℕ) × (s ≡ statement.Until number)
-until_alone words rest (statement.Import path) name (w, is, path_is) = absurd (two_names 117 105 _ _ words rest _ name is (λ e. omega (arith, e)))
-until_alone words rest statement.Wait name is = absurd (two_names 117 119 _ _ words rest _ name is (λ e. omega (arith, e)))
-until_alone words rest (statement.Until number) name told = (number, refl)
-until_alone words rest (statement.Search query filter) name (body, is, spelled) = absurd (two_names 117 115 _ _ words rest _ name is (λ e. omega (arith, e)))
-until_alone words rest (statement.Signature pattern) name (is, pattern_is) = absurd (two_names 117 115 _ _ words rest _ name is (λ e. omega (arith, e)))
-until_alone words rest statement.Players name is = absurd (two_names 117 112 _ _ words rest _ name is (λ e. omega (arith, e)))
-until_alone words rest statement.Doubles name is = absurd (two_names 117 100 _ _ words rest _ name is (λ e. omega (arith, e)))
-until_alone words rest (statement.Game number) name (w, is, number_is, bound) = absurd (two_names 117 103 _ _ words rest _ name is (λ e. omega (arith, e)))
-until_alone words rest (statement.Kept query) name (body, is, spelled) = absurd (two_names 117 107 _ _ words rest _ name is (λ e. omega (arith, e)))
-until_alone words rest (statement.Together searches) name told = absurd told
-
-kept_alone : (words rest : List Word) (s : Statement) → words ≡ bare (codes "kept") ∷ rest → IsStatement words s → (query : Query) × (s ≡ statement.Kept query)
-kept_alone words rest (statement.Import path) name (w, is, path_is) = absurd (two_names 107 105 _ _ words rest _ name is (λ e. omega (arith, e)))
-kept_alone words rest statement.Wait name is = absurd (two_names 107 119 _ _ words rest _ name is (λ e. omega (arith, e)))
-kept_alone words rest (statement.Until number) name (w, is, number_is, bound) = absurd (two_names 107 117 _ _ words rest _ name is (λ e. omega (arith, e)))
-kept_alone words rest (statement.Search query filter) name (body, is, spelled) = absurd (two_names 107 115 _ _ words rest _ name is (λ e. omega (arith, e)))
-kept_alone words rest (statement.Signature pattern) name (is, pattern_is) = absurd (two_names 107 115 _ _ words rest _ name is (λ e. omega (arith, e)))
-kept_alone words rest statement.Players name is = absurd (two_names 107 112 _ _ words rest _ name is (λ e. omega (arith, e)))
-kept_alone words rest statement.Doubles name is = absurd (two_names 107 100 _ _ words rest _ name is (λ e. omega (arith, e)))
-kept_alone words rest (statement.Game number) name (w, is, number_is, bound) = absurd (two_names 107 103 _ _ words rest _ name is (λ e. omega (arith, e)))
-kept_alone words rest (statement.Kept query) name told = (query, refl)
-kept_alone words rest (statement.Together searches) name told = absurd told
-
-signature_alone : (words rest : List Word) (s : Statement) → words ≡ bare (codes "signature") ∷ rest → IsStatement words s → (pattern : SigPattern) × (s ≡ statement.Signature pattern)
-signature_alone words rest (statement.Import path) name (w, is, path_is) = absurd (two_names 115 105 _ _ words rest _ name is (λ e. omega (arith, e)))
-signature_alone words rest statement.Wait name is = absurd (two_names 115 119 _ _ words rest _ name is (λ e. omega (arith, e)))
-signature_alone words rest (statement.Until number) name (w, is, number_is, bound) = absurd (two_names 115 117 _ _ words rest _ name is (λ e. omega (arith, e)))
-signature_alone words rest (statement.Search query filter) name (body, is, spelled) = absurd (search_or_signature words _ rest is name)
-signature_alone words rest (statement.Signature pattern) name told = (pattern, refl)
-signature_alone words rest statement.Players name is = absurd (two_names 115 112 _ _ words rest _ name is (λ e. omega (arith, e)))
-signature_alone words rest statement.Doubles name is = absurd (two_names 115 100 _ _ words rest _ name is (λ e. omega (arith, e)))
-signature_alone words rest (statement.Game number) name (w, is, number_is, bound) = absurd (two_names 115 103 _ _ words rest _ name is (λ e. omega (arith, e)))
-signature_alone words rest (statement.Kept query) name (body, is, spelled) = absurd (two_names 115 107 _ _ words rest _ name is (λ e. omega (arith, e)))
-signature_alone words rest (statement.Together searches) name told = absurd told
-
-players_alone : (words rest : List Word) (s : Statement) → words ≡ bare (codes "players") ∷ rest → IsStatement words s → s ≡ statement.Players
-players_alone words rest (statement.Import path) name (w, is, path_is) = absurd (two_names 112 105 _ _ words rest _ name is (λ e. omega (arith, e)))
-players_alone words rest statement.Wait name is = absurd (two_names 112 119 _ _ words rest _ name is (λ e. omega (arith, e)))
-players_alone words rest (statement.Until number) name (w, is, number_is, bound) = absurd (two_names 112 117 _ _ words rest _ name is (λ e. omega (arith, e)))
-players_alone words rest (statement.Search query filter) name (body, is, spelled) = absurd (two_names 112 115 _ _ words rest _ name is (λ e. omega (arith, e)))
-players_alone words rest (statement.Signature pattern) name (is, pattern_is) = absurd (two_names 112 115 _ _ words rest _ name is (λ e. omega (arith, e)))
-players_alone words rest statement.Players name told = refl
-players_alone words rest statement.Doubles name is = absurd (two_names 112 100 _ _ words rest _ name is (λ e. omega (arith, e)))
-players_alone words rest (statement.Game number) name (w, is, number_is, bound) = absurd (two_names 112 103 _ _ words rest _ name is (λ e. omega (arith, e)))
-players_alone words rest (statement.Kept query) name (body, is, spelled) = absurd (two_names 112 107 _ _ words rest _ name is (λ e. omega (arith, e)))
-players_alone words rest (statement.Together searches) name told = absurd told
-
-doubles_alone : (words rest : List Word) (s : Statement) → words ≡ bare (codes "doubles") ∷ rest → IsStatement words s → s ≡ statement.Doubles
-doubles_alone words rest (statement.Import path) name (w, is, path_is) = absurd (two_names 100 105 _ _ words rest _ name is (λ e. omega (arith, e)))
-doubles_alone words rest statement.Wait name is = absurd (two_names 100 119 _ _ words rest _ name is (λ e. omega (arith, e)))
-doubles_alone words rest (statement.Until number) name (w, is, number_is, bound) = absurd (two_names 100 117 _ _ words rest _ name is (λ e. omega (arith, e)))
-doubles_alone words rest (statement.Search query filter) name (body, is, spelled) = absurd (two_names 100 115 _ _ words rest _ name is (λ e. omega (arith, e)))
-doubles_alone words rest (statement.Signature pattern) name (is, pattern_is) = absurd (two_names 100 115 _ _ words rest _ name is (λ e. omega (arith, e)))
-doubles_alone words rest statement.Players name is = absurd (two_names 100 112 _ _ words rest _ name is (λ e. omega (arith, e)))
-doubles_alone words rest statement.Doubles name told = refl
-doubles_alone words rest (statement.Game number) name (w, is, number_is, bound) = absurd (two_names 100 103 _ _ words rest _ name is (λ e. omega (arith, e)))
-doubles_alone words rest (statement.Kept query) name (body, is, spelled) = absurd (two_names 100 107 _ _ words rest _ name is (λ e. omega (arith, e)))
-doubles_alone words rest (statement.Together searches) name told = absurd told
-
-game_alone : (words rest : List Word) (s : Statement) → words ≡ bare (codes "game") ∷ rest → IsStatement words s → (number : ℕ) × (s ≡ statement.Game number)
-game_alone words rest (statement.Import path) name (w, is, path_is) = absurd (two_names 103 105 _ _ words rest _ name is (λ e. omega (arith, e)))
-game_alone words rest statement.Wait name is = absurd (two_names 103 119 _ _ words rest _ name is (λ e. omega (arith, e)))
-game_alone words rest (statement.Until number) name (w, is, number_is, bound) = absurd (two_names 103 117 _ _ words rest _ name is (λ e. omega (arith, e)))
-game_alone words rest (statement.Search query filter) name (body, is, spelled) = absurd (two_names 103 115 _ _ words rest _ name is (λ e. omega (arith, e)))
-game_alone words rest (statement.Signature pattern) name (is, pattern_is) = absurd (two_names 103 115 _ _ words rest _ name is (λ e. omega (arith, e)))
-game_alone words rest statement.Players name is = absurd (two_names 103 112 _ _ words rest _ name is (λ e. omega (arith, e)))
-game_alone words rest statement.Doubles name is = absurd (two_names 103 100 _ _ words rest _ name is (λ e. omega (arith, e)))
-game_alone words rest (statement.Game number) name told = (number, refl)
-game_alone words rest (statement.Kept query) name (body, is, spelled) = absurd (two_names 103 107 _ _ words rest _ name is (λ e. omega (arith, e)))
-game_alone words rest (statement.Together searches) name told = absurd told
 
 -- ---- what stands behind a name
 
@@ -149,10 +50,23 @@ told_test : (b : Bool) (P : Type 0) → (b ≡ true → P) → (P → b ≡ true
 told_test true P there back = inl (there refl)
 told_test false P there back = inr (λ p. let apart : false ≡ true = back p in cc)
 
+told_utf8 : (bytes : List ℕ) → Told (IsUtf8 bytes)
+told_utf8 bytes = told_test (is_utf8 bytes) (IsUtf8 bytes) (IsUtf8-from_is_utf8 bytes) (is_utf8-from_IsUtf8 bytes)
+
+-- one bare word, or not
+told_single_bare : (words : List Word) → ((bytes : List ℕ) × (words ≡ bare bytes ∷ [])) ⊎ ((bytes : List ℕ) → words ≢ bare bytes ∷ [])
+told_single_bare [] = inr (λ bytes e. absurd (cc e))
+told_single_bare ((word.Bare bytes) ∷ []) = inl (bytes, refl)
+told_single_bare ((word.Quoted bytes) ∷ []) = inr (λ other e. let first : word.Quoted bytes ≡ bare other = same_first (word.Quoted bytes) (bare other) [] [] e in absurd (cc first))
+told_single_bare (w ∷ v ∷ rest) = inr (λ bytes e. absurd (cc e))
+
+single_bare_once : (words : List Word) (a b : List ℕ) → words ≡ bare a ∷ [] → words ≡ bare b ∷ [] → a ≡ b
+single_bare_once words a b one other = same_bare a b (single_once words (bare a) (bare b) one other)
+
 told_path : (w : Word) → Told (IsPath w (bytes_of w))
 told_path w = elim (cases_lt 0 (length (bytes_of w))) [
   | inr none ↦ inr (λ h. omega (arith, h.some))
-  | inl some ↦ elim (told_test (is_utf8 (bytes_of w)) (IsUtf8 (bytes_of w)) (IsUtf8-from_is_utf8 (bytes_of w)) (is_utf8-from_IsUtf8 (bytes_of w))) [
+  | inl some ↦ elim (told_utf8 (bytes_of w)) [
     | inr never ↦ inr (λ h. never h.utf8)
     | inl utf8 ↦ inl (record { bytes = refl; some = some; utf8 = utf8 })
   ]
@@ -200,12 +114,12 @@ behind_single name words rest w v is single other =
 import_there : (words rest : List Word) → words ≡ bare (codes "import") ∷ rest → ToldStatement words
 import_there words rest name = elim (told_single rest) [
   | inr never ↦ inr (λ s is.
-      let (path, same) = import_alone words rest s name is in
+      let (path, same) = of_name words rest (codes "import") s name is in
       let (w, both, path_is) = subst (IsStatement words) same is in
       never w (behind_name (codes "import") words rest (w ∷ []) name both))
   | inl (w, single) ↦ elim (told_path w) [
     | inr never ↦ inr (λ s is.
-        let (path, same) = import_alone words rest s name is in
+        let (path, same) = of_name words rest (codes "import") s name is in
         let (v, both, path_is) = subst (IsStatement words) same is in
         let one : v ≡ w = behind_single (codes "import") words rest w v name single both in
         let bytes : path ≡ bytes_of w = sym path_is.bytes ∙ ap bytes_of one in
@@ -214,7 +128,7 @@ import_there words rest name = elim (told_single rest) [
       statement.Import (bytes_of w),
       (w, name ∙ ap (λ l. bare (codes "import") ∷ l) single, path_is),
       λ s is.
-          let (path, same) = import_alone words rest s name is in
+          let (path, same) = of_name words rest (codes "import") s name is in
           let (v, both, is_path) = subst (IsStatement words) same is in
           let one : v ≡ w = behind_single (codes "import") words rest w v name single both in
           same ∙ ap (λ p. statement.Import p) (sym is_path.bytes ∙ ap bytes_of one),
@@ -232,27 +146,31 @@ name_there name s words (w ∷ rest) is spells alone = inr (λ t told.
 
 wait_there : (words rest : List Word) → words ≡ bare (codes "wait") ∷ rest → ToldStatement words
 wait_there words rest name = name_there (codes "wait") statement.Wait words rest name (λ l e. e)
-    (λ l more t is told. let same = wait_alone l more t is told in (same, subst (IsStatement l) same told))
+    (λ l more t is told. let same = of_name l more (codes "wait") t is told in (same, subst (IsStatement l) same told))
 
 players_there : (words rest : List Word) → words ≡ bare (codes "players") ∷ rest → ToldStatement words
 players_there words rest name = name_there (codes "players") statement.Players words rest name (λ l e. e)
-    (λ l more t is told. let same = players_alone l more t is told in (same, subst (IsStatement l) same told))
+    (λ l more t is told. let same = of_name l more (codes "players") t is told in (same, subst (IsStatement l) same told))
 
 doubles_there : (words rest : List Word) → words ≡ bare (codes "doubles") ∷ rest → ToldStatement words
 doubles_there words rest name = name_there (codes "doubles") statement.Doubles words rest name (λ l e. e)
-    (λ l more t is told. let same = doubles_alone l more t is told in (same, subst (IsStatement l) same told))
+    (λ l more t is told. let same = of_name l more (codes "doubles") t is told in (same, subst (IsStatement l) same told))
+
+report_there : (words rest : List Word) → words ≡ bare (codes "report") ∷ rest → ToldStatement words
+report_there words rest name = name_there (codes "report") statement.Report words rest name (λ l e. e)
+    (λ l more t is told. let same = of_name l more (codes "report") t is told in (same, subst (IsStatement l) same told))
 
 search_there : (words rest : List Word) → words ≡ bare (codes "search") ∷ rest → ToldStatement words
 search_there words rest name = elim (told_filtered_body rest) [
   | inr never ↦ inr (λ s is.
-      let (query, filter, same) = search_alone words rest s name is in
+      let (query, filter, same) = of_name words rest (codes "search") s name is in
       let (body, both, spelled) = subst (IsStatement words) same is in
       never query filter (subst (λ l. IsFilteredBody l query filter) (sym (behind_name (codes "search") words rest body name both)) spelled))
   | inl (query, filter, spelled, only) ↦ inl (
     statement.Search query filter,
     (rest, name, spelled),
     λ s is.
-        let (other, other_filter, same) = search_alone words rest s name is in
+        let (other, other_filter, same) = of_name words rest (codes "search") s name is in
         let (body, both, spelled_too) = subst (IsStatement words) same is in
         let here : IsFilteredBody rest other other_filter = subst (λ l. IsFilteredBody l other other_filter) (sym (behind_name (codes "search") words rest body name both)) spelled_too in
         let (queries, filters) = only other other_filter here in
@@ -263,14 +181,14 @@ search_there words rest name = elim (told_filtered_body rest) [
 kept_there : (words rest : List Word) → words ≡ bare (codes "kept") ∷ rest → ToldStatement words
 kept_there words rest name = elim (told_kept_body rest) [
   | inr never ↦ inr (λ s is.
-      let (query, same) = kept_alone words rest s name is in
+      let (query, same) = of_name words rest (codes "kept") s name is in
       let (body, both, spelled) = subst (IsStatement words) same is in
       never query (subst (λ l. IsKeptBody l query) (sym (behind_name (codes "kept") words rest body name both)) spelled))
   | inl (query, spelled, only) ↦ inl (
     statement.Kept query,
     (rest, name, spelled),
     λ s is.
-        let (other, same) = kept_alone words rest s name is in
+        let (other, same) = of_name words rest (codes "kept") s name is in
         let (body, both, spelled_too) = subst (IsStatement words) same is in
         let here : IsKeptBody rest other = subst (λ l. IsKeptBody l other) (sym (behind_name (codes "kept") words rest body name both)) spelled_too in
         same ∙ ap (λ q. statement.Kept q) (only other here),
@@ -285,47 +203,62 @@ same_pattern : (p q : SigPattern) → p.bytes ≡ q.bytes → p ≡ q
 same_pattern p q bytes = ap (λ l. record { bytes = l }) bytes
 
 signature_there : (words rest : List Word) → words ≡ bare (codes "signature") ∷ rest → ToldStatement words
-signature_there words [] name = inr (λ s is.
-    let (pattern, same) = signature_alone words [] s name is in
-    let (both, pattern_is) = subst (IsStatement words) same is in
-    let none : [] ≡ bare pattern.bytes ∷ [] = pattern_behind words [] pattern name both in
-    absurd (cc none))
-signature_there words (w ∷ v ∷ rest) name = inr (λ s is.
-    let (pattern, same) = signature_alone words (w ∷ v ∷ rest) s name is in
-    let (both, pattern_is) = subst (IsStatement words) same is in
-    let one : w ∷ v ∷ rest ≡ bare pattern.bytes ∷ [] = pattern_behind words (w ∷ v ∷ rest) pattern name both in
-    absurd (cc one))
-signature_there words ((word.Quoted bytes) ∷ []) name = inr (λ s is.
-    let (pattern, same) = signature_alone words (word.Quoted bytes ∷ []) s name is in
-    let (both, pattern_is) = subst (IsStatement words) same is in
-    let first : word.Quoted bytes ≡ bare pattern.bytes = same_first (word.Quoted bytes) (bare pattern.bytes) [] [] (pattern_behind words (word.Quoted bytes ∷ []) pattern name both) in
-    absurd (cc first))
-signature_there words ((word.Bare bytes) ∷ []) name = elim (told_signature_pattern bytes) [
+signature_there words rest name = elim (told_single_bare rest) [
   | inr never ↦ inr (λ s is.
-      let (pattern, same) = signature_alone words (bare bytes ∷ []) s name is in
+      let (pattern, same) = of_name words rest (codes "signature") s name is in
       let (both, pattern_is) = subst (IsStatement words) same is in
-      let one : bytes ≡ pattern.bytes = same_bare bytes pattern.bytes (same_first (bare bytes) (bare pattern.bytes) [] [] (pattern_behind words (bare bytes ∷ []) pattern name both)) in
-      never (subst IsSignaturePattern (sym one) pattern_is))
-  | inl pattern_is ↦ inl (
-    statement.Signature (record { bytes = bytes }),
-    (name, pattern_is),
-    λ s is.
-        let (pattern, same) = signature_alone words (bare bytes ∷ []) s name is in
-        let (both, _) = subst (IsStatement words) same is in
-        let one : bytes ≡ pattern.bytes = same_bare bytes pattern.bytes (same_first (bare bytes) (bare pattern.bytes) [] [] (pattern_behind words (bare bytes ∷ []) pattern name both)) in
-        same ∙ ap (λ p. statement.Signature p) (same_pattern pattern (record { bytes = bytes }) (sym one)),
-  )
+      never pattern.bytes (pattern_behind words rest pattern name both))
+  | inl (bytes, single) ↦ elim (told_signature_pattern bytes) [
+    | inr never ↦ inr (λ s is.
+        let (pattern, same) = of_name words rest (codes "signature") s name is in
+        let (both, pattern_is) = subst (IsStatement words) same is in
+        never (subst IsSignaturePattern (single_bare_once rest pattern.bytes bytes (pattern_behind words rest pattern name both) single) pattern_is))
+    | inl pattern_is ↦ inl (
+      statement.Signature (record { bytes = bytes }),
+      (name ∙ ap (λ l. bare (codes "signature") ∷ l) single, pattern_is),
+      λ s is.
+          let (pattern, same) = of_name words rest (codes "signature") s name is in
+          let (both, _) = subst (IsStatement words) same is in
+          same ∙ ap (λ p. statement.Signature p) (same_pattern pattern (record { bytes = bytes }) (single_bare_once rest pattern.bytes bytes (pattern_behind words rest pattern name both) single)),
+    )
+  ]
+]
+
+-- the name of a collector that is retired
+name_behind : (words rest : List Word) (name : List ℕ) → words ≡ bare (codes "retire") ∷ rest → words ≡ bare (codes "retire") ∷ bare name ∷ [] → rest ≡ bare name ∷ []
+name_behind words rest name begins both = behind_name (codes "retire") words rest (bare name ∷ []) begins both
+
+retire_there : (words rest : List Word) → words ≡ bare (codes "retire") ∷ rest → ToldStatement words
+retire_there words rest begins = elim (told_single_bare rest) [
+  | inr never ↦ inr (λ s is.
+      let (name, same) = of_name words rest (codes "retire") s begins is in
+      let (both, utf8) = subst (IsStatement words) same is in
+      never name (name_behind words rest name begins both))
+  | inl (bytes, single) ↦ elim (told_utf8 bytes) [
+    | inr never ↦ inr (λ s is.
+        let (name, same) = of_name words rest (codes "retire") s begins is in
+        let (both, utf8) = subst (IsStatement words) same is in
+        never (subst IsUtf8 (single_bare_once rest name bytes (name_behind words rest name begins both) single) utf8))
+    | inl utf8 ↦ inl (
+      statement.Retire bytes,
+      (begins ∙ ap (λ l. bare (codes "retire") ∷ l) single, utf8),
+      λ s is.
+          let (name, same) = of_name words rest (codes "retire") s begins is in
+          let (both, _) = subst (IsStatement words) same is in
+          same ∙ ap (λ n. statement.Retire n) (single_bare_once rest name bytes (name_behind words rest name begins both) single),
+    )
+  ]
 ]
 
 until_there : (words rest : List Word) → words ≡ bare (codes "until") ∷ rest → ToldStatement words
 until_there words rest name = elim (told_single rest) [
   | inr never ↦ inr (λ s is.
-      let (number, same) = until_alone words rest s name is in
+      let (number, same) = of_name words rest (codes "until") s name is in
       let (w, both, number_is, bound) = subst (IsStatement words) same is in
       never w (behind_name (codes "until") words rest (w ∷ []) name both))
   | inl (w, single) ↦ elim (told_up_to w most_number) [
     | inr never ↦ inr (λ s is.
-        let (number, same) = until_alone words rest s name is in
+        let (number, same) = of_name words rest (codes "until") s name is in
         let (v, both, number_is, bound) = subst (IsStatement words) same is in
         let one : v ≡ w = behind_single (codes "until") words rest w v name single both in
         never number (subst (λ u. IsNumber u number) one number_is) bound)
@@ -333,7 +266,7 @@ until_there words rest name = elim (told_single rest) [
       statement.Until number,
       (w, name ∙ ap (λ l. bare (codes "until") ∷ l) single, number_is, bound),
       λ s is.
-          let (other, same) = until_alone words rest s name is in
+          let (other, same) = of_name words rest (codes "until") s name is in
           let (v, both, other_is, _) = subst (IsStatement words) same is in
           let one : v ≡ w = behind_single (codes "until") words rest w v name single both in
           same ∙ ap (λ n. statement.Until n) (IsNumber-once w other number (subst (λ u. IsNumber u other) one other_is) number_is),
@@ -344,12 +277,12 @@ until_there words rest name = elim (told_single rest) [
 game_there : (words rest : List Word) → words ≡ bare (codes "game") ∷ rest → ToldStatement words
 game_there words rest name = elim (told_single rest) [
   | inr never ↦ inr (λ s is.
-      let (number, same) = game_alone words rest s name is in
+      let (number, same) = of_name words rest (codes "game") s name is in
       let (w, both, number_is, bound) = subst (IsStatement words) same is in
       never w (behind_name (codes "game") words rest (w ∷ []) name both))
   | inl (w, single) ↦ elim (told_up_to w most_number) [
     | inr never ↦ inr (λ s is.
-        let (number, same) = game_alone words rest s name is in
+        let (number, same) = of_name words rest (codes "game") s name is in
         let (v, both, number_is, bound) = subst (IsStatement words) same is in
         let one : v ≡ w = behind_single (codes "game") words rest w v name single both in
         never number (subst (λ u. IsNumber u number) one number_is) bound)
@@ -357,7 +290,7 @@ game_there words rest name = elim (told_single rest) [
       statement.Game number,
       (w, name ∙ ap (λ l. bare (codes "game") ∷ l) single, number_is, bound),
       λ s is.
-          let (other, same) = game_alone words rest s name is in
+          let (other, same) = of_name words rest (codes "game") s name is in
           let (v, both, other_is, _) = subst (IsStatement words) same is in
           let one : v ≡ w = behind_single (codes "game") words rest w v name single both in
           same ∙ ap (λ n. statement.Game n) (IsNumber-once w other number (subst (λ u. IsNumber u other) one other_is) number_is),
@@ -369,17 +302,40 @@ game_there words rest name = elim (told_single rest) [
 none_there : (words : List Word) → BeginsOtherwise (codes "import") words → BeginsOtherwise (codes "wait") words →
     BeginsOtherwise (codes "until") words → BeginsOtherwise (codes "search") words → BeginsOtherwise (codes "kept") words → BeginsOtherwise (codes "signature") words →
     BeginsOtherwise (codes "players") words → BeginsOtherwise (codes "doubles") words → BeginsOtherwise (codes "game") words →
-    NoStatement words
-none_there words import_ wait until searched kept signature players doubles game (statement.Import path) (w, is, _) = import_ (w ∷ []) is
-none_there words import_ wait until searched kept signature players doubles game statement.Wait is = wait [] is
-none_there words import_ wait until searched kept signature players doubles game (statement.Until number) (w, is, _, _) = until (w ∷ []) is
-none_there words import_ wait until searched kept signature players doubles game (statement.Search query filter) (body, is, _) = searched body is
-none_there words import_ wait until searched kept signature players doubles game (statement.Kept query) (body, is, _) = kept body is
-none_there words import_ wait until searched kept signature players doubles game (statement.Signature pattern) (is, _) = signature (bare pattern.bytes ∷ []) is
-none_there words import_ wait until searched kept signature players doubles game statement.Players is = players [] is
-none_there words import_ wait until searched kept signature players doubles game statement.Doubles is = doubles [] is
-none_there words import_ wait until searched kept signature players doubles game (statement.Game number) (w, is, _, _) = game (w ∷ []) is
-none_there words import_ wait until searched kept signature players doubles game (statement.Together searches) is = is
+    BeginsOtherwise (codes "report") words → BeginsOtherwise (codes "retire") words → NoStatement words
+none_there words import_ wait until searched kept signature players doubles game report retire (statement.Import path) (w, is, _) = import_ (w ∷ []) is
+none_there words import_ wait until searched kept signature players doubles game report retire statement.Wait is = wait [] is
+none_there words import_ wait until searched kept signature players doubles game report retire (statement.Until number) (w, is, _, _) = until (w ∷ []) is
+none_there words import_ wait until searched kept signature players doubles game report retire (statement.Search query filter) (body, is, _) = searched body is
+none_there words import_ wait until searched kept signature players doubles game report retire (statement.Kept query) (body, is, _) = kept body is
+none_there words import_ wait until searched kept signature players doubles game report retire (statement.Signature pattern) (is, _) = signature (bare pattern.bytes ∷ []) is
+none_there words import_ wait until searched kept signature players doubles game report retire statement.Players is = players [] is
+none_there words import_ wait until searched kept signature players doubles game report retire statement.Doubles is = doubles [] is
+none_there words import_ wait until searched kept signature players doubles game report retire (statement.Game number) (w, is, _, _) = game (w ∷ []) is
+none_there words import_ wait until searched kept signature players doubles game report retire (statement.Together searches) is = is
+none_there words import_ wait until searched kept signature players doubles game report retire statement.Report is = report [] is
+none_there words import_ wait until searched kept signature players doubles game report retire (statement.Retire name) (is, _) = retire (bare name ∷ []) is
+
+-- of words that begin with the name of none of the first six kinds it can be told
+told_later : (words : List Word) → BeginsOtherwise (codes "import") words → BeginsOtherwise (codes "wait") words →
+    BeginsOtherwise (codes "until") words → BeginsOtherwise (codes "search") words → BeginsOtherwise (codes "kept") words → BeginsOtherwise (codes "signature") words →
+    ToldStatement words
+told_later words import_ wait until searched kept signature = elim (told_name (codes "players") words) [
+  | inl (rest, is) ↦ players_there words rest is
+  | inr players ↦ elim (told_name (codes "doubles") words) [
+    | inl (rest, is) ↦ doubles_there words rest is
+    | inr doubles ↦ elim (told_name (codes "game") words) [
+      | inl (rest, is) ↦ game_there words rest is
+      | inr game ↦ elim (told_name (codes "report") words) [
+        | inl (rest, is) ↦ report_there words rest is
+        | inr report ↦ elim (told_name (codes "retire") words) [
+          | inl (rest, is) ↦ retire_there words rest is
+          | inr retire ↦ inr (none_there words import_ wait until searched kept signature players doubles game report retire)
+        ]
+      ]
+    ]
+  ]
+]
 
 pub told_statement : (words : List Word) → ToldStatement words
 told_statement words = elim (told_name (codes "import") words) [
@@ -394,16 +350,7 @@ told_statement words = elim (told_name (codes "import") words) [
           | inl (rest, is) ↦ kept_there words rest is
           | inr kept ↦ elim (told_name (codes "signature") words) [
             | inl (rest, is) ↦ signature_there words rest is
-            | inr signature ↦ elim (told_name (codes "players") words) [
-              | inl (rest, is) ↦ players_there words rest is
-              | inr players ↦ elim (told_name (codes "doubles") words) [
-                | inl (rest, is) ↦ doubles_there words rest is
-                | inr doubles ↦ elim (told_name (codes "game") words) [
-                  | inl (rest, is) ↦ game_there words rest is
-                  | inr game ↦ inr (none_there words import_ wait until searched kept signature players doubles game)
-                ]
-              ]
-            ]
+            | inr signature ↦ told_later words import_ wait until searched kept signature
           ]
         ]
       ]

@@ -44,6 +44,9 @@ IsStatement words statement.Players = words ≡ bare (codes "players") ∷ []
 IsStatement words statement.Doubles = words ≡ bare (codes "doubles") ∷ []
 IsStatement words (statement.Game number) = (w : Word) × (words ≡ bare (codes "game") ∷ w ∷ [])
     × IsNumber w number × (number ≤ most_number)
+IsStatement words statement.Report = words ≡ bare (codes "report") ∷ []
+IsStatement words (statement.Retire name) =
+    (words ≡ bare (codes "retire") ∷ bare name ∷ []) × IsUtf8 name
 
 -- the line spells the statement
 abbrev pub SpellsStatement : List ℕ → Statement → Type 0

@@ -109,6 +109,20 @@ abbrev pub no_game_text : ℕ → ℕ → ℕ → List ℕ
 no_game_text line game version = line_text (decimal line ∷ codes " game " ∷ decimal game
     ∷ codes " version " ∷ decimal version ∷ codes " none" ∷ [])
 
+-- `LINE report collectors N`: the first line of a report of collectors
+abbrev pub report_head : ℕ → ℕ → List ℕ
+report_head line count =
+    line_text (decimal line ∷ codes " report collectors " ∷ decimal count ∷ [])
+
+-- `LINE retire NAME`
+abbrev pub retire_text : ℕ → List ℕ → List ℕ
+retire_text line name = line_text (decimal line ∷ codes " retire " ∷ name ∷ [])
+
+-- `LINE retire NAME none`
+abbrev pub no_retire_text : ℕ → List ℕ → List ℕ
+no_retire_text line name =
+    line_text (decimal line ∷ codes " retire " ∷ name ∷ codes " none" ∷ [])
+
 -- `LINE kept version V games G kept K`
 abbrev pub kept_text : ℕ → ℕ → ℕ → ℕ → List ℕ
 kept_text line version games kept =

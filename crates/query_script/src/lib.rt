@@ -35,7 +35,10 @@ pub use list_text::{
     print_double, print_doubles_head, print_found_game, print_kept, print_players,
     print_signature_head,
 };
-pub use print::{print_game, print_import, print_no_game, print_until, print_wait};
+pub use print::{
+    print_game, print_import, print_no_game, print_no_retire, print_report_head, print_retire,
+    print_until, print_wait,
+};
 pub use script::read_script;
 pub use search_text::print_hits;
 pub use statement::{MAX_SCRIPT, Placed, PlacedSearch, ScriptError, SearchList, Statement};

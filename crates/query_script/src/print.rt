@@ -7,6 +7,9 @@ ghost use Rattle.query_script.specs.Texts.{
   import_text,
   line_text,
   no_game_text,
+  no_retire_text,
+  report_head,
+  retire_text,
   until_text,
   wait_text,
 };
@@ -147,6 +150,79 @@ fn append_no_game(out: &mut Vec<u8>, line: u32, game: u32, version: u64) -> Resu
 {
     append_game_of(out, line, game, version)?;
     append(out, b" none\n")?;
+    Ok(())
+}
+
+/// Appends the first line of a report of collectors: `LINE report collectors N`. The only error is
+/// `NoMemory`, and then `out` is as before.
+pub fn print_report_head(line: u32, count: usize, out: &mut Vec<u8>) -> Result<(), NoMemory>
+    ensures ok { OnOk result (out.new.items ≡ out.old.items ++ report_head line count) }
+    ensures refused { OnErr result (out.new.items ≡ out.old.items) }
+{
+    let len = out.len();
+    let done = append_report_head(out, line, count);
+    cut_back(out, len, done)
+}
+
+fn append_report_head(out: &mut Vec<u8>, line: u32, count: usize) -> Result<(), NoMemory>
+    ensures ok { OnOk result (out.new.items ≡ out.old.items ++ report_head line count) }
+    ensures refused { OnErr result (IsPrefix out.old.items out.new.items) }
+{
+    append_decimal(out, u64::from(line))?;
+    append(out, b" report collectors ")?;
+    append_decimal_and(out, count as u64, b'\n')?;
+    Ok(())
+}
+
+/// Appends that the first collector of a name was dropped: `LINE retire NAME`. The only error is
+/// `NoMemory`, and then `out` is as before.
+pub fn print_retire(line: u32, name: &str, out: &mut Vec<u8>) -> Result<(), NoMemory>
+    ensures ok { OnOk result (out.new.items ≡ out.old.items ++ retire_text line name.now) }
+    ensures refused { OnErr result (out.new.items ≡ out.old.items) }
+{
+    let len = out.len();
+    let done = append_retire(out, line, name);
+    cut_back(out, len, done)
+}
+
+fn append_retire(out: &mut Vec<u8>, line: u32, name: &str) -> Result<(), NoMemory>
+    ensures ok { OnOk result (out.new.items ≡ out.old.items ++ retire_text line name.now) }
+    ensures refused { OnErr result (IsPrefix out.old.items out.new.items) }
+{
+    append_retired_name(out, line, name)?;
+    append(out, b"\n")?;
+    Ok(())
+}
+
+/// Appends that no collector has a name: `LINE retire NAME none`. The only error is `NoMemory`, and
+/// then `out` is as before.
+pub fn print_no_retire(line: u32, name: &str, out: &mut Vec<u8>) -> Result<(), NoMemory>
+    ensures ok { OnOk result (out.new.items ≡ out.old.items ++ no_retire_text line name.now) }
+    ensures refused { OnErr result (out.new.items ≡ out.old.items) }
+{
+    let len = out.len();
+    let done = append_no_retire(out, line, name);
+    cut_back(out, len, done)
+}
+
+fn append_no_retire(out: &mut Vec<u8>, line: u32, name: &str) -> Result<(), NoMemory>
+    ensures ok { OnOk result (out.new.items ≡ out.old.items ++ no_retire_text line name.now) }
+    ensures refused { OnErr result (IsPrefix out.old.items out.new.items) }
+{
+    append_retired_name(out, line, name)?;
+    append(out, b" none\n")?;
+    Ok(())
+}
+
+// Appends which collector is to be dropped: `LINE retire NAME`, without a line feed.
+fn append_retired_name(out: &mut Vec<u8>, line: u32, name: &str) -> Result<(), NoMemory>
+    ensures ok { OnOk result (out.new.items ≡ out.old.items
+        ++ (decimal line ++ (codes " retire " ++ name.now))) }
+    ensures refused { OnErr result (IsPrefix out.old.items out.new.items) }
+{
+    append_decimal(out, u64::from(line))?;
+    append(out, b" retire ")?;
+    append(out, name.as_bytes())?;
     Ok(())
 }
 

@@ -39,6 +39,10 @@ pub enum Statement {
     Doubles,
     /// `game N`: a game as SGF text.
     Game { number: u32 },
+    /// `report`: what the collectors tell of the hits so far.
+    Report,
+    /// `retire NAME`: drops the first collector of this name.
+    Retire { name: Text },
 }
 
 /// A statement and its line, from 1. A block of searches has the line of its `together`.

@@ -16,6 +16,7 @@ ghost use Rattle.std.specs.Prelude.{
   IfSome,
   IfNone,
   IsTrue,
+  IsUtf8,
 };
 ghost use Rattle.pattern_images.specs.declared.query.Query.{Query};
 ghost use Rattle.dyer_signature.specs.declared.bytes.SigPattern.{SigPattern};
@@ -52,11 +53,11 @@ pub(crate) fn statement_of(alloc: Global, words: &[Word]) -> Result<Option<State
     ensures none { IfOk result (λ found. IfNone found ((s : Statement) →
         ¬ IsStatement words.now s)) }
 {
+    if let Some(named) = named_statement(words) {
+        return Ok(Some(named));
+    }
     if let Some(path) = import_of(alloc, words)? {
         return Ok(Some(Statement::Import { path }));
-    }
-    if is_name(words, b"wait") {
-        return Ok(Some(Statement::Wait));
     }
     if let Some(number) = until_of(words) {
         return Ok(Some(Statement::Until { number }));
@@ -70,16 +71,36 @@ pub(crate) fn statement_of(alloc: Global, words: &[Word]) -> Result<Option<State
     if let Some(pattern) = signature_of(words) {
         return Ok(Some(Statement::Signature { pattern }));
     }
-    if is_name(words, b"players") {
-        return Ok(Some(Statement::Players));
-    }
-    if is_name(words, b"doubles") {
-        return Ok(Some(Statement::Doubles));
-    }
     if let Some(number) = game_of(words) {
         return Ok(Some(Statement::Game { number }));
     }
+    if let Some(name) = retire_of(alloc, words)? {
+        return Ok(Some(Statement::Retire { name }));
+    }
     Ok(None)
+}
+
+// The statement that is one word, if the words are that one.
+fn named_statement(words: &[Word]) -> Option<Statement>
+    ensures some { IfSome result (λ s. IsStatement words.now s) }
+    ensures no_wait { IfNone result (words.now ≢ bare (codes "wait") ∷ []) }
+    ensures no_players { IfNone result (words.now ≢ bare (codes "players") ∷ []) }
+    ensures no_doubles { IfNone result (words.now ≢ bare (codes "doubles") ∷ []) }
+    ensures no_report { IfNone result (words.now ≢ bare (codes "report") ∷ []) }
+{
+    if is_name(words, b"wait") {
+        return Some(Statement::Wait);
+    }
+    if is_name(words, b"players") {
+        return Some(Statement::Players);
+    }
+    if is_name(words, b"doubles") {
+        return Some(Statement::Doubles);
+    }
+    if is_name(words, b"report") {
+        return Some(Statement::Report);
+    }
+    None
 }
 
 // The path of `import PATH`. The only error is `NoMemory`.
@@ -104,8 +125,16 @@ fn path_of(alloc: Global, word: &Word) -> Result<Option<Text>, NoMemory>
     if bytes.is_empty() {
         return Ok(None);
     }
+    text_of(alloc, bytes)
+}
+
+// The text that bytes in UTF-8 are. The only error is `NoMemory`.
+fn text_of(alloc: Global, bytes: &[u8]) -> Result<Option<Text>, NoMemory>
+    ensures some { IfOk result (λ found. IfSome found (λ text. (bytes.now ≡ text) × IsUtf8 text)) }
+    ensures none { IfOk result (λ found. IfNone found (¬ IsUtf8 bytes.now)) }
+{
     match std::str::from_utf8(bytes) {
-        Ok(path) => Ok(Some(Text::new(String::from_str(alloc, path)?))),
+        Ok(text) => Ok(Some(Text::new(String::from_str(alloc, text)?))),
         Err(_) => Ok(None),
     }
 }
@@ -210,6 +239,22 @@ fn game_of(words: &[Word]) -> Option<u32>
     let word = only_word_behind(words, b"game")?;
     let number = number_up_to(word, u64::from(u32::MAX))?;
     Some(number as u32)
+}
+
+// The name of `retire NAME`. The only error is `NoMemory`.
+fn retire_of(alloc: Global, words: &[Word]) -> Result<Option<Text>, NoMemory>
+    ensures some { IfOk result
+        (λ found. IfSome found (λ name. IsStatement words.now (statement.Retire name))) }
+    ensures none { IfOk result (λ found. IfNone found ((name : List ℕ) →
+        ¬ IsStatement words.now (statement.Retire name))) }
+{
+    let Some(rest) = behind_name(words, b"retire") else {
+        return Ok(None);
+    };
+    let Some(name) = only_bare(rest) else {
+        return Ok(None);
+    };
+    text_of(alloc, name)
 }
 
 // The only word behind this bare word, if the words are these two.

@@ -1,4 +1,5 @@
 // Scripts that are read or refused, worked out by hand from the grammar.
+mod collectors;
 mod command_words;
 mod conditions;
 mod kept;
@@ -105,6 +106,11 @@ fn show_statement(alloc: Global, statement: &Statement, shown: &mut String) -> R
         Statement::Players => write!(shown, "players")?,
         Statement::Doubles => write!(shown, "doubles")?,
         Statement::Game { number } => write!(shown, "game {number}")?,
+        Statement::Report => write!(shown, "report")?,
+        Statement::Retire { name } => {
+            let name = name.as_str();
+            write!(shown, "retire <{name}>")?;
+        }
     }
     Ok(())
 }
@@ -502,6 +508,8 @@ fn bytes_that_are_no_text_are_read_in_remarks_alone(rt: HostRuntime) -> Result<(
         (b"wait\n\xff".as_slice(), "bad 2"),
         (b"search \xff".as_slice(), "bad 1"),
         (b"until \xff".as_slice(), "bad 1"),
+        (b"retire a\xc3".as_slice(), "bad 1"),
+        (b"retire a\xc3\xa9".as_slice(), "1 retire <a\u{e9}>"),
     ];
     for (script, shown) in cases {
         assert_eq!(rt; read(rt.alloc(), script)?.as_str(), shown);

@@ -1,11 +1,12 @@
 -- Words with a bit for each game of a block.
-use Rattle.std.proofs.Common.{◌≡◌, ◌≢◌, inl, inr, ℕ, ◌+◌, ◌*◌, ◌^◌, ◌%◌, ◌<◌, ◌≤◌, ◌↔◌, List, Some, bit_or, length, refl, sym, ◌∙◌, subst, arith}
+use Rattle.std.proofs.Common.{◌≡◌, ◌≢◌, inl, inr, ℕ, ◌+◌, ◌*◌, ◌-◌, ◌^◌, ◌%◌, ◌<◌, ◌≤◌, ◌↔◌, List, Some, bit_or, length, refl, sym, ap, ◌∙◌, subst, arith}
 use Rattle.std.specs.Int.{bit_at, w64}
 use Rattle.std.specs.List.{slice_get}
 use Rattle.std.proofs.lemmas.Bool.{cases_eq}
-use Rattle.std.proofs.lemmas.Nat.Bits.{bit_at-zero, bit_at_set_other, bit_at_set_same}
+use Rattle.std.proofs.lemmas.Nat.Bits.{bit_at-zero, bit_at_ones, bit_at_set_other, bit_at_set_same}
 use Rattle.std.proofs.lemmas.Option.{get_or_from_slice_get, slice_get_within}
 use Rattle.node_position.specs.Games.{Game}
+use Rattle.info_filter.specs.declared.condition.Condition.{Condition}
 use Rattle.info_filter.specs.declared.filter.Filter.{Filter}
 use Rattle.info_filter.specs.Filter.{Accepts}
 use Rattle.search_engine.specs.BlockCandidates.{AreAccepted, IsWithBit}
@@ -51,3 +52,9 @@ module _ (filter : Filter) (games : List Game) where
 
   pub AreAcceptedTo-all : (k word : ℕ) → length games ≤ k → AreAcceptedTo filter games k word → AreAccepted filter games word
   AreAcceptedTo-all k word le so_far g game at = so_far.told g game (omega (arith, le, slice_get_within games g game at)) at
+
+  -- without a condition all are accepted
+  pub AreAccepted-without : (conditions : List Condition) → conditions ≡ filter.conditions → length conditions ≡ 0 → length games ≤ 64 → AreAccepted filter games (2 ^ 64 - 1)
+  AreAccepted-without conditions are none few g game at =
+      let lt : g < 64 = omega (arith, few, slice_get_within games g game at) in
+      (λ _ k d within. absurd (omega (arith, within, none, ap length are)), λ _. bit_at_ones 64 g lt)

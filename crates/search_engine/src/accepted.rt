@@ -7,8 +7,20 @@ use crate::bits::with_bit;
 use info_filter::{Filter, accepts_known};
 use segment_store::{Block, FinishedGame};
 
-// The games of a block that a filter accepts, a bit for each.
+// The games of a block that a filter accepts, a bit for each. A filter without a condition accepts
+// all, and then no game is asked.
 pub(crate) fn accepted_games(filter: &Filter, block: &Block) -> u64
+    ensures { AreAccepted filter.now block.now result }
+{
+    let _count = block.len();
+    if filter.conditions.as_slice().is_empty() {
+        return u64::MAX;
+    }
+    met_games(filter, block)
+}
+
+// The games of a block that meet the conditions of a filter, of which each is asked.
+fn met_games(filter: &Filter, block: &Block) -> u64
     ensures { AreAccepted filter.now block.now result }
 {
     let mut accepted = 0;

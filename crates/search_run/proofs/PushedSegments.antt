@@ -1,20 +1,25 @@
--- Versions that get segments more.
-use Rattle.std.proofs.Common.{◌≡◌, ℕ, suc, ◌+◌, ◌<◌, ◌≤◌, drop, get_or, map, take, List, [], ◌∷◌, ◌++◌, length, length-append, sym, ap, ◌∙◌, append_assoc, append-nil, arith}
-use Rattle.std.proofs.Math.Seq.{split_at}
-use Rattle.std.proofs.lemmas.List.{map-id}
+-- Versions that get the segments of an import, one after another.
+use Rattle.std.proofs.Common.{◌≡◌, inl, inr, ℕ, ◌+◌, ◌-◌, ◌^◌, ◌<◌, ◌≤◌, List, [], ◌∷◌, ◌++◌, Option, length, length-append, length-drop, refl, sym, ap, ◌∙◌, append_assoc, append-nil, arith}
+use Rattle.std.proofs.lemmas.Bool.{cases_lt}
+use Rattle.std.proofs.lemmas.List.{nil_from_length}
+use Rattle.kb_edges.specs.Files.{File}
 use Rattle.node_position.specs.Games.{Game}
 use Rattle.version_publisher.specs.Contents.{items_in}
 use Rattle.version_publisher.specs.declared.state.VersionState.{VersionState}
-use Rattle.search_run.specs.Course.{Finding, trees_in}
-use Rattle.search_run.specs.Imported.{Tells, games_kept, segments_kept}
-use Rattle.search_run.specs.Log.{Segment, games_in, segments_of}
-use Rattle.search_run.specs.Outcome.{counts_of}
-use Rattle.search_run.specs.Rooms.{AreAdded}
-use Rattle.search_run.specs.Stores.{HasFewGames, IsPushed}
-use Rattle.search_run.specs.declared.imported.Imported.{Imported}
-use Rattle.search_run.specs.declared.outcome.Counts.{Counts}
-use Rattle.search_run.proofs.BatchLemmas.{games_in-append, games_kept-are, items_in-games_in, segments_kept-are}
-use Rattle.search_run.proofs.RoomLemmas.{counts_of-more, length-trees}
+use Rattle.import_work.specs.Course.{trees_in}
+use Rattle.import_work.specs.Imports.{ImportState, IsStep, nothing, one_more}
+use Rattle.import_work.specs.Log.{Segment, games_in}
+use Rattle.import_work.specs.Outcome.{counts_of}
+use Rattle.import_work.specs.Rooms.{AreAdded}
+use Rattle.import_work.specs.declared.outcome.Counts.{Counts}
+use Rattle.import_work.proofs.RoomLemmas.{counts_of-more, length-trees}
+use Rattle.import_work.proofs.SegmentLemmas.{games_in-append}
+use Rattle.search_run.specs.Stores.{HasFewGames, HasTaken, IsPushed}
+
+-- the items of a version's parts are the games of segments
+pub items_in-games_in : (segments : List Segment) → items_in segments ≡ games_in segments
+items_in-games_in [] = refl
+items_in-games_in (s ∷ segments) = ap (λ gs. s ++ gs) (items_in-games_in segments)
 
 -- no segment yet
 pub IsPushed-none : (version : VersionState Game) → IsPushed version version []
@@ -33,37 +38,56 @@ games_pushed before after segments h =
     ap items_in h.parts ∙ items_in-games_in (before.parts ++ segments) ∙ games_in-append before.parts segments
     ∙ ap (λ gs. gs ++ games_in segments) (sym (items_in-games_in before.parts))
 
--- a list from which elements were taken, and one more
-pub split_next : {A : Type 0} (xs first : List A) (x : A) → map (λ y. y) first ≡ take (length first) xs → length first < length xs → x ≡ get_or xs (length first) x → xs ≡ first ++ x ∷ drop (suc (length first)) xs
-split_next xs first x so_far below is =
-    split_at xs (length first) x below
-    ∙ ap (λ ys. ys ++ get_or xs (length first) x ∷ drop (suc (length first)) xs) (sym so_far ∙ map-id first)
-    ∙ ap (λ y. first ++ y ∷ drop (suc (length first)) xs) (sym is)
+-- nothing is taken yet
+pub HasTaken-none : (told : Option (List File)) (batch : ℕ) (start : ImportState) (version : VersionState Game) (first : ℕ) → HasTaken told batch start start version version first first
+HasTaken-none told batch start version first = record { segments = []; given = nothing; pushed = IsPushed-none version }
 
-module _ (before : VersionState Game) (segments first rest : List Segment) (s : Segment) (split : segments ≡ first ++ s ∷ rest) where
-  -- there is room for the next one of some segments
-  pub room_to_push : (now : VersionState Game) → IsPushed before now first → length (items_in before.parts) + length (games_in segments) ≤ 400000 → length (items_in now.parts) + length s ≤ 400000
-  room_to_push now h fits =
-      let so_far : length (items_in now.parts) ≡ length (items_in before.parts) + length (games_in first) = ap length (games_pushed before now first h) ∙ length-append (items_in before.parts) (games_in first) in
-      let behind : length (games_in (s ∷ rest)) ≡ length s + length (games_in rest) = length-append s (games_in rest) in
-      let all : length (games_in segments) ≡ length (games_in first) + length (games_in (s ∷ rest)) = ap (λ ss. length (games_in ss)) split ∙ ap length (games_in-append first (s ∷ rest)) ∙ length-append (games_in first) (games_in (s ∷ rest)) in
-      omega (arith, so_far, behind, all, fits)
+module _ (told : Option (List File)) (batch : ℕ) (between now : ImportState) (segment : Segment) (before last : ℕ) (version after : VersionState Game) (s : IsStep told batch between now segment before last) (counted : between.counts ≡ counts_of (trees_in (items_in version.parts))) (few : HasFewGames between.counts) where
+  -- one segment more is taken
+  pub HasTaken-more : (start : ImportState) (at_first : VersionState Game) (first : ℕ) → HasTaken told batch start between at_first version first before → after.number ≡ version.number + 1 → after.parts ≡ version.parts ++ segment ∷ [] → HasTaken told batch start now at_first after first last
+  HasTaken-more start at_first first h number parts = record {
+    segments = h.segments ++ segment ∷ [];
+    given = one_more now segment last h.given s;
+    pushed = IsPushed-more at_first version after h.segments segment h.pushed number parts;
+  }
 
--- ---- the segments that an import found
+  added : AreAdded between.counts now.counts (trees_in segment)
+  added = ap (λ i. i.counts) s.goes_on
 
-module _ (batch : ℕ) (before after : VersionState Game) (own : Imported) (pushed : IsPushed before after (segments_kept own)) where
-  pub number_found : (finding : Finding) → Tells batch own finding → after.number ≡ before.number + length (segments_of batch finding)
-  number_found finding tells = pushed.number ∙ ap (λ (ss : List Segment). before.number + length ss) (sym (segments_kept-are batch own finding tells))
+  counts_then : now.counts.games ≡ length (items_in version.parts) + length segment
+  counts_then =
+      let had : between.counts.games ≡ length (items_in version.parts) = ap (λ (c : Counts). c.games) counted ∙ length-trees (items_in version.parts) in
+      let more : now.counts.games ≡ between.counts.games + length segment = ap (λ (c : Counts). c.games) added ∙ ap (λ n. between.counts.games + n) (length-trees segment) in
+      omega (arith, had, more)
 
-  pub games_found : (finding : Finding) → Tells batch own finding → items_in after.parts ≡ items_in before.parts ++ games_in (segments_of batch finding)
-  games_found finding tells = games_pushed before after (segments_kept own) pushed ∙ ap (λ gs. items_in before.parts ++ gs) (sym (games_kept-are batch own finding tells))
+  -- few games are counted then
+  pub few_then : HasFewGames now.counts
+  few_then = elim (cases_lt 0 (length segment)) [
+    | inl some ↦ (s.room (λ none. omega (arith, some, ap length none))).0
+    | inr none ↦
+        let had : between.counts.games ≡ length (items_in version.parts) = ap (λ (c : Counts). c.games) counted ∙ length-trees (items_in version.parts) in
+        omega (arith, counts_then, had, none, few)
+  ]
 
-  pub counts_found : (counts more : Counts) → counts ≡ counts_of (trees_in (items_in before.parts)) → AreAdded counts more (trees_in (games_kept own)) → more ≡ counts_of (trees_in (items_in after.parts))
-  counts_found counts more is added = counts_of-more counts more (items_in before.parts) (games_kept own) (items_in after.parts) is added (games_pushed before after (segments_kept own) pushed)
+  -- there is room for the segment
+  pub room_to_push : length (items_in version.parts) + length segment ≤ 400000
+  room_to_push = omega (arith, counts_then, few_then)
 
--- the games of a base with more games are few, as its counts say
-pub found_fits : (version : VersionState Game) (own : Imported) (counts more : Counts) → counts ≡ counts_of (trees_in (items_in version.parts)) → AreAdded counts more (trees_in (games_kept own)) → HasFewGames more → length (items_in version.parts) + length (games_kept own) ≤ 400000
-found_fits version own counts more is added few =
-    let before : counts.games ≡ length (items_in version.parts) = ap (λ (c : Counts). c.games) is ∙ length-trees (items_in version.parts) in
-    let after : more.games ≡ counts.games + length (games_kept own) = ap (λ (c : Counts). c.games) added ∙ ap (λ n. counts.games + n) (length-trees (games_kept own)) in
-    omega (arith, before, after, few)
+  -- the counts are those of the version with it
+  pub counted_then : after.parts ≡ version.parts ++ segment ∷ [] → now.counts ≡ counts_of (trees_in (items_in after.parts))
+  counted_then parts =
+      let one : IsPushed version (record { number = version.number + 1; parts = after.parts }) (segment ∷ []) = record { number = omega arith; parts = parts } in
+      counts_of-more between.counts now.counts (items_in version.parts) segment (items_in after.parts) counted added
+      (games_pushed version (record { number = version.number + 1; parts = after.parts }) (segment ∷ []) one ∙ ap (λ gs. items_in version.parts ++ gs) (append-nil segment))
+
+  -- a name fewer is left
+  pub number_then : 1 ≤ batch → after.number ≡ version.number + 1 → version.number + length between.left < 2 ^ 64 → after.number + length now.left < 2 ^ 64
+  number_then any number below =
+      let rest : length now.left ≡ length between.left - batch = ap (λ i. length i.left) s.goes_on ∙ length-drop batch between.left in
+      omega (arith, rest, number, below, some_left, any)
+    where
+      some_left : 0 < length between.left
+      some_left = elim (cases_lt 0 (length between.left)) [
+        | inl some ↦ some
+        | inr none ↦ absurd (s.some (nil_from_length between.left (omega (arith, none))))
+      ]

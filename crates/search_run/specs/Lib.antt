@@ -1,16 +1,16 @@
 -- Words that contracts of public functions rest on.
-pub mod Course
+pub mod Bases
 pub mod Lawful
-pub mod Log
-pub mod Outcome
-pub mod Rooms
+pub mod Publishing
 pub mod Run
 pub mod Script
 pub mod Serial
 pub mod Texts
 -- Words of private functions.
-pub mod Imported
-pub mod Reads
+pub mod Beside
+pub mod Published
+pub mod Reports
 pub mod RunErrors
+pub mod Seen
 pub mod Steps
 pub mod Stores

@@ -1,8 +1,8 @@
 -- Why a run stops where a write answers an error.
 use Rattle.kb_edges.specs.declared.errors.SinkError.{SinkError}
 use Rattle.kb_edges.specs.declared.errors.SinkError.TheVariants as sink
-use Rattle.search_run.specs.declared.run.Stopped.{Stopped}
-use Rattle.search_run.specs.declared.run.Stopped.TheVariants as stopped
+use Rattle.search_run.specs.declared.statements.Stopped.{Stopped}
+use Rattle.search_run.specs.declared.statements.Stopped.TheVariants as stopped
 
 abbrev pub stopped_of : SinkError → Stopped
 stopped_of sink.Failed = stopped.SinkFault

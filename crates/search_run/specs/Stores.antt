@@ -1,15 +1,12 @@
--- What an import adds to a version, and how much it may add: words of the private functions.
-use Rattle.std.specs.Prelude.{◌≡◌, ◌+◌, ◌≤◌, ◌++◌, length, List}
+-- Segments that an import gives to a version: words of the private functions.
+use Rattle.std.specs.Prelude.{◌≡◌, ℕ, ◌+◌, ◌≤◌, ◌++◌, length, List}
+use Rattle.std.specs.declared.option.Option.{Option}
+use Rattle.kb_edges.specs.Files.{File}
 use Rattle.node_position.specs.Games.{Game}
 use Rattle.version_publisher.specs.declared.state.VersionState.{VersionState}
-use Rattle.search_run.specs.Imported.{segments_kept}
-use Rattle.search_run.specs.Log.{Segment}
-use Rattle.search_run.specs.declared.imported.Imported.{Imported}
-use Rattle.search_run.specs.declared.outcome.Counts.{Counts}
-
--- an import adds no more segments than it may
-abbrev pub HasFewSegments : Imported → Type 0
-HasFewSegments own = length (segments_kept own) ≤ 100000
+use Rattle.import_work.specs.Imports.{HasGiven, ImportState}
+use Rattle.import_work.specs.Log.{Segment}
+use Rattle.import_work.specs.declared.outcome.Counts.{Counts}
 
 -- there are no more games than a base may have
 abbrev pub HasFewGames : Counts → Type 0
@@ -19,3 +16,11 @@ HasFewGames counts = counts.games ≤ 400000
 pub record IsPushed (before after : VersionState Game) (segments : List Segment) : Type 0 where
   pub number : after.number ≡ before.number + length segments
   pub parts : after.parts ≡ before.parts ++ segments
+
+-- An import that stood so at first, and stands so now, has given segments by so many files each, and
+-- a version has them more.
+pub record HasTaken (told : Option (List File)) (batch : ℕ) (start now : ImportState)
+    (before after : VersionState Game) (first last : ℕ) : Type 0 where
+  pub segments : List Segment
+  pub given : HasGiven told batch start first segments now last
+  pub pushed : IsPushed before after segments

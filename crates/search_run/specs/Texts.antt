@@ -5,9 +5,9 @@ use Rattle.std.specs.List.{flat_map}
 use Rattle.sgf_reader.specs.declared.fault.FaultKind.{FaultKind}
 use Rattle.sgf_reader.specs.declared.fault.FaultKind.TheVariants as kind
 use Rattle.query_script.specs.Texts.{line_text}
-use Rattle.search_run.specs.Course.{FileReport, Files, Finding, TooMany, Unlisted, games_of_files, reports_of}
-use Rattle.search_run.specs.declared.outcome.FileOutcome.{FileOutcome}
-use Rattle.search_run.specs.declared.outcome.FileOutcome.TheVariants as file
+use Rattle.import_work.specs.Course.{FileReport, Files, Finding, TooMany, Unlisted, games_of_files, reports_of}
+use Rattle.import_work.specs.declared.outcome.FileOutcome.{FileOutcome}
+use Rattle.import_work.specs.declared.outcome.FileOutcome.TheVariants as file
 
 -- the word of a fault's kind
 abbrev pub kind_word : FaultKind → List ℕ

@@ -1,72 +1,47 @@
-// The import of a folder: which files it has, and what becomes of them.
-ghost use Rattle.std.specs.Prelude.{
-  ◌≡◌,
-  ◌↔◌,
-  ◌<◌,
-  ◌≤◌,
-  ◌∷◌,
-  [],
-  length,
-  IfOk,
-  IsTrue,
-};
-ghost use Rattle.kb_edges.specs.Faults.{RoseBy};
-ghost use Rattle.kb_edges.specs.Told.{IfTold};
-ghost use Rattle.search_run.specs.Course.{Finding, ImportCourse, IsImported, losses_of, trees_in};
-ghost use Rattle.search_run.specs.Imported.{Tells, games_kept};
-ghost use Rattle.search_run.specs.Rooms.{AreAdded};
-ghost use Rattle.search_run.specs.Stores.{HasFewGames, HasFewSegments};
+// The segments of an import, taken into a version.
+ghost use Rattle.std.specs.Prelude.{◌≡◌, ◌<◌, ◌≤◌, ◌+◌, ◌^◌, [], length, OnOk};
+ghost use Rattle.import_work.specs.Course.{trees_in};
+ghost use Rattle.import_work.specs.Outcome.{counts_of};
+ghost use Rattle.search_run.specs.Stores.{HasFewGames, HasTaken};
+ghost use Rattle.version_publisher.specs.Contents.{items_in};
 
-use crate::imported::Imported;
-use crate::outcome::Counts;
-use crate::read_files::read_files;
-use kb_edges::{Folder, FolderError, sort_names};
+use import_work::Import;
+use kb_edges::Folder;
 use kb_geometry::NoMemory;
+use segment_store::Segment;
 use std::alloc::Global;
+use std::sync::Arc;
+use std::thread::Threads;
+use version_publisher::Version;
 
-// The most names that an import may have.
-pub(crate) const MAX_NAMES: usize = 100_000;
-
-// Whether these are more names than an import may have.
-fn are_too_many(names: &[String]) -> bool
-    ensures { IsTrue result ↔ (100000 < length names.now) }
-{
-    names.len() > MAX_NAMES
-}
-
-// Imports the files of a path whose names end in `.sgf`, by batches of so many and in a base with
-// these counts. Hands back what was found, and the counts with the games that are to be added.
-pub(crate) fn import<F: Folder>(
+// Adds the segments of an import to a version, one after another as they come, each of so many
+// files. The import's counts are those of the version.
+pub(crate) fn take_segments<R: Threads + Sync, F: Folder>(
+    rt: &R,
     alloc: Global,
     folder: &mut F,
-    path: &str,
-    batch: usize,
-    before: Counts,
-) -> Result<(Imported, Counts), NoMemory>
+    batch: u32,
+    import: &mut Import,
+    version: &mut Version<Segment>,
+) -> Result<(), NoMemory>
     requires some { 1 ≤ batch }
-    requires room { HasFewGames before }
-    ensures found { IfTold (F.files folder.old) (λ files. IfOk result (λ r.
-        (entry : ImportCourse) × (finding : Finding) × Tells batch r.0 finding
-        × IsImported files path.now before entry finding
-        × RoseBy (losses_of (entry ∷ [])) (F.faults folder.old) (F.faults folder.new))) }
-    ensures added { IfOk result (λ r. AreAdded before r.1 (trees_in (games_kept r.0))) }
-    ensures room { IfOk result (λ r. HasFewGames r.1) }
-    ensures fits { IfOk result (λ r. length (games_kept r.0) ≤ 400000) }
-    ensures few { IfOk result (λ r. HasFewSegments r.0) }
+    requires number { version.old.number + length import.old.left < 2 ^ 64 }
+    requires counted { import.old.counts ≡ counts_of (trees_in (items_in version.old.parts)) }
+    requires few { HasFewGames import.old.counts }
+    ensures taken { OnOk result (HasTaken (F.files folder.old) batch import.old import.new version.old
+        version.new (F.faults folder.old) (F.faults folder.new)) }
+    ensures ended { OnOk result (import.new.left ≡ []) }
+    ensures counted { OnOk result (import.new.counts
+        ≡ counts_of (trees_in (items_in version.new.parts))) }
+    ensures few { OnOk result (HasFewGames import.new.counts) }
     ensures same { F.files folder.new ≡ F.files folder.old }
     ensures later { F.faults folder.old ≤ F.faults folder.new }
 {
-    let mut names = match folder.list(alloc, path) {
-        Ok(names) => names,
-        Err(FolderError::NoMemory) => return Err(NoMemory),
-        Err(FolderError::Failed) => return Ok((Imported::Unlisted, before)),
-        Err(FolderError::Missing) => return Ok((Imported::Unlisted, before)),
-    };
-    sort_names(&mut names);
-    if are_too_many(&names) {
-        let listed = names.len();
-        return Ok((Imported::TooMany { listed }, before));
+    while let Some(segment) = import.step(rt, alloc, folder, batch)? {
+        let part = Arc::new(alloc, segment)?;
+        if let Err((_part, error)) = version.push(part) {
+            return Err(error);
+        }
     }
-    let (files, segments, counts) = read_files(alloc, folder, path, &names, batch, before)?;
-    Ok((Imported::Files { files, segments }, counts))
+    Ok(())
 }

@@ -1,36 +1,45 @@
 //! The top call: a script, a folder of games and a sink become a status and the printed answers.
 //!
-//! Stands on session_core, query_script, segment_store, version_publisher, node_position,
-//! capture_board, game_tree, sgf_reader, kb_edges, kb_geometry and the library bstr. In `specs/` are
-//! the script that is too long, the files of an import and their report, the course of imports, and
-//! the lawful outputs. The program uses that [`run_serial`] writes a lawful output, and tells each
-//! other end by its cause.
+//! Stands on session_core, hit_collectors, import_work, search_engine, query_script, segment_store,
+//! version_publisher, node_position, sgf_reader, kb_edges, kb_geometry and the library bstr. In
+//! `specs/` are the script that is too long, the printed report of an import, what an importer
+//! publishes, and the lawful outputs; what becomes of the files of an import, and the course of
+//! imports, are words of import_work. The program uses that [`run`] writes a lawful output where it is
+//! done, and tells each other end by its cause.
 #![tactic(auto)]
 
+mod base;
+mod beside;
+mod carried;
+mod counts;
 mod import;
-mod imported;
+mod importer;
 mod laws;
-mod outcome;
 mod print;
+mod publish;
 mod read;
-mod read_files;
-mod run;
+mod receipts;
+mod run_beside;
 mod script;
+mod searchers;
 mod serial;
 mod standing;
+mod statements;
 mod status;
+mod top_call;
+mod version_text;
 mod write;
 
+pub use base::Base;
 pub use laws::{
-    a_begun_text_is_a_prefix_of_a_lawful_output, a_file_has_one_outcome,
-    a_serial_run_without_a_loss_has_one_output, an_import_has_one_list_of_names,
-    an_import_without_a_loss_finds_one_thing, each_script_has_a_lawful_output,
+    a_begun_text_is_a_prefix_of_a_lawful_output, a_serial_run_without_a_loss_has_one_output,
+    each_script_has_a_lawful_output,
 };
-pub use outcome::{Counts, FileOutcome, MAX_BASE_NODES};
-pub use read_files::import_one;
-pub use segment_store::MAX_BASE_GAMES;
+pub use publish::publish_import;
+pub use receipts::{OpenName, Receipts};
 pub use serial::run_serial;
 pub use status::Status;
+pub use top_call::run;
 
 #[cfg(test)]
 mod tests;

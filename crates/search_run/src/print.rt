@@ -1,8 +1,9 @@
 // The printed report of an import.
-ghost use Rattle.std.specs.Prelude.{◌≡◌, ◌≤◌, ◌++◌, ℕ, OnOk, count_by, length};
-ghost use Rattle.search_run.specs.Course.{Finding};
-ghost use Rattle.search_run.specs.Imported.{Tells, file_report, file_reports, games_kept};
-ghost use Rattle.search_run.specs.Log.{games_in};
+ghost use Rattle.std.specs.Prelude.{◌≡◌, ◌≤◌, ◌++◌, OnOk, count_by, length};
+ghost use Rattle.std.specs.List.{flat_map};
+ghost use Rattle.import_work.specs.Batches.{games_added, games_told, line_report, line_reports};
+ghost use Rattle.import_work.specs.Imports.{lines_in};
+ghost use Rattle.search_run.specs.Reports.{told_text};
 ghost use Rattle.search_run.specs.Texts.{
   counts_head,
   counts_tail,
@@ -16,47 +17,89 @@ ghost use Rattle.search_run.specs.Texts.{
   kind_word,
   listed_text,
   refused_text,
-  report_text,
   too_many_text,
   unlisted_text,
   unread_text,
 };
-ghost use Rattle.std.specs.List.{flat_map};
 
-use crate::imported::{Imported, ImportedFile};
-use crate::outcome::FileOutcome;
+use import_work::{FileLine, FileOutcome, Report, ReportBody};
 use kb_geometry::{NoMemory, append, append_decimal, append_decimal_and};
-use segment_store::Segment;
 use sgf_reader::FaultKind;
 
-fn file_count(files: &[ImportedFile]) -> usize
-    ensures { result ≡ length (file_reports files.now) }
+fn file_count(lines: &[FileLine]) -> usize
+    ensures { result ≡ length (line_reports lines.now) }
 {
-    files.len()
+    lines.len()
 }
 
-fn accepted_count(files: &[ImportedFile]) -> usize
-    ensures { result ≡ count_by is_accepted (file_reports files.now) }
+fn is_accepted(line: &FileLine) -> bool
+    ensures { result ≡ is_accepted (line_report line.now) }
 {
-    files.iter().filter(|f| f.is_accepted()).count()
+    matches!(line.outcome, FileOutcome::Accepted { .. })
 }
 
-fn refused_count(files: &[ImportedFile]) -> usize
-    ensures { result ≡ count_by is_refused (file_reports files.now) }
+fn is_refused(line: &FileLine) -> bool
+    ensures { result ≡ is_refused (line_report line.now) }
 {
-    files.iter().filter(|f| f.is_refused()).count()
+    matches!(line.outcome, FileOutcome::Refused { .. })
 }
 
-fn full_count(files: &[ImportedFile]) -> usize
-    ensures { result ≡ count_by is_full (file_reports files.now) }
+fn is_full(line: &FileLine) -> bool
+    ensures { result ≡ is_full (line_report line.now) }
 {
-    files.iter().filter(|f| f.is_full()).count()
+    matches!(line.outcome, FileOutcome::Full { .. })
 }
 
-fn unread_count(files: &[ImportedFile]) -> usize
-    ensures { result ≡ count_by is_unread (file_reports files.now) }
+fn is_unread(line: &FileLine) -> bool
+    ensures { result ≡ is_unread (line_report line.now) }
 {
-    files.iter().filter(|f| f.is_unread()).count()
+    matches!(line.outcome, FileOutcome::Unread)
+}
+
+fn accepted_count(lines: &[FileLine]) -> usize
+    ensures { result ≡ count_by is_accepted (line_reports lines.now) }
+{
+    lines.iter().filter(|line| is_accepted(line)).count()
+}
+
+fn refused_count(lines: &[FileLine]) -> usize
+    ensures { result ≡ count_by is_refused (line_reports lines.now) }
+{
+    lines.iter().filter(|line| is_refused(line)).count()
+}
+
+fn full_count(lines: &[FileLine]) -> usize
+    ensures { result ≡ count_by is_full (line_reports lines.now) }
+{
+    lines.iter().filter(|line| is_full(line)).count()
+}
+
+fn unread_count(lines: &[FileLine]) -> usize
+    ensures { result ≡ count_by is_unread (line_reports lines.now) }
+{
+    lines.iter().filter(|line| is_unread(line)).count()
+}
+
+// How many games a file added.
+fn games_of(line: &FileLine) -> u64
+    ensures { result ≡ games_added line.now.outcome }
+{
+    match line.outcome {
+        FileOutcome::Accepted { games } => u64::from(games),
+        _ => 0,
+    }
+}
+
+// How many games the files added.
+fn game_count(lines: &[FileLine]) -> u64
+    requires { games_told (line_reports lines.now) ≤ 400000 }
+    ensures { result ≡ games_told (line_reports lines.now) }
+{
+    let mut games = 0;
+    for line in lines {
+        games += games_of(line);
+    }
+    games
 }
 
 // The word of a fault's kind.
@@ -116,9 +159,9 @@ fn print_unread(out: &mut Vec<u8>, name: &str) -> Result<(), NoMemory>
 }
 
 // Prints the line of a file that was not accepted.
-fn print_file(out: &mut Vec<u8>, file: &ImportedFile) -> Result<(), NoMemory>
+fn print_file(out: &mut Vec<u8>, file: &FileLine) -> Result<(), NoMemory>
     ensures { OnOk result (out.new.items
-        ≡ out.old.items ++ file_text (file_report file.now)) }
+        ≡ out.old.items ++ file_text (line_report file.now)) }
 {
     let name = file.name.as_str();
     match file.outcome {
@@ -131,9 +174,9 @@ fn print_file(out: &mut Vec<u8>, file: &ImportedFile) -> Result<(), NoMemory>
 }
 
 // Prints the lines of the files that were not accepted, in order.
-fn print_files(out: &mut Vec<u8>, files: &[ImportedFile]) -> Result<(), NoMemory>
+fn print_files(out: &mut Vec<u8>, files: &[FileLine]) -> Result<(), NoMemory>
     ensures { OnOk result (out.new.items
-        ≡ out.old.items ++ flat_map file_text (file_reports files.now)) }
+        ≡ out.old.items ++ flat_map file_text (line_reports files.now)) }
 {
     for file in files {
         print_file(out, file)?;
@@ -168,7 +211,7 @@ fn print_counts_tail(
     out: &mut Vec<u8>,
     full: usize,
     unread: usize,
-    games: usize,
+    games: u64,
     version: u64,
 ) -> Result<(), NoMemory>
     ensures { OnOk result (out.new.items
@@ -179,7 +222,7 @@ fn print_counts_tail(
     append(out, b" unread ")?;
     append_decimal(out, unread as u64)?;
     append(out, b" games ")?;
-    append_decimal(out, games as u64)?;
+    append_decimal(out, games)?;
     append(out, b" version ")?;
     append_decimal_and(out, version, b'\n')?;
     Ok(())
@@ -189,19 +232,19 @@ fn print_counts_tail(
 fn print_counts(
     out: &mut Vec<u8>,
     line: u32,
-    reports: &[ImportedFile],
-    games: usize,
+    lines: &[FileLine],
+    games: u64,
     version: u64,
 ) -> Result<(), NoMemory>
     ensures { OnOk result (out.new.items
-        ≡ out.old.items ++ counts_text line (file_reports reports.now) games version) }
+        ≡ out.old.items ++ counts_text line (line_reports lines.now) games version) }
 {
-    let files = file_count(reports);
-    let accepted = accepted_count(reports);
-    let refused = refused_count(reports);
+    let files = file_count(lines);
+    let accepted = accepted_count(lines);
+    let refused = refused_count(lines);
     print_counts_head(out, line, files, accepted, refused)?;
-    let full = full_count(reports);
-    let unread = unread_count(reports);
+    let full = full_count(lines);
+    let unread = unread_count(lines);
     print_counts_tail(out, full, unread, games, version)?;
     Ok(())
 }
@@ -210,12 +253,12 @@ fn print_counts(
 fn print_listed(
     out: &mut Vec<u8>,
     line: u32,
-    files: &[ImportedFile],
-    games: usize,
+    files: &[FileLine],
+    games: u64,
     version: u64,
 ) -> Result<(), NoMemory>
     ensures { OnOk result (out.new.items
-        ≡ out.old.items ++ listed_text line (file_reports files.now) games version) }
+        ≡ out.old.items ++ listed_text line (line_reports files.now) games version) }
 {
     print_counts(out, line, files, games, version)?;
     print_files(out, files)?;
@@ -232,46 +275,30 @@ fn print_unlisted(out: &mut Vec<u8>, line: u32) -> Result<(), NoMemory>
 }
 
 // Prints the report of an import of too many names.
-fn print_too_many(out: &mut Vec<u8>, line: u32, names: usize) -> Result<(), NoMemory>
+fn print_too_many(out: &mut Vec<u8>, line: u32, names: u64) -> Result<(), NoMemory>
     ensures { OnOk result (out.new.items
         ≡ out.old.items ++ too_many_text line names) }
 {
     append_decimal(out, u64::from(line))?;
     append(out, b" imported too many files ")?;
-    append_decimal_and(out, names as u64, b'\n')?;
+    append_decimal_and(out, names, b'\n')?;
     Ok(())
 }
 
-// How many games segments have.
-fn game_count(segments: &[Segment]) -> usize
-    requires { length (games_in segments.now) ≤ 400000 }
-    ensures { result ≡ length (games_in segments.now) }
+// Prints the report of an import: what it tells of its files, and the version after it.
+pub(crate) fn print_report(out: &mut Vec<u8>, report: &Report) -> Result<(), NoMemory>
+    requires { games_told (line_reports (lines_in report.now.body)) ≤ 400000 }
+    ensures { OnOk result (out.new.items ≡ out.old.items
+        ++ told_text report.now.line report.now.body report.now.version) }
 {
-    let mut games = 0;
-    for segment in segments {
-        games += segment.game_count() as usize;
-    }
-    games
-}
-
-// Prints the report of an import: what was found, and the version after it.
-pub(crate) fn print_report(
-    out: &mut Vec<u8>,
-    line: u32,
-    imported: &Imported,
-    version: u64,
-) -> Result<(), NoMemory>
-    requires { length (games_kept imported.now) ≤ 400000 }
-    ensures { OnOk result ((batch : ℕ) → 1 ≤ batch → (finding : Finding) →
-        Tells batch imported.now finding →
-        out.new.items ≡ out.old.items ++ report_text line finding version) }
-{
-    match imported {
-        Imported::Unlisted => print_unlisted(out, line)?,
-        Imported::TooMany { listed } => print_too_many(out, line, *listed)?,
-        Imported::Files { files, segments } => {
-            print_listed(out, line, files, game_count(segments), version)?;
+    let line = report.line;
+    match &report.body {
+        ReportBody::Files { lines } => {
+            let games = game_count(lines.as_slice());
+            print_listed(out, line, lines.as_slice(), games, report.version)?;
         }
+        ReportBody::Unlisted => print_unlisted(out, line)?,
+        ReportBody::TooMany { listed } => print_too_many(out, line, *listed)?,
     }
     Ok(())
 }

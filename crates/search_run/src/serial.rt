@@ -21,18 +21,21 @@ ghost use Rattle.search_run.specs.Script.{IsBad, IsInGrammar};
 ghost use Rattle.search_run.specs.Serial.{IsEarly, Prints, PrintsAll, PrintsPrefix};
 ghost use Rattle.search_run.specs.declared.status.Status.{Status};
 
-use crate::read::{ReadScriptError, read_text};
-use crate::run::{Stopped, run_statements};
-use crate::script::read_whole;
+use crate::script::{NoStatements, read_statements};
+use crate::statements::{Stopped, run_statements};
 use crate::status::Status;
+use hit_collectors::Collector;
 use kb_edges::{Folder, Sink, Source};
-use query_script::{ScriptError, WordsError, read_words};
+use query_script::{WordsError, read_words};
 use std::alloc::Global;
 use std::thread::Threads;
 
 /// Reads a script, imports its folders, and writes its answers, one statement after another. How
 /// that ended is told by the [`Status`]. A statement may be answered by several threads; they end
 /// before its text is written.
+///
+/// The boxes tally the hits of the searches, in order of the script; `report` prints what they tell,
+/// and `retire` drops the first one of a name.
 ///
 /// The words are those of the command line without the program's name: `--batch N`, by which the
 /// files of an import come into the base N at a time, and `--serial`, which changes nothing here. A
@@ -44,6 +47,7 @@ pub fn run_serial<R: Threads + Sync, F: Folder, S: Source, K: Sink>(
     folder: F,
     script: &mut S,
     out: &mut K,
+    boards: Vec<Box<dyn Collector>>,
 ) -> (Status, F)
     // The words come first. Those that aren't lawful are told so, but for want of memory, and nothing
     // is read, written or asked. Lawful ones are never told so.
@@ -82,20 +86,20 @@ pub fn run_serial<R: Threads + Sync, F: Folder, S: Source, K: Sink>(
         S.left script.old ≡ Some bytes → F.files folder ≡ Some files →
         K.written out.old ≡ Some before →
         result.0 ≡ Status.Done →
-        Prints (map string_bytes words.now) bytes files before (K.written out.new)
-        (F.faults folder) (F.faults result.1) }
+        Prints (map string_bytes words.now) (map (λ board. tally board) boards.items) bytes files
+        before (K.written out.new) (F.faults folder) (F.faults result.1) }
     ensures stopped { (bytes : List ℕ) (files : List File) (before : List ℕ) →
         S.left script.old ≡ Some bytes → F.files folder ≡ Some files →
         K.written out.old ≡ Some before →
         result.0 ≡ Status.SinkFault →
-        PrintsPrefix (map string_bytes words.now) bytes files before (K.written out.new)
-        (F.faults folder) (F.faults result.1) }
+        PrintsPrefix (map string_bytes words.now) (map (λ board. tally board) boards.items) bytes
+        files before (K.written out.new) (F.faults folder) (F.faults result.1) }
     ensures no_memory { (bytes : List ℕ) (files : List File) (before : List ℕ) →
         S.left script.old ≡ Some bytes → F.files folder ≡ Some files →
         K.written out.old ≡ Some before →
         result.0 ≡ Status.NoMemory → (K.written out.new ≡ Some before) × (result.1 ≡ folder)
-        ⊎ PrintsPrefix (map string_bytes words.now) bytes files before (K.written out.new)
-        (F.faults folder) (F.faults result.1) }
+        ⊎ PrintsPrefix (map string_bytes words.now) (map (λ board. tally board) boards.items)
+        bytes files before (K.written out.new) (F.faults folder) (F.faults result.1) }
 
     // Where nothing fails, the run is done, or memory was wanted. Where the folder doesn't fail,
     // nothing is lost.
@@ -108,7 +112,8 @@ pub fn run_serial<R: Threads + Sync, F: Folder, S: Source, K: Sink>(
         S.left script.old ≡ Some bytes → F.files folder ≡ Some files →
         K.written out.old ≡ Some before →
         result.0 ≡ Status.Done → ¬ Rose (F.faults folder) (F.faults result.1) →
-        PrintsAll (map string_bytes words.now) bytes files before (K.written out.new) }
+        PrintsAll (map string_bytes words.now) (map (λ board. tally board) boards.items) bytes files
+        before (K.written out.new) }
 
     // The folder's files stay, and no count of faults falls.
     ensures same { F.files result.1 ≡ F.files folder }
@@ -125,18 +130,14 @@ pub fn run_serial<R: Threads + Sync, F: Folder, S: Source, K: Sink>(
         Err(WordsError::BadWords) => return (Status::BadWords, folder),
         Err(WordsError::NoMemory) => return (Status::NoMemory, folder),
     };
-    let text = match read_text(alloc, script) {
-        Ok(text) => text,
-        Err(ReadScriptError::Unread) => return (Status::ScriptUnread, folder),
-        Err(ReadScriptError::NoMemory) => return (Status::NoMemory, folder),
-    };
-    let placed = match read_whole(alloc, &text) {
+    let placed = match read_statements(alloc, script) {
         Ok(placed) => placed,
-        Err(ScriptError::BadLine { line }) => return (Status::BadScript { line }, folder),
-        Err(ScriptError::NoMemory) => return (Status::NoMemory, folder),
+        Err(NoStatements::Unread) => return (Status::ScriptUnread, folder),
+        Err(NoStatements::BadLine { line }) => return (Status::BadScript { line }, folder),
+        Err(NoStatements::NoMemory) => return (Status::NoMemory, folder),
     };
     let mut folder = folder;
-    match run_statements(rt, alloc, said.batch as usize, &placed, &mut folder, out) {
+    match run_statements(rt, alloc, said.batch, boards, &placed, &mut folder, out) {
         Ok(()) => (Status::Done, folder),
         Err(Stopped::SinkFault) => (Status::SinkFault, folder),
         Err(Stopped::NoMemory) => (Status::NoMemory, folder),

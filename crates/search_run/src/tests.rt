@@ -1,17 +1,21 @@
 // Whole runs over a source, a folder and a sink in memory. The expected texts were worked out by
 // hand from the grammar of the script, the printed texts and the rules of Go.
 use crate::{Status, run_serial};
+use hit_collectors::Collector;
 use kb_edges::{FileEntry, MemoryFolder, MemorySink, MemorySource};
 use std::alloc::Global;
 use std::process::Abort;
 use std::test::Fail;
 use std::thread::Threads;
 
-mod damaged;
+mod beside;
+mod collectors;
+mod gate;
 mod imports;
 mod many_names;
 mod occurrences;
 mod positions;
+mod publishing;
 mod searches;
 
 // A file: its path, its name and its text.
@@ -65,18 +69,20 @@ fn entries(alloc: Global, files: &[File]) -> Result<Vec<FileEntry>, Fail> {
     Ok(entries)
 }
 
-fn run_words(
+// A run with collectors.
+fn run_with(
     rt: &(impl Threads + Sync),
     alloc: Global,
     words: &[String],
     files: Vec<FileEntry>,
     script: Vec<u8>,
     faults: Faults<'_>,
+    boards: Vec<Box<dyn Collector>>,
 ) -> Result<Ended, Fail> {
     let folder = MemoryFolder::new(files, faults.folder.to_vec(alloc)?);
     let mut source = MemorySource::new(script, faults.source.to_vec(alloc)?);
     let mut sink = MemorySink::new(Vec::new(alloc), faults.sink.to_vec(alloc)?);
-    let (status, folder) = run_serial(rt, alloc, words, folder, &mut source, &mut sink);
+    let (status, folder) = run_serial(rt, alloc, words, folder, &mut source, &mut sink, boards);
     Ok(Ended {
         status,
         written: sink.written().to_vec(alloc)?,
@@ -85,7 +91,20 @@ fn run_words(
     })
 }
 
-// A run without words.
+// A run without collectors.
+fn run_words(
+    rt: &(impl Threads + Sync),
+    alloc: Global,
+    words: &[String],
+    files: Vec<FileEntry>,
+    script: Vec<u8>,
+    faults: Faults<'_>,
+) -> Result<Ended, Fail> {
+    let boards: Vec<Box<dyn Collector>> = Vec::new(alloc);
+    run_with(rt, alloc, words, files, script, faults, boards)
+}
+
+// A run without words and collectors.
 fn run(
     rt: &(impl Threads + Sync),
     alloc: Global,

@@ -1,6 +1,8 @@
 -- The texts of answers, from what was printed.
-use Rattle.std.proofs.Common.{◌≡◌, ℕ, ◌≤◌, inl, inr, Some, None, List, [], ◌∷◌, ◌++◌, length, slice_get, sym, ap, ◌∙◌}
-use Rattle.std.specs.Prelude.{Result, OnOk}
+use Rattle.std.proofs.Common.{◌≡◌, ◌≢◌, ℕ, ◌≤◌, inl, inr, Some, None, List, [], ◌∷◌, ◌++◌, All, length, map, take, slice_get, subst, sym, ap, ◌∙◌}
+use Rattle.std.proofs.Math.Seq.{take-append_seam}
+use Rattle.std.proofs.lemmas.List.Elements.{All-map}
+use Rattle.std.specs.Prelude.{Result, Ok, Err, OnErr, OnOk}
 use Rattle.std.proofs.lemmas.Option.{get_or_from_slice_get, slice_get_cases, slice_get_within}
 use Rattle.indexmap.proofs.MapLemmas.{OnOk-map}
 use Rattle.sgf_writer.specs.Written.{IsWritten}
@@ -9,20 +11,57 @@ use Rattle.pattern_images.specs.declared.query.Query.{Query}
 use Rattle.info_filter.specs.declared.filter.Filter.{Filter}
 use Rattle.continuation_table.specs.Table.{IsTable, TableView}
 use Rattle.node_position.specs.Games.{Game}
-use Rattle.query_script.specs.Texts.{game_head, no_game_text, search_text}
+use Rattle.query_script.specs.Texts.{game_head, no_game_text, no_retire_text, retire_text, search_text}
 use Rattle.search_engine.specs.Hits.{AreHits}
-use Rattle.session_core.specs.Answers.{IsGameText, IsSearchText, View}
+use Rattle.hit_collectors.specs.Boxes.{IsFedInPart, IsRetired, all_with_hits}
+use Rattle.hit_collectors.specs.Tallies.{BoxTally}
+use Rattle.session_core.specs.Answers.{AreLeft, IsGameText, IsRetiredBy, IsSearched, View}
 
--- the text of a search was appended
-pub IsSearchText-printed : {T E : Type 0} (result : Result T E) (line : ℕ) (view : View) (version games : ℕ) (query : Query) (filter : Filter) (hits : List Hit) (table : TableView) (old new : List ℕ)
-    → version ≡ view.version → games ≡ length view.games → AreHits query filter view.games hits → IsTable hits table → OnOk result (new ≡ old ++ search_text line version games hits table)
-    → OnOk result ((text : List ℕ) × IsSearchText line view query filter text × (new ≡ old ++ text))
-IsSearchText-printed result line view version games query filter hits table old new own counted are is printed =
-    OnOk-map result _ _ (λ same. (
-      search_text line version games hits table,
-      record { hits = hits; table = table; are_hits = are; is_table = is; text_is = λ i. search_text line (own i) (counted i) hits table },
-      same,
-    )) printed
+-- the text of a search was appended, and its hits were given to the boxes
+pub IsSearched-delivered : {T E : Type 0} (result : Result T E) (line number games : ℕ) (hits : List Hit) (table : TableView) (boxes after : List BoxTally) (old new : List ℕ)
+    → OnOk result (new ≡ old ++ search_text line number games hits table) → OnOk result (after ≡ all_with_hits hits boxes)
+    → OnOk result ((view : View) (query : Query) (filter : Filter) → number ≡ view.version → games ≡ length view.games → AreHits query filter view.games hits → IsTable hits table
+    → (text : List ℕ) × IsSearched line view query filter boxes text after × (new ≡ old ++ text))
+IsSearched-delivered (Err e) line number games hits table boxes after old new printed fed = tt
+IsSearched-delivered (Ok x) line number games hits table boxes after old new printed fed = λ view query filter own counted are is. (
+  search_text line number games hits table,
+  record {
+    hits = hits;
+    is_text = record { table = table; are_hits = are; is_table = is; text_is = λ i. search_text line (own i) (counted i) hits table };
+    fed = fed;
+  },
+  printed,
+)
+
+-- the boxes were fed in part
+pub AreLeft-fed : {T E : Type 0} (result : Result T E) (AreThese : List Hit → Type 0) (hits : List Hit) (boxes after : List BoxTally) → AreThese hits
+    → OnErr result (IsFedInPart hits boxes after) → OnErr result (AreLeft AreThese boxes after)
+AreLeft-fed (Ok x) AreThese hits boxes after these fed = tt
+AreLeft-fed (Err e) AreThese hits boxes after these fed = inr (hits, these, fed)
+
+-- what is left by hits of which one thing holds is left by hits of which another does
+pub AreLeft-weaker : {T E : Type 0} (result : Result T E) (AreThese AreThose : List Hit → Type 0) (boxes after : List BoxTally) → ((hits : List Hit) → AreThese hits → AreThose hits)
+    → OnErr result (AreLeft AreThese boxes after) → OnErr result (AreLeft AreThose boxes after)
+AreLeft-weaker (Ok x) AreThese AreThose boxes after weaker left = tt
+AreLeft-weaker (Err e) AreThese AreThose boxes after weaker (inl same) = inl same
+AreLeft-weaker (Err e) AreThese AreThose boxes after weaker (inr (hits, these, fed)) = inr (hits, weaker hits these, fed)
+
+-- a box was retired, and told so
+pub IsRetiredBy-retired : (line : ℕ) (name : List ℕ) (boxes after : List BoxTally) (old new : List ℕ) → IsRetired (λ (told : BoxTally). told.name) name boxes after → new ≡ old ++ retire_text line name
+    → (text : List ℕ) × IsRetiredBy line name boxes text after × (new ≡ old ++ text)
+IsRetiredBy-retired line name boxes after old new gone printed = (retire_text line name, IsRetiredBy.retired after gone, printed)
+
+-- none was, and that was told, in place of what stood behind the old text
+pub IsRetiredBy-none : {A T E : Type 0} (result : Result T E) (told : A → BoxTally) (line : ℕ) (name : List ℕ) (boards after : List A) (old more between new : List ℕ) (count : ℕ)
+    → All (λ (board : A). (told board).name ≢ name) boards → after ≡ boards → count ≡ length old → between ≡ take count (old ++ more) → OnOk result (new ≡ between ++ no_retire_text line name)
+    → OnOk result ((text : List ℕ) × IsRetiredBy line name (map told boards) text (map told after) × (new ≡ old ++ text))
+IsRetiredBy-none (Err e) told line name boards after old more between new count none same counted cut printed = tt
+IsRetiredBy-none (Ok x) told line name boards after old more between new count none same counted cut printed =
+    let all = All-map (λ (box : BoxTally). box.name ≢ name) told boards none in (
+      no_retire_text line name,
+      subst (λ boxes. IsRetiredBy line name (map told boards) (no_retire_text line name) boxes) (ap (map told) (sym same)) (IsRetiredBy.none all),
+      printed ∙ ap (λ text. text ++ no_retire_text line name) (cut ∙ ap (λ n. take n (old ++ more)) counted ∙ take-append_seam old more),
+    )
 
 -- where nothing stands, a list is past its end
 past_all : {A : Type 0} (xs : List A) (n : ℕ) → None ≡ slice_get xs n → length xs ≤ n

@@ -7,7 +7,7 @@ use Rattle.node_position.specs.Games.{Game}
 use Rattle.pattern_images.specs.declared.hit.Hit.{Hit}
 use Rattle.pattern_images.specs.declared.query.Query.{Query}
 use Rattle.info_filter.specs.declared.filter.Filter.{Filter}
-use Rattle.continuation_table.specs.Table.{IsTable, TableView}
+use Rattle.continuation_table.specs.Table.{TableView}
 use Rattle.continuation_table.proofs.OneTable.{one_table}
 use Rattle.continuation_table.proofs.SomeTable.{some_table}
 use Rattle.sgf_writer.specs.Written.{IsWritten}
@@ -15,8 +15,11 @@ use Rattle.sgf_writer.proofs.EachWritten.{each-written}
 use Rattle.sgf_writer.proofs.OneText.{one_text}
 use Rattle.query_script.specs.declared.statement.Statement.{Statement}
 use Rattle.query_script.specs.declared.statement.Statement.TheVariants as statement
-use Rattle.query_script.specs.Texts.{game_head, kept_text, no_game_text, search_text}
-use Rattle.session_core.specs.Answers.{IsAnswer, IsAnswered, IsGameText, IsKeptText, IsSearchText, IsThere, View}
+use Rattle.query_script.specs.Texts.{game_head, kept_text, no_game_text, no_retire_text, retire_text, search_text}
+use Rattle.hit_collectors.specs.Boxes.{all_with_hits}
+use Rattle.hit_collectors.specs.Tallies.{BoxTally}
+use Rattle.hit_collectors.proofs.RetiredOnce.{none_retired, one_retired, some_retired}
+use Rattle.session_core.specs.Answers.{IsAnswer, IsAnswered, IsDoublesText, IsGameText, IsKeptText, IsPlayersText, IsRetiredBy, IsSearchText, IsSearched, IsSignatureText, IsThere, View, boxes_text}
 use Rattle.search_engine.proofs.HitsExist.{hits-found}
 use Rattle.search_engine.proofs.KeptCounts.{AreKept-unique, kept-found}
 use Rattle.session_core.proofs.ListAnswers.{doubles-one, doubles-text, players-one, players-text, signature-one, signature-text}
@@ -34,21 +37,45 @@ nth (game ∷ games) (suc n) below =
 tree_there : (games : List Game) → All (λ (g : Game). IsTree g.tree) games → (n : ℕ) (game : Game) → IsThere games n game → IsTree game.tree
 tree_there games trees n game there = subst (λ (g : Game). IsTree g.tree) (there.at game) (trees n game there.in_range)
 
-module _ (line : ℕ) (view : View) (trees : All (λ (g : Game). IsTree g.tree) view.games) where
-  pub search-text : (query : Query) (filter : Filter) → (text : List ℕ) × IsSearchText line view query filter text
-  search-text query filter =
-      let hits = hits-found 0 query filter view.games trees in
-      let table = some_table hits.0 in
-      (search_text line view.version (length view.games) hits.0 table.0, record { hits = hits.0; table = table.0; are_hits = hits.1; is_table = table.1; text_is = refl })
+-- a box is retired in one way
+pub retired-found : (line : ℕ) (name : List ℕ) (boxes : List BoxTally) → (text : List ℕ) × (after : List BoxTally) × IsRetiredBy line name boxes text after
+retired-found line name boxes = elim (some_retired (λ (told : BoxTally). told.name) name boxes) [
+  | inl none ↦ (no_retire_text line name, boxes, IsRetiredBy.none none)
+  | inr (after, gone) ↦ (retire_text line name, after, IsRetiredBy.retired after gone)
+]
 
-  pub search-one : (query : Query) (filter : Filter) (a b : List ℕ) → IsSearchText line view query filter a → IsSearchText line view query filter b → a ≡ b
-  search-one query filter a b one other =
-      let hits = hits-unique 0 query filter view.games view.games one.hits other.hits trees one.are_hits other.are_hits refl in
-      let table = one_table other.hits one.table other.table (subst (λ hs. IsTable hs one.table) hits one.is_table) other.is_table in
+pub retired-one : (line : ℕ) (name : List ℕ) (boxes : List BoxTally) (a b : List ℕ) (after other : List BoxTally) → IsRetiredBy line name boxes a after → IsRetiredBy line name boxes b other → (a ≡ b) × (after ≡ other)
+retired-one line name boxes _ _ _ _ (IsRetiredBy.retired after gone) (IsRetiredBy.retired other too) = (refl, one_retired (λ (told : BoxTally). told.name) name boxes after other gone too)
+retired-one line name boxes _ _ _ _ (IsRetiredBy.retired after gone) (IsRetiredBy.none none) = absurd (none_retired (λ (told : BoxTally). told.name) name boxes after none gone)
+retired-one line name boxes _ _ _ _ (IsRetiredBy.none none) (IsRetiredBy.retired other too) = absurd (none_retired (λ (told : BoxTally). told.name) name boxes other none too)
+retired-one line name boxes _ _ _ _ (IsRetiredBy.none none) (IsRetiredBy.none too) = (refl, refl)
+
+module _ (line : ℕ) (view : View) (trees : All (λ (g : Game). IsTree g.tree) view.games) where
+  -- a search has one list of hits
+  hits-one : (query : Query) (filter : Filter) (hits others : List Hit) (a b : List ℕ) → IsSearchText line view query filter hits a → IsSearchText line view query filter others b → hits ≡ others
+  hits-one query filter hits others a b one other = hits-unique 0 query filter view.games view.games hits others trees one.are_hits other.are_hits refl
+
+  text-one : (query : Query) (filter : Filter) (hits : List Hit) (a b : List ℕ) → IsSearchText line view query filter hits a → IsSearchText line view query filter hits b → a ≡ b
+  text-one query filter hits a b one other =
       one.text_is
-      ∙ ap (λ (hs : List Hit). search_text line view.version (length view.games) hs one.table) hits
-      ∙ ap (λ (t : TableView). search_text line view.version (length view.games) other.hits t) table
+      ∙ ap (λ (t : TableView). search_text line view.version (length view.games) hits t) (one_table hits one.table other.table one.is_table other.is_table)
       ∙ sym other.text_is
+
+  pub search-found : (query : Query) (filter : Filter) (boxes : List BoxTally) → (text : List ℕ) × (after : List BoxTally) × IsSearched line view query filter boxes text after
+  search-found query filter boxes =
+      let hits = hits-found 0 query filter view.games trees in
+      let table = some_table hits.0 in (
+        search_text line view.version (length view.games) hits.0 table.0,
+        all_with_hits hits.0 boxes,
+        record { hits = hits.0; is_text = record { table = table.0; are_hits = hits.1; is_table = table.1; text_is = refl }; fed = refl },
+      )
+
+  pub search-one : (query : Query) (filter : Filter) (boxes : List BoxTally) (a b : List ℕ) (after other : List BoxTally) → IsSearched line view query filter boxes a after → IsSearched line view query filter boxes b other → (a ≡ b) × (after ≡ other)
+  search-one query filter boxes a b after other one too =
+      let same = hits-one query filter one.hits too.hits a b one.is_text too.is_text in (
+        text-one query filter too.hits a b (subst (λ (hits : List Hit). IsSearchText line view query filter hits a) same one.is_text) too.is_text,
+        one.fed ∙ ap (λ (hits : List Hit). all_with_hits hits boxes) same ∙ sym too.fed,
+      )
 
   kept-text : (query : Query) → (text : List ℕ) × IsKeptText line view query text
   kept-text query =
@@ -80,26 +107,37 @@ module _ (line : ℕ) (view : View) (trees : All (λ (g : Game). IsTree g.tree) 
   game-one number _ _ (IsGameText.none past) (IsGameText.there k other too written) = let below = too.in_range in absurd (omega arith)
   game-one number _ _ (IsGameText.none past) (IsGameText.none too) = refl
 
-  pub answer-found : (own : Statement) → IsAnswered own → (text : List ℕ) × IsAnswer line view own text
-  answer-found (statement.Search query filter) answered = search-text query filter
-  answer-found (statement.Kept query) answered = kept-text query
-  answer-found (statement.Signature pattern) answered = signature-text line view trees pattern.bytes
-  answer-found statement.Players answered = players-text line view trees
-  answer-found statement.Doubles answered = doubles-text line view trees
-  answer-found (statement.Game number) answered = game-text number
-  answer-found (statement.Import path) answered = absurd answered
-  answer-found statement.Wait answered = absurd answered
-  answer-found (statement.Until number) answered = absurd answered
-  answer-found (statement.Together searches) answered = absurd answered
+  -- a text that leaves the boxes as they are
+  found-same : (IsText : List ℕ → Type 0) (boxes : List BoxTally) → (text : List ℕ) × IsText text → (text : List ℕ) × (after : List BoxTally) × (IsText text × (after ≡ boxes))
+  found-same IsText boxes found = (found.0, boxes, (found.1, refl))
 
-  pub answer-unique : (own : Statement) (a b : List ℕ) → IsAnswer line view own a → IsAnswer line view own b → a ≡ b
-  answer-unique (statement.Search query filter) a b one other = search-one query filter a b one other
-  answer-unique (statement.Kept query) a b one other = kept-one query a b one other
-  answer-unique (statement.Signature pattern) a b one other = signature-one line view trees pattern.bytes a b one other
-  answer-unique statement.Players a b one other = players-one line view trees a b one other
-  answer-unique statement.Doubles a b one other = doubles-one line view trees a b one other
-  answer-unique (statement.Game number) a b one other = game-one number a b one other
-  answer-unique (statement.Import path) a b one other = absurd one
-  answer-unique statement.Wait a b one other = absurd one
-  answer-unique (statement.Until number) a b one other = absurd one
-  answer-unique (statement.Together searches) a b one other = absurd one
+  one-same : (a b : List ℕ) (boxes after other : List BoxTally) → a ≡ b → after ≡ boxes → other ≡ boxes → (a ≡ b) × (after ≡ other)
+  one-same a b boxes after other text same too = (text, same ∙ sym too)
+
+  pub answer-found : (boxes : List BoxTally) (own : Statement) → IsAnswered own → (text : List ℕ) × (after : List BoxTally) × IsAnswer line view boxes own text after
+  answer-found boxes (statement.Search query filter) answered = search-found query filter boxes
+  answer-found boxes (statement.Kept query) answered = found-same (IsKeptText line view query) boxes (kept-text query)
+  answer-found boxes (statement.Signature pattern) answered = found-same (IsSignatureText line view pattern.bytes) boxes (signature-text line view trees pattern.bytes)
+  answer-found boxes statement.Players answered = found-same (IsPlayersText line view) boxes (players-text line view trees)
+  answer-found boxes statement.Doubles answered = found-same (IsDoublesText line view) boxes (doubles-text line view trees)
+  answer-found boxes (statement.Game number) answered = found-same (IsGameText line view number) boxes (game-text number)
+  answer-found boxes statement.Report answered = (boxes_text line boxes, boxes, (refl, refl))
+  answer-found boxes (statement.Retire name) answered = retired-found line name boxes
+  answer-found boxes (statement.Import path) answered = absurd answered
+  answer-found boxes statement.Wait answered = absurd answered
+  answer-found boxes (statement.Until number) answered = absurd answered
+  answer-found boxes (statement.Together searches) answered = absurd answered
+
+  pub answer-unique : (boxes : List BoxTally) (own : Statement) (a b : List ℕ) (after other : List BoxTally) → IsAnswer line view boxes own a after → IsAnswer line view boxes own b other → (a ≡ b) × (after ≡ other)
+  answer-unique boxes (statement.Search query filter) a b after other one too = search-one query filter boxes a b after other one too
+  answer-unique boxes (statement.Kept query) a b after other one too = one-same a b boxes after other (kept-one query a b one.0 too.0) one.1 too.1
+  answer-unique boxes (statement.Signature pattern) a b after other one too = one-same a b boxes after other (signature-one line view trees pattern.bytes a b one.0 too.0) one.1 too.1
+  answer-unique boxes statement.Players a b after other one too = one-same a b boxes after other (players-one line view trees a b one.0 too.0) one.1 too.1
+  answer-unique boxes statement.Doubles a b after other one too = one-same a b boxes after other (doubles-one line view trees a b one.0 too.0) one.1 too.1
+  answer-unique boxes (statement.Game number) a b after other one too = one-same a b boxes after other (game-one number a b one.0 too.0) one.1 too.1
+  answer-unique boxes statement.Report a b after other one too = one-same a b boxes after other (one.0 ∙ sym too.0) one.1 too.1
+  answer-unique boxes (statement.Retire name) a b after other one too = retired-one line name boxes a b after other one too
+  answer-unique boxes (statement.Import path) a b after other one too = absurd one
+  answer-unique boxes statement.Wait a b after other one too = absurd one
+  answer-unique boxes (statement.Until number) a b after other one too = absurd one
+  answer-unique boxes (statement.Together searches) a b after other one too = absurd one

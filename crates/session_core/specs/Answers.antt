@@ -1,5 +1,5 @@
--- The texts of the statements that are answered from the games of one version.
-use Rattle.std.specs.Prelude.{◌≡◌, ℕ, ◌<◌, ◌≤◌, List, [], ◌∷◌, ◌++◌, length, map, slice_index_or}
+-- The texts of the statements that a session answers, and what its boxes tell behind them.
+use Rattle.std.specs.Prelude.{◌≡◌, ◌≢◌, ◌⊎◌, ℕ, ◌<◌, ◌≤◌, List, [], ◌∷◌, ◌++◌, length, map, slice_index_or, All}
 use Rattle.std.specs.List.{flat_map}
 use Rattle.pattern_images.specs.declared.hit.Hit.{Hit}
 use Rattle.pattern_images.specs.declared.query.Query.{Query}
@@ -8,7 +8,10 @@ use Rattle.sgf_writer.specs.Written.{IsWritten}
 use Rattle.query_script.specs.declared.statement.Statement.{Statement}
 use Rattle.query_script.specs.declared.statement.Statement.TheVariants as statement
 use Rattle.query_script.specs.Bytes.{line_feed}
-use Rattle.query_script.specs.Texts.{double_text, doubles_head, game_head, kept_text, no_game_text, players_text, search_text, signature_head, found_game_text}
+use Rattle.query_script.specs.Texts.{double_text, doubles_head, game_head, kept_text, no_game_text, no_retire_text, players_text, report_head, retire_text, search_text, signature_head, found_game_text}
+use Rattle.hit_collectors.specs.Boxes.{IsFedInPart, IsRetired, all_with_hits}
+use Rattle.hit_collectors.specs.Reports.{report_line}
+use Rattle.hit_collectors.specs.Tallies.{BoxTally}
 use Rattle.info_filter.specs.declared.filter.Filter.{Filter}
 use Rattle.info_filter.specs.Players.{IsPlayersTable, TableRow}
 use Rattle.node_position.specs.Games.{Game}
@@ -22,14 +25,20 @@ pub record View : Type 0 where
   pub version : ℕ
   pub games : List Game
 
--- the text of a search at this line: its hits and their table
+-- the text of a search at this line that has these hits: the hits and their table
 pub record IsSearchText (line : ℕ) (view : View) (query : Query) (filter : Filter)
-    (text : List ℕ) : Type 0 where
-  pub hits : List Hit
+    (hits : List Hit) (text : List ℕ) : Type 0 where
   pub table : TableView
   pub are_hits : AreHits query filter view.games hits
   pub is_table : IsTable hits table
   pub text_is : text ≡ search_text line view.version (length view.games) hits table
+
+-- A search at this line: its text, and what the boxes tell with its hits.
+pub record IsSearched (line : ℕ) (view : View) (query : Query) (filter : Filter)
+    (boxes : List BoxTally) (text : List ℕ) (after : List BoxTally) : Type 0 where
+  pub hits : List Hit
+  pub is_text : IsSearchText line view query filter hits text
+  pub fed : after ≡ all_with_hits hits boxes
 
 -- the game with this number is there
 pub record IsThere (games : List Game) (number : ℕ) (game : Game) : Type 0 where
@@ -76,21 +85,45 @@ pub record IsDoublesText (line : ℕ) (view : View) (text : List ℕ) : Type 0 w
       ≡ doubles_head line view.version (length view.games) (length (groups_of keys))
       ++ flat_map (λ (g : Group). double_text g.form g.games) (groups_of keys)
 
--- The text of a statement over what is seen of the base. Other statements have none.
-abbrev pub IsAnswer : ℕ → View → Statement → List ℕ → Type 0
-IsAnswer line view (statement.Search query filter) text = IsSearchText line view query filter text
-IsAnswer line view (statement.Kept query) text = IsKeptText line view query text
-IsAnswer line view (statement.Signature pattern) text =
-    IsSignatureText line view pattern.bytes text
-IsAnswer line view statement.Players text = IsPlayersText line view text
-IsAnswer line view statement.Doubles text = IsDoublesText line view text
-IsAnswer line view (statement.Game number) text = IsGameText line view number text
-IsAnswer line view (statement.Import path) text = ⊥
-IsAnswer line view statement.Wait text = ⊥
-IsAnswer line view (statement.Until number) text = ⊥
-IsAnswer line view (statement.Together searches) text = ⊥
+-- the text of a report at this line: how many boxes there are, and the report line of each, in order
+abbrev pub boxes_text : ℕ → List BoxTally → List ℕ
+boxes_text line boxes = report_head line (length boxes) ++ flat_map report_line boxes
 
--- the statement is answered from the games of a version
+-- A box is retired by its name: the first one that has it is left out, and the others stay as they
+-- are; or none has it, and all stay.
+pub data IsRetiredBy (line : ℕ) (name : List ℕ) (boxes : List BoxTally) : List ℕ →
+    List BoxTally → Type 0 where
+  retired : (after : List BoxTally) →
+      IsRetired (λ (told : BoxTally). told.name) name boxes after →
+      IsRetiredBy line name boxes (retire_text line name) after
+  none : All (λ (told : BoxTally). told.name ≢ name) boxes →
+      IsRetiredBy line name boxes (no_retire_text line name) boxes
+
+-- The text of a statement over what is seen of the base, by what the boxes tell before it, and what
+-- they tell behind it. Other statements have none.
+abbrev pub IsAnswer : ℕ → View → List BoxTally → Statement → List ℕ → List BoxTally → Type 0
+IsAnswer line view boxes (statement.Search query filter) text after =
+    IsSearched line view query filter boxes text after
+IsAnswer line view boxes (statement.Kept query) text after =
+    IsKeptText line view query text × (after ≡ boxes)
+IsAnswer line view boxes (statement.Signature pattern) text after =
+    IsSignatureText line view pattern.bytes text × (after ≡ boxes)
+IsAnswer line view boxes statement.Players text after =
+    IsPlayersText line view text × (after ≡ boxes)
+IsAnswer line view boxes statement.Doubles text after =
+    IsDoublesText line view text × (after ≡ boxes)
+IsAnswer line view boxes (statement.Game number) text after =
+    IsGameText line view number text × (after ≡ boxes)
+IsAnswer line view boxes statement.Report text after =
+    (text ≡ boxes_text line boxes) × (after ≡ boxes)
+IsAnswer line view boxes (statement.Retire name) text after =
+    IsRetiredBy line name boxes text after
+IsAnswer line view boxes (statement.Import path) text after = ⊥
+IsAnswer line view boxes statement.Wait text after = ⊥
+IsAnswer line view boxes (statement.Until number) text after = ⊥
+IsAnswer line view boxes (statement.Together searches) text after = ⊥
+
+-- the statement is answered by a session
 abbrev pub IsAnswered : Statement → Type 0
 IsAnswered (statement.Search query filter) = Unit {0}
 IsAnswered (statement.Kept query) = Unit {0}
@@ -98,7 +131,20 @@ IsAnswered (statement.Signature pattern) = Unit {0}
 IsAnswered statement.Players = Unit {0}
 IsAnswered statement.Doubles = Unit {0}
 IsAnswered (statement.Game number) = Unit {0}
+IsAnswered statement.Report = Unit {0}
+IsAnswered (statement.Retire name) = Unit {0}
 IsAnswered (statement.Import path) = ⊥
 IsAnswered statement.Wait = ⊥
 IsAnswered (statement.Until number) = ⊥
 IsAnswered (statement.Together searches) = ⊥
+
+-- What the boxes tell where an answer was refused: what they told before, or they were fed in part
+-- with hits of which this holds.
+abbrev pub AreLeft : (List Hit → Type 0) → List BoxTally → List BoxTally → Type 0
+AreLeft AreThese boxes after =
+    (after ≡ boxes) ⊎ ((hits : List Hit) × AreThese hits × IsFedInPart hits boxes after)
+
+-- the hits with which a statement feeds the boxes: those of a search
+abbrev pub FeedsHits : View → Statement → List Hit → Type 0
+FeedsHits view (statement.Search query filter) hits = AreHits query filter view.games hits
+FeedsHits view other hits = ⊥

@@ -11,49 +11,75 @@ ghost use Rattle.std.specs.Prelude.{
   OnErr,
   OnOk,
   length,
+  map,
   string_bytes,
 };
 ghost use mathlib.Core.List.{IsPrefix};
+ghost use Rattle.continuation_table.specs.Table.{IsTable};
 ghost use Rattle.sgf_writer.specs.Written.{IsWritten};
 ghost use Rattle.query_script.specs.Bytes.{line_feed};
-ghost use Rattle.query_script.specs.Texts.{game_head};
+ghost use Rattle.query_script.specs.Texts.{game_head, search_text};
+ghost use Rattle.search_engine.specs.Hits.{AreHits};
+ghost use Rattle.hit_collectors.specs.Boxes.{all_with_hits};
 ghost use Rattle.session_core.specs.Answers.{
+  AreLeft,
+  FeedsHits,
   IsAnswer,
   IsAnswered,
   IsGameText,
   IsKeptText,
-  IsSearchText,
+  IsSearched,
+  View,
 };
 ghost use Rattle.session_core.specs.Stores.{view_of};
 
+use crate::boxes::{append_report, feed_boxes, retire_box};
 use crate::lists::{append_doubles, append_players, append_signature};
+use hit_collectors::Collector;
 use info_filter::Filter;
-use kb_geometry::NoMemory;
+use kb_geometry::{NoMemory, cut_back};
 use pattern_images::Query;
 use query_script::{Statement, print_game, print_hits, print_kept, print_no_game};
-use search_engine::{find_game, game_count, kept, search};
+use search_engine::{Answer, find_game, game_count, kept, search};
 use segment_store::{FinishedGame, Segment};
 use sgf_writer::write;
 use std::alloc::Global;
+use std::marker::Model;
 use std::thread::Threads;
 use version_publisher::Version;
 
-/// Answers statements over the games that each call is given. It keeps nothing from one to the
-/// next.
-#[derive(Debug, Drop)]
-pub struct Session {}
+/// Answers statements, each over the games that its call is given, and keeps boxes that tally the
+/// hits of its searches. Contracts see it as what the boxes tell, in order.
+#[derive(Drop)]
+pub struct Session<C: Collector> {
+    boards: Vec<C>,
+}
 
-impl Session {
-    /// A session that has answered nothing.
-    pub fn new() -> Session {
-        Session {}
+impl<C: Collector> Model for Session<C> {
+    ghost use Rattle.std.specs.Prelude.{List, map};
+    ghost use Rattle.hit_collectors.specs.Tallies.{BoxTally};
+
+    ghost Value = { List BoxTally };
+
+    ghost view = { λ s. map (λ board. C.tally board) s.boards.items };
+}
+
+impl<C: Collector> Session<C> {
+    /// A session with these boxes, which has answered nothing.
+    pub fn new(boards: Vec<C>) -> Session<C>
+        ensures { result ≡ map (λ board. C.tally board) boards.items }
+    {
+        Session { boards }
     }
 
     /// Appends the text of a search, of a count of kept games, of the games whose signature matches
     /// a pattern, of the players, of the double games or of a game, whose line is this one, over a
-    /// version. Other statements aren't answered from a version.
+    /// version; or the report of the boxes, or that a box was retired. The hits of a search are
+    /// given to all boxes. Other statements aren't answered.
     ///
-    /// The only error is `NoMemory`; then `out` begins with what it held.
+    /// The only error is `NoMemory`; then `out` begins with what it held. The boxes are as before,
+    /// or [`feed`](hit_collectors::feed) was refused: then the boxes before one have all hits, that one has those before
+    /// the hit that it refused, and the later boxes have none.
     pub fn answer<R: Threads + Sync>(
         &mut self,
         rt: &R,
@@ -65,13 +91,15 @@ impl Session {
     ) -> Result<(), NoMemory>
         requires answered { IsAnswered statement.now }
         ensures ok { OnOk result ((text : List ℕ)
-            × IsAnswer line (view_of version.now) statement.now text
+            × IsAnswer line (view_of version.now) self.old statement.now text self.new
             × (out.new.items ≡ out.old.items ++ text)) }
         ensures refused { OnErr result (IsPrefix out.old.items out.new.items) }
+        ensures left { OnErr result
+            (AreLeft (FeedsHits (view_of version.now) statement.now) self.old self.new) }
     {
         match statement {
             Statement::Search { query, filter } => {
-                append_search(rt, alloc, line, query, filter, version, out)
+                self.answer_search(rt, alloc, line, query, filter, version, out)
             }
             Statement::Kept { query } => append_kept(alloc, line, query, version, out),
             Statement::Signature { pattern } => {
@@ -80,6 +108,8 @@ impl Session {
             Statement::Players => append_players(alloc, line, version, out),
             Statement::Doubles => append_doubles(rt, alloc, line, version, out),
             Statement::Game { number: game } => append_game(line, *game, version, out),
+            Statement::Report => append_report(line, &self.boards, out),
+            Statement::Retire { name } => retire_box(line, name.as_str(), &mut self.boards, out),
             Statement::Import { .. }
             | Statement::Wait
             | Statement::Until { .. }
@@ -88,7 +118,9 @@ impl Session {
         }
     }
 
-    /// Appends the text of a search that stands in a block of searches. All else is as for
+    /// Appends the text of a search, as one that stands in a block, and gives its hits to all boxes.
+    ///
+    /// The only error is `NoMemory`; then `out` holds what it held, and the boxes are as for
     /// [`answer`](Session::answer).
     pub fn answer_search<R: Threads + Sync>(
         &mut self,
@@ -101,39 +133,50 @@ impl Session {
         out: &mut Vec<u8>,
     ) -> Result<(), NoMemory>
         ensures ok { OnOk result ((text : List ℕ)
-            × IsSearchText line (view_of version.now) query.now filter.now text
+            × IsSearched line (view_of version.now) query.now filter.now self.old text self.new
             × (out.new.items ≡ out.old.items ++ text)) }
-        ensures refused { OnErr result (IsPrefix out.old.items out.new.items) }
+        ensures refused { OnErr result (out.new.items ≡ out.old.items) }
+        ensures left { OnErr result
+            (AreLeft (AreHits query.now filter.now (view_of version.now).games) self.old self.new) }
     {
-        append_search(rt, alloc, line, query, filter, version, out)
+        let answer = search(rt, alloc, version, query, filter)?;
+        self.deliver(line, version.number(), game_count(version), &answer, out)
     }
-}
 
-// Appends the text of a search.
-fn append_search<R: Threads + Sync>(
-    rt: &R,
-    alloc: Global,
-    line: u32,
-    query: &Query,
-    filter: &Filter,
-    version: &Version<Segment>,
-    out: &mut Vec<u8>,
-) -> Result<(), NoMemory>
-    ensures ok { OnOk result ((text : List ℕ)
-        × IsSearchText line (view_of version.now) query.now filter.now text
-        × (out.new.items ≡ out.old.items ++ text)) }
-    ensures refused { OnErr result (out.new.items ≡ out.old.items) }
-{
-    let answer = search(rt, alloc, version, query, filter)?;
-    let games = game_count(version);
-    print_hits(
-        line,
-        version.number(),
-        games,
-        &answer.hits,
-        &answer.table,
-        out,
-    )
+    /// Appends the text of a search that was made elsewhere, by the number of a version, how many
+    /// games it has, and the answer, and gives the hits of the answer to all boxes. For the answer
+    /// that [`search`] gives over a version with this number and so many games, this is what
+    /// [`answer`](Session::answer) does.
+    ///
+    /// The only error is `NoMemory`; then `out` holds what it held, and the boxes are as for
+    /// [`answer`](Session::answer).
+    pub fn deliver(
+        &mut self,
+        line: u32,
+        number: u64,
+        games: u32,
+        answer: &Answer,
+        out: &mut Vec<u8>,
+    ) -> Result<(), NoMemory>
+        ensures ok { OnOk result (out.new.items ≡ out.old.items
+            ++ search_text line number games answer.now.hits.items answer.now.table) }
+        ensures fed { OnOk result (self.new ≡ all_with_hits answer.now.hits.items self.old) }
+        ensures searched { OnOk result ((view : View) (query : Query) (filter : Filter) →
+            number ≡ view.version → games ≡ length view.games →
+            AreHits query filter view.games answer.now.hits.items →
+            IsTable answer.now.hits.items answer.now.table →
+            (text : List ℕ) × IsSearched line view query filter self.old text self.new
+            × (out.new.items ≡ out.old.items ++ text)) }
+        ensures refused { OnErr result (out.new.items ≡ out.old.items) }
+        ensures left { OnErr result
+            (AreLeft (λ hits. hits ≡ answer.now.hits.items) self.old self.new) }
+    {
+        // The text is there before a box changes, so that a refusal for want of room changes none.
+        let len = out.len();
+        print_hits(line, number, games, &answer.hits, &answer.table, out)?;
+        let fed = feed_boxes(&mut self.boards, &answer.hits);
+        cut_back(out, len, fed)
+    }
 }
 
 // Appends the text of a count of kept games.

@@ -1,4 +1,5 @@
 // The texts of statements over games from SGF texts. They were worked out by hand.
+mod collectors;
 mod filters;
 mod kept;
 mod lists;

@@ -1,4 +1,6 @@
 mod EndLemmas
+mod FlatLists
+mod NestedLists
 mod OutsideLemmas
 mod ReadTo
 mod ReadingLemmas

@@ -4,6 +4,7 @@ pub mod Faults
 pub mod Grammar
 pub mod Limits
 -- Words of private functions.
+pub mod Flat
 pub mod Reading
 pub mod Scan
 pub mod Stays

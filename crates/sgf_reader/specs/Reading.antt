@@ -1,10 +1,12 @@
 -- For the reader's private functions: what was read so far, and which scan it shows.
-use Rattle.std.specs.Prelude.{◌≡◌, ℕ, ◌<◌, ◌≤◌, List, [], ◌∷◌, ◌++◌, length, map, Option, Some, None, Bool, true, false, if◌then◌else◌}
+use Rattle.std.specs.Prelude.{◌≡◌, ℕ, ◌<◌, ◌≤◌, List, [], ◌∷◌, ◌++◌, length, map, Option, Some, None, Bool, true, false}
 use Rattle.sgf_reader.specs.declared.collection.Pair.{Pair}
 use Rattle.sgf_reader.specs.declared.collection.RawNode.{RawNode}
 use Rattle.sgf_reader.specs.declared.collection.RawGame.{RawGame}
 use Rattle.sgf_reader.specs.declared.fault.FaultKind.TheVariants as kind
 use Rattle.sgf_reader.specs.declared.fault.SgfFault.{SgfFault}
+use Rattle.sgf_reader.specs.declared.flat.NodeStart.{NodeStart}
+use Rattle.sgf_reader.specs.Flat.{IsFlat, last_end}
 use Rattle.sgf_reader.specs.Limits.{most_games, most_nodes, most_open}
 use Rattle.sgf_reader.specs.declared.place.Phase as phases
 use Rattle.sgf_reader.specs.declared.place.Phase.TheVariants as at
@@ -24,10 +26,13 @@ pub record View : Type 0 where
   pub parents : List (Option ℕ)
   pub last : Option ℕ
 
--- the nodes of which this one is still being read
-abbrev pub all_nodes : List RawNode → Bool → Option ℕ → List Pair → List RawNode
-all_nodes nodes is_reading parent pairs =
-    if is_reading then nodes ++ record { parent = parent; pairs = pairs } ∷ [] else nodes
+-- What was read so far is stored flat. The nodes from this number on are those of the game that has
+-- not ended; where more values of the last node may follow, it has one.
+pub record IsFlatSoFar (pairs : List Pair) (nodes : List NodeStart) (ends : List ℕ) (first : ℕ)
+    (is_reading : Bool) : Type 0 where
+  pub flat : IsFlat pairs nodes ends
+  pub first_is : first ≡ last_end 0 ends
+  pub begun : is_reading ≡ true → first < length nodes
 
 -- the last of these nodes has one more value
 abbrev pub with_raw_pair : List RawNode → Pair → List RawNode

@@ -12,7 +12,7 @@ use crate::place::Place;
 use crate::reading::{Reading, fault};
 use crate::stays::{is_node_next, next_from};
 use crate::step::step;
-use crate::{Collection, FaultKind, ReadError};
+use crate::{Collection, FaultKind, FlatCollection, ReadError};
 use std::alloc::Global;
 
 // Reads the first bytes, so many. The answer is where the reader then stands.
@@ -54,7 +54,7 @@ fn fault_past_end(reading: &Reading, place: Place, text: &[u8], end: usize) -> R
     fault(FaultKind::TooManyGames, from)
 }
 
-/// Reads a text: the collection that it spells, or its first fault.
+/// Reads a text: the collection that it spells, stored flat, or its first fault.
 ///
 /// The grammar is that of SGF FF[4] for collections of game trees, where lower-case letters in
 /// identifiers are ignored and bytes outside trees are skipped. The faults are of the kinds up to
@@ -62,8 +62,9 @@ fn fault_past_end(reading: &Reading, place: Place, text: &[u8], end: usize) -> R
 /// others. Offsets count bytes from 0.
 ///
 /// The text is read once from front to end, without recursion, and isn't copied: names and values
-/// are spans of it. `NoMemory` is answered where an allocation was refused.
-pub fn read(alloc: Global, text: &[u8]) -> Result<Collection, ReadError>
+/// are spans of it. Nothing is allocated for a node. `NoMemory` is answered where an allocation was
+/// refused.
+pub fn read_flat(alloc: Global, text: &[u8]) -> Result<FlatCollection, ReadError>
     ensures ok { IfOk result (λ collection. IsRead text.now collection) }
     ensures fault { (f : SgfFault) → result ≡ Err (Fault f) → IsFirstFault text.now f.kind f.at }
 {
@@ -74,4 +75,13 @@ pub fn read(alloc: Global, text: &[u8]) -> Result<Collection, ReadError>
         return Err(fault_past_end(&reading, place, text, end));
     }
     reading.finish(place, end as u32)
+}
+
+/// Reads a text as [`read_flat`] does, and gives the collection as lists in lists.
+pub fn read(alloc: Global, text: &[u8]) -> Result<Collection, ReadError>
+    ensures ok { IfOk result (λ collection. IsRead text.now collection) }
+    ensures fault { (f : SgfFault) → result ≡ Err (Fault f) → IsFirstFault text.now f.kind f.at }
+{
+    let flat = read_flat(alloc, text)?;
+    Ok(flat.to_collection(alloc)?)
 }

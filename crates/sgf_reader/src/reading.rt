@@ -9,6 +9,7 @@ ghost use Rattle.std.specs.Prelude.{
   Some,
   [],
   ◌∷◌,
+  ◌++◌,
   true,
   false,
   length,
@@ -29,44 +30,43 @@ ghost use Rattle.sgf_reader.specs.Reading.{
   IsEndFault,
 };
 
+use crate::flat::NodeStart;
 use crate::limits::{MAX_GAMES, MAX_NODES, MAX_OPEN};
 use crate::place::{Phase, Place};
-use crate::{
-    Collection, FaultKind, Pair, PairList, RawGame, RawGameList, RawNode, RawNodeList, ReadError,
-    SgfFault,
-};
+use crate::{FaultKind, FlatCollection, Pair, ReadError, SgfFault};
 use std::alloc::Global;
 use std::marker::Model;
-use std::mem;
 
-// The games that have ended, and of the game that has not its nodes and its open brackets. The
-// values of the node that is being read stand aside, in a vector that serves one node after
-// another.
+// The values and the nodes of all games so far, and where the games end that have ended; of the game
+// that has not, its first node and its open brackets.
 #[derive(Drop)]
 pub(crate) struct Reading {
-    alloc: Global,
-    games: Vec<RawGame>,
-    nodes: Vec<RawNode>,
-    is_reading: bool,
-    parent: Option<u32>,
     pairs: Vec<Pair>,
+    nodes: Vec<NodeStart>,
+    ends: Vec<usize>,
+    first: usize,
+    is_reading: bool,
     parents: Vec<Option<u32>>,
     last: Option<u32>,
 }
 
 impl Model for Reading {
-    ghost use Rattle.std.specs.Prelude.{reverse};
-    ghost use Rattle.sgf_reader.specs.Reading.{View, all_nodes};
+    ghost use Rattle.std.specs.Prelude.{reverse, drop};
+    ghost use Rattle.sgf_reader.specs.Flat.{shown_games, shown_nodes};
+    ghost use Rattle.sgf_reader.specs.Reading.{View, IsFlatSoFar};
 
     ghost Value = { View };
 
     ghost view = { λ r. record {
-      games = r.games.items;
-      nodes = all_nodes r.nodes.items r.is_reading r.parent r.pairs.items;
+      games = shown_games r.ends.items (shown_nodes r.nodes.items r.pairs.items);
+      nodes = drop r.first (shown_nodes r.nodes.items r.pairs.items);
       is_reading = r.is_reading;
       parents = reverse r.parents.items;
       last = r.last;
     } };
+
+    ghost invariant = { λ r. IsFlatSoFar r.pairs.items r.nodes.items r.ends.items r.first
+        r.is_reading };
 }
 
 // This fault at this offset.
@@ -81,7 +81,7 @@ impl Reading {
     pub(crate) fn game_count(&self) -> usize
         ensures { result ≡ length self.now.games }
     {
-        self.games.len()
+        self.ends.len()
     }
 
     // Nothing so far.
@@ -95,33 +95,14 @@ impl Reading {
         } }
     {
         Reading {
-            alloc,
-            games: Vec::new(alloc),
-            nodes: Vec::new(alloc),
-            is_reading: false,
-            parent: None,
             pairs: Vec::new(alloc),
+            nodes: Vec::new(alloc),
+            ends: Vec::new(alloc),
+            first: 0,
+            is_reading: false,
             parents: Vec::new(alloc),
             last: None,
         }
-    }
-
-    // The node that is being read has no more values.
-    fn finish_node(&mut self) -> Result<(), ReadError>
-        ensures ok { IfOk result (λ _. self.new ≡ record self.old { is_reading = false }) }
-        ensures fault { (f : SgfFault) → result ≡ Err (Fault f) → ⊥ }
-    {
-        if !self.is_reading {
-            return Ok(());
-        }
-        let mut pairs = Vec::with_capacity(self.alloc, self.pairs.len())?;
-        pairs.extend_from_slice(&self.pairs)?;
-        self.nodes.push(RawNode {
-            parent: self.parent,
-            pairs: PairList::new(pairs),
-        })?;
-        self.is_reading = false;
-        Ok(())
     }
 
     // One value more of the node that is being read.
@@ -142,13 +123,14 @@ impl Reading {
             (f ≡ record { kind = kind.TooManyNodes; at = at })
             × (most_nodes ≤ length self.old.nodes) }
     {
-        self.finish_node()?;
-        let number = self.nodes.len();
+        let number = self.nodes.len() - self.first;
         if number >= MAX_NODES as usize {
             return Err(fault(FaultKind::TooManyNodes, at));
         }
-        self.pairs.clear();
-        self.parent = self.last;
+        self.nodes.push(NodeStart {
+            parent: self.last,
+            values_from: self.pairs.len(),
+        })?;
         self.last = Some(number as u32);
         self.is_reading = true;
         Ok(())
@@ -161,11 +143,11 @@ impl Reading {
         ensures fault { (f : SgfFault) → result ≡ Err (Fault f) →
             (f ≡ record { kind = kind.TooDeep; at = at }) × (most_open ≤ length self.old.parents) }
     {
-        self.finish_node()?;
         if self.parents.len() >= MAX_OPEN as usize {
             return Err(fault(FaultKind::TooDeep, at));
         }
         self.parents.push(self.last)?;
+        self.is_reading = false;
         Ok(())
     }
 
@@ -176,7 +158,7 @@ impl Reading {
             × (place ≡ closed_place self.old.parents)) }
         ensures fault { (f : SgfFault) → result ≡ Err (Fault f) → ⊥ }
     {
-        self.finish_node()?;
+        self.is_reading = false;
         let Some(parent) = self.parents.pop() else {
             return Ok(Place::Outside);
         };
@@ -184,11 +166,24 @@ impl Reading {
         if !self.parents.is_empty() {
             return Ok(Place::Within(Phase::AfterTree));
         }
-        let nodes = mem::replace(&mut self.nodes, Vec::new(self.alloc));
-        self.games.push(RawGame {
-            nodes: RawNodeList::new(nodes),
-        })?;
+        self.end_game()?;
         Ok(Place::Outside)
+    }
+
+    // The game has the nodes so far and no more.
+    fn end_game(&mut self) -> Result<(), ReadError>
+        ensures ok { IfOk result (λ _. self.new ≡ record self.old {
+          games = self.old.games ++ record { nodes = self.old.nodes } ∷ [];
+          nodes = [];
+          is_reading = false;
+        }) }
+        ensures fault { (f : SgfFault) → result ≡ Err (Fault f) → ⊥ }
+    {
+        let end = self.nodes.len();
+        self.ends.push(end)?;
+        self.first = end;
+        self.is_reading = false;
+        Ok(())
     }
 
     // A game begins: its bracket at the first offset, its root at the second.
@@ -205,10 +200,10 @@ impl Reading {
             × (most_games ≤ length self.old.games))
             ⊎ (most_nodes ≤ length self.old.nodes) }
     {
-        if self.games.len() >= MAX_GAMES as usize {
+        if self.game_count() >= MAX_GAMES as usize {
             return Err(fault(FaultKind::TooManyGames, from));
         }
-        self.finish_node()?;
+        self.is_reading = false;
         self.parents.push(None)?;
         self.last = None;
         self.begin_node(at)
@@ -216,7 +211,7 @@ impl Reading {
 
     // The text ends at this offset. The games are its collection where it ends outside trees,
     // behind one or more.
-    pub(crate) fn finish(self, place: Place, at: u32) -> Result<Collection, ReadError>
+    pub(crate) fn finish(self, place: Place, at: u32) -> Result<FlatCollection, ReadError>
         ensures ok { IfOk result (λ collection.
             (collection ≡ record { games = self.games }) × (1 ≤ length self.games)
             × IsPlaceOutside place) }
@@ -225,11 +220,9 @@ impl Reading {
         if let Place::Within(_) = place {
             return Err(fault(FaultKind::Ended, at));
         }
-        if self.games.is_empty() {
+        if self.game_count() == 0 {
             return Err(fault(FaultKind::NoGame, at));
         }
-        Ok(Collection {
-            games: RawGameList::new(self.games),
-        })
+        Ok(FlatCollection::stored(self.pairs, self.nodes, self.ends))
     }
 }

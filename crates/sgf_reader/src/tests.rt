@@ -1,4 +1,4 @@
-use crate::{FaultKind, Pair, RawNode, ReadError, SgfFault, Span, read};
+use crate::{FaultKind, FlatCollection, Pair, RawNode, ReadError, SgfFault, Span, read, read_flat};
 use std::alloc::{AllocError, Global};
 use std::test::Fail;
 
@@ -267,6 +267,46 @@ fn nodes_of_trees(rt: HostRuntime) -> Result<(), Fail> {
             }
         }
     }
+    Ok(())
+}
+
+// The parents of the nodes of a flat collection, one game behind another, each with the place of its
+// first value, and the number of its values.
+fn flat_nodes(
+    alloc: Global,
+    collection: &FlatCollection,
+) -> Result<Vec<(Option<u32>, Option<u32>, usize)>, AllocError> {
+    let mut nodes = Vec::new(alloc);
+    for number in 0..collection.game_count() {
+        let game = collection.game(number);
+        for place in 0..game.node_count() {
+            let node = game.node(place);
+            let first = node.pairs().first().map(|pair| pair.value.from);
+            nodes.push((node.parent(), first, node.pairs().len()))?;
+        }
+    }
+    Ok(nodes)
+}
+
+// Games whose last nodes have values and whose roots have none, and the other way.
+const FLAT: &str = "(;;B[aa][bb];C[])(;)x(;A[1]B[2](;)(;C[3]))";
+
+#[test]
+fn nodes_of_flat_collections(rt: HostRuntime) -> Result<(), Fail> {
+    let alloc = rt.alloc();
+    let flat = read_flat(alloc, FLAT.as_bytes())?;
+    let nodes = [
+        (None, None, 0),
+        (Some(0), Some(5), 2),
+        (Some(1), Some(15), 1),
+        (None, None, 0),
+        (None, Some(25), 2),
+        (Some(0), None, 0),
+        (Some(0), Some(38), 1),
+    ];
+    assert_eq!(rt; flat_nodes(alloc, &flat)?.as_slice(), nodes.as_slice());
+    let again = FlatCollection::of(alloc, &flat.to_collection(alloc)?)?;
+    assert_eq!(rt; flat_nodes(alloc, &again)?.as_slice(), nodes.as_slice());
     Ok(())
 }
 

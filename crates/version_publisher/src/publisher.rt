@@ -220,9 +220,10 @@ impl<P: Part> Publisher<P> {
         self.writer.has_pending_operations() || !self.waiting.is_empty()
     }
 
-    /// How many parts were appended and published.
+    /// How many parts were appended and published. They have at most [`Part::MOST`] items.
     pub fn number(&self) -> u64
-        ensures { result ≡ length self.now.log }
+        ensures value { result ≡ length self.now.log }
+        ensures fits { length (items_in self.now.log) ≤ P.MOST }
     {
         self.writer.published().number
     }

@@ -1,8 +1,7 @@
 // Imports of whole texts: what becomes of a file by its bytes. The offsets were counted by hand.
 use super::{Ended, File, NO_FAULTS, expect_end, expect_outputs, numbered_files, run, run_words};
-use crate::import::import;
-use crate::print::print_report;
-use crate::{Counts, FileOutcome, MAX_BASE_GAMES, MAX_BASE_NODES, Status, import_one};
+use crate::Status;
+use import_work::{Counts, Import};
 use kb_edges::{FileEntry, MemoryFolder};
 use std::alloc::Global;
 use std::test::Fail;
@@ -152,28 +151,26 @@ fn files_of_games(alloc: Global, counts: &[u32]) -> Result<Vec<FileEntry>, Fail>
 #[test]
 fn files_that_fill_the_base(rt: HostRuntime) -> Result<(), Fail> {
     let alloc = rt.alloc();
-    // 20 games fit.
+    // 20 games fit: those of the first file, the third and the fourth. The second and the last don't.
     let before = Counts {
-        games: MAX_BASE_GAMES - 20,
+        games: 399_980,
         nodes: 5_000_000,
     };
-    let written = "7 imported files 5 accepted 3 refused 0 full 2 unread 0 games 20 version 9\n\
-        full 400001 5000021 1.sgf\n\
-        full 400001 5000021 4.sgf\n";
     let files = files_of_games(alloc, &[8, 13, 11, 1, 1])?;
     let mut folder = MemoryFolder::new(files, Vec::new(alloc));
-    let (imported, after) = import(alloc, &mut folder, "d", 2, before)?;
-    assert_eq!(rt; imported.versions(), 3);
+    let mut import = Import::open(alloc, &mut folder, "d", 7, before, 6)?;
+    // Two files, two more, and the last one.
+    for _ in 0..3 {
+        let given = import.step(&rt, alloc, &mut folder, 2)?;
+        assert!(rt; given.is_some());
+    }
     assert_eq!(rt;
-        after,
+        import.counts(),
         Counts {
             games: 400_000,
             nodes: 5_000_020
         }
     );
-    let mut report = Vec::new(alloc);
-    print_report(&mut report, 7, &imported, 9)?;
-    assert_eq!(rt; report.as_slice(), written.as_bytes());
     Ok(())
 }
 
@@ -220,49 +217,6 @@ fn folders_without_games(rt: HostRuntime) -> Result<(), Fail> {
         let files: [File; 1] = [("d", name, "hello")];
         let ended = run(&rt, rt.alloc(), &files, "import d\nwait\n", NO_FAULTS)?;
         expect_end(&rt, &ended, Status::Done, written, name);
-    }
-    Ok(())
-}
-
-#[test]
-fn room_in_the_base(rt: HostRuntime) -> Result<(), Fail> {
-    let alloc = rt.alloc();
-    let accepted = FileOutcome::Accepted { games: 1 };
-    let cases = [
-        (0, 0, accepted, 1),
-        (MAX_BASE_GAMES - 1, 0, accepted, 1),
-        (
-            MAX_BASE_GAMES,
-            0,
-            FileOutcome::Full {
-                games: 400_001,
-                nodes: 1,
-            },
-            0,
-        ),
-        (0, MAX_BASE_NODES - 1, accepted, 1),
-        (
-            0,
-            MAX_BASE_NODES,
-            FileOutcome::Full {
-                games: 1,
-                nodes: 67_108_865,
-            },
-            0,
-        ),
-    ];
-    for (games, nodes, outcome, count) in cases {
-        let mut files = Vec::new(alloc);
-        files.push(FileEntry {
-            path: String::from_str(alloc, "d")?,
-            name: String::from_str(alloc, "a.sgf")?,
-            bytes: b"(;SZ[5])".to_vec(alloc)?,
-        })?;
-        let mut folder = MemoryFolder::new(files, Vec::new(alloc));
-        let before = Counts { games, nodes };
-        let (found, trees) = import_one(alloc, &mut folder, "d", "a.sgf", before)?;
-        assert_eq!(rt; found, outcome, "{games} games and {nodes} nodes");
-        assert_eq!(rt; trees.len(), count, "{games} games and {nodes} nodes");
     }
     Ok(())
 }

@@ -1,6 +1,7 @@
 // An import of as many names as one may have.
 use super::numbered_files;
 use crate::{Status, run_serial};
+use hit_collectors::Collector;
 use kb_edges::{Folder, FolderError, MemoryFolder, MemorySink, MemorySource};
 use std::alloc::Global;
 use std::test::Fail;
@@ -55,7 +56,8 @@ fn as_many_names_as_an_import_may_have(rt: HostRuntime) -> Result<(), Fail> {
     let script = b"import d\nwait\n".to_vec(alloc)?;
     let mut source = MemorySource::new(script, Vec::new(alloc));
     let mut sink = MemorySink::new(Vec::new(alloc), Vec::new(alloc));
-    let (status, _folder) = run_serial(&rt, alloc, &[], folder, &mut source, &mut sink);
+    let boards: Vec<Box<dyn Collector>> = Vec::new(alloc);
+    let (status, _folder) = run_serial(&rt, alloc, &[], folder, &mut source, &mut sink, boards);
     let written = "1 import d\n\
          1 imported files 100000 accepted 100000 refused 0 full 0 unread 0 games 100000 version 1563\n\
          2 wait version 1563\n";

@@ -3,6 +3,7 @@ ghost use Rattle.session_core.specs.Answers.{IsAnswered};
 
 use crate::Session;
 use game_tree::{Bytes, build};
+use hit_collectors::Counter;
 use info_filter::{Condition, ConditionList, Filter};
 use kb_geometry::{NoMemory, Outcome, Point, Rect, Shape};
 use pattern_images::Query;
@@ -49,12 +50,12 @@ pub(crate) struct Asked {
 }
 
 // The line that the answers tell.
-const LINE: u32 = 3;
+pub(crate) const LINE: u32 = 3;
 
 const NINETEEN_PASSES: &[u8] =
     b";B[];W[];B[];W[];B[];W[];B[];W[];B[];W[];B[];W[];B[];W[];B[];W[];B[];W[];B[]";
 
-fn query_of(alloc: Global, asked: Asked) -> Result<Query, Fail> {
+pub(crate) fn query_of(alloc: Global, asked: Asked) -> Result<Query, Fail> {
     let (from_move, to_move) = asked.moves;
     let mut query = Query::new(read_pattern(alloc, asked.pattern)?);
     query.same = asked.same;
@@ -85,7 +86,7 @@ fn condition_of(alloc: Global, only: Only) -> Result<Condition, NoMemory> {
 }
 
 // The filter of a search.
-fn filter_of(alloc: Global, asked: Asked) -> Result<Filter, NoMemory> {
+pub(crate) fn filter_of(alloc: Global, asked: Asked) -> Result<Filter, NoMemory> {
     let mut conditions = Vec::new(alloc);
     for only in asked.only {
         conditions.push(condition_of(alloc, *only)?)?;
@@ -143,7 +144,11 @@ fn push(
 }
 
 // The version of the games of files as one part.
-fn one_part(rt: &impl Abort, alloc: Global, files: Files) -> Result<Version<Segment>, Fail> {
+pub(crate) fn one_part(
+    rt: &impl Abort,
+    alloc: Global,
+    files: Files,
+) -> Result<Version<Segment>, Fail> {
     let mut builder = SegmentBuilder::new(alloc);
     for (file, text) in files {
         add_file(rt, alloc, file, text, &mut builder)?;
@@ -174,7 +179,8 @@ fn answer_over<R: Threads + Sync>(
     requires { IsAnswered statement.now }
 {
     let mut out = Vec::new(alloc);
-    Session::new().answer(rt, alloc, LINE, statement, version, &mut out)?;
+    let boards: Vec<Counter> = Vec::new(alloc);
+    Session::new(boards).answer(rt, alloc, LINE, statement, version, &mut out)?;
     Ok(String::from_utf8(out)?)
 }
 
@@ -248,7 +254,8 @@ pub(crate) fn two_texts<R: Threads + Sync + Abort>(
     let filter = filter_of(alloc, asked)?;
     let version = one_part(rt, alloc, files)?;
     let mut out = Vec::new(alloc);
-    let mut session = Session::new();
+    let boards: Vec<Counter> = Vec::new(alloc);
+    let mut session = Session::new(boards);
     let statement = Statement::Game { number };
     session.answer(rt, alloc, LINE, &statement, &version, &mut out)?;
     session.answer_search(rt, alloc, LINE, &query, &filter, &version, &mut out)?;

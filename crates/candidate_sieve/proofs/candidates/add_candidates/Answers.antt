@@ -24,8 +24,8 @@ of_class-requires c =
     let grids = ap (λ (v : ClassesOn). length v.grids) c.requires.wants in
     subst (λ (rs : List PlacementRow). (row_at rs index).class < length c.args.wants.now.grids) (sym c.deref-row-items.ensures.value) (omega (arith, (is.classes 0 is.some).in_range, grids))
 
-pub fill_room-requires : goal.fill_room-requires
-fill_room-requires c =
+pub fill_room-requires-clause-on_board : goal.fill_room-requires-clause-on_board
+fill_room-requires-clause-on_board c =
     let made = c.args.rows.now.made in
     let images = c.args.rows.now.images.now in
     let numbers = c.args.rows.now.numbers.items in

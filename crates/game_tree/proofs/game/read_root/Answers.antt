@@ -5,9 +5,9 @@ use Rattle.game_tree.proofs.game.read_root.Goals as goal
 
 pub returns-in-Err-Fault-clause-fault : goal.returns-in-Err-Fault-clause-fault
 returns-in-Err-Fault-clause-fault c = λ f e.
-    root_bad-value c.args.text.now c.args.shape c.args.root.now c.args.game c.in-Err-Fault.fault _ f (rw c.as_slice.ensures at (c.in-Err-Fault.ensures.fault c.in-Err-Fault.fault (ap Err c.in-Err-Fault.field-0-is))) (same_error _ _ e) c.first_fault.ensures.one c.first_fault.ensures.least c.first_fault.ensures.least_other
+    root_bad-value c.args.text.now c.args.shape c.args.root.now c.args.game c.in-Err-Fault.fault _ f (rw c.pairs.ensures at (c.in-Err-Fault.ensures.fault c.in-Err-Fault.fault (ap Err c.in-Err-Fault.field-0-is))) (same_error _ _ e) c.first_fault.ensures.one c.first_fault.ensures.least c.first_fault.ensures.least_other
 
 pub returns-in-Some-clause-fault : goal.returns-in-Some-clause-fault
 returns-in-Some-clause-fault c = λ f e.
     let (setups, read, added) = c.in-Ok.ensures.ok in
-    root_bad-game c.args.text.now c.args.shape c.args.root.now c.args.game c.in-Some.fault f (rw c.as_slice.ensures at read.no_fault) c.in-Some.is (same_error _ _ e)
+    root_bad-game c.args.text.now c.args.shape c.args.root.now c.args.game c.in-Some.fault f (rw c.pairs.ensures at read.no_fault) c.in-Some.is (same_error _ _ e)

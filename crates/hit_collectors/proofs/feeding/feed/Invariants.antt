@@ -4,6 +4,6 @@ use Rattle.hit_collectors.proofs.feeding.feed.Given as goal
 
 abbrev pub invariant-loop-i : goal.invariant-loop-i
 invariant-loop-i g l =
-    map (λ b. (goal.Collector-dyn g (b.vtable, b.value)).tally b.value) l.boards
-    ≡ all_with_hits l.hits (take l.i (map (λ b. (goal.Collector-dyn g (b.vtable, b.value)).tally b.value) l.fn.boards))
-    ++ drop l.i (map (λ b. (goal.Collector-dyn g (b.vtable, b.value)).tally b.value) l.fn.boards)
+    map (λ b. g.C.Collector.tally b) l.boards
+    ≡ all_with_hits l.hits (take l.i (map (λ b. g.C.Collector.tally b) l.fn.boards))
+    ++ drop l.i (map (λ b. g.C.Collector.tally b) l.fn.boards)

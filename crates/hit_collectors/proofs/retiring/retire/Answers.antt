@@ -9,7 +9,7 @@ returns-clause-ok g c =
 
 pub returns-clause-told : goal.returns-clause-told
 returns-clause-told g c =
-    retired_shown (λ (told : BoxTally). told.name) (λ b. (goal.Collector-dyn g (b.vtable, b.value)).tally b.value) c.args.name.now c.args.boards.now.items
+    retired_shown (λ (told : BoxTally). told.name) (λ b. g.C.Collector.tally b) c.args.name.now c.args.boards.now.items
     c.remove-retired.new.self.items
     (first_retired _ c.args.name.now c.deref.result.now c.args.boards.now.items c.remove-retired.new.self.items c.in-Some.i c.remove-retired.result
     c.deref.ensures.value c.in-Some.ensures.some c.remove-retired.ensures.by_index.2)

@@ -1,14 +1,8 @@
-use Rattle.std.proofs.Common.{IsTrue, arith}
-use Rattle.search_engine.proofs.GameBits.{AreAcceptedTo-all, AreAcceptedTo-more, AreAcceptedTo-start}
+use Rattle.std.proofs.Common.{length, sym, ◌∙◌, arith}
+use Rattle.std.proofs.lemmas.Bool.{eqb-true}
+use Rattle.search_engine.proofs.GameBits.{AreAccepted-without}
 use Rattle.search_engine.proofs.accepted.accepted_games.Goals as goal
 
-pub loop-at-init : goal.loop-at-init
-loop-at-init c = AreAcceptedTo-start c.args.filter.now c.args.block.now
-
-pub loop-at-preserved : goal.loop-at-preserved
-loop-at-preserved c =
-    AreAcceptedTo-more c.args.filter.now c.args.block.now c.loop-at.at c.loop-at.accepted c.with_bit-accepted.result c.get.result.now (IsTrue c.is_accepted.result)
-    c.get.ensures c.is_accepted.ensures c.loop-at.invariant c.with_bit-accepted.ensures
-
-pub returns : goal.returns
-returns c = AreAcceptedTo-all c.args.filter.now c.args.block.now c.loop-at.at c.loop-at.accepted (omega (arith, c.loop-at-test.false, c.loop-at.auto.at-end, c.len-at-end.ensures.value)) c.loop-at.invariant
+pub returns-then-is_empty : goal.returns-then-is_empty
+returns-then-is_empty c =
+    AreAccepted-without c.args.filter.now c.args.block.now c.as_slice.result.now c.as_slice.ensures (eqb-true (length c.as_slice.result.now) 0 (sym c.is_empty.ensures ∙ c.if-is_empty.true)) (omega (arith, c.len-count.ensures.value, c.len-count.ensures.most))

@@ -1,11 +1,11 @@
-use Rattle.search_run.specs.Imported.{file_reports}
+use Rattle.import_work.specs.Batches.{line_reports}
 use Rattle.search_run.specs.Texts.{counts_head, counts_tail}
 use Rattle.kb_geometry.proofs.Lists.{appended_twice}
 use Rattle.search_run.proofs.print.print_counts.Goals as goal
 
 pub returns : goal.returns
 returns c =
-    let reports = file_reports c.args.reports.now in
+    let reports = line_reports c.args.lines.now in
     rw (← c.file_count-files.ensures, ← c.accepted_count-accepted.ensures, ← c.refused_count-refused.ensures, ← c.full_count-full.ensures, ← c.unread_count-unread.ensures)
     (appended_twice c.args.out.now.items
     (counts_head c.args.line c.file_count-files.result c.accepted_count-accepted.result c.refused_count-refused.result)

@@ -1,22 +1,25 @@
+use Rattle.std.proofs.Common.{refl}
 use Rattle.std.proofs.lemmas.Result.{IfOk-weaker}
-use Rattle.search_run.specs.Run.{serial_rules}
-use Rattle.search_run.proofs.StatementLemmas.{text-answered, text-together, text-until}
+use Rattle.search_run.proofs.StatementLemmas.{leaves-base, text-import, text-wait}
 use Rattle.search_run.proofs.standing.Standing.text_of.Goals as goal
 
-pub returns-in-Until : goal.returns-in-Until
-returns-in-Until g c =
-    IfOk-weaker c.until_text.result _ _
-    (λ text is. λ batch files s kept. rw c.in-Until.is (text-until (serial_rules batch) files s c.args.self.now kept c.args.placed.now.line text.items c.in-Until.number is))
-    c.until_text.ensures
+pub returns-in-Import : goal.returns-in-Import
+returns-in-Import g c =
+    IfOk-weaker c.import_text.result _ _
+    (λ text is. λ rules files s kept. rw c.in-Import.is (text-import rules files s c.args.self.now c.args.session.now _ kept c.args.placed.now.line text.items c.in-Import.path (rw c.as_str.ensures at is) refl))
+    c.import_text.ensures
+
+pub returns-in-Wait : goal.returns-in-Wait
+returns-in-Wait g c =
+    IfOk-weaker c.wait_text.result _ _
+    (λ text is. λ rules files s kept. rw c.in-Wait.is (text-wait rules files s c.args.self.now c.args.session.now _ kept c.args.placed.now.line text.items is refl))
+    c.wait_text.ensures
+
+pub version_text-requires-after_bounds : goal.version_text-requires-after_bounds
+version_text-requires-after_bounds g c = λ lifetimes bounds. leaves-base c.args.placed.now.statement c.in_default.not-Import c.in_default.not-Wait
 
 pub returns-in_default : goal.returns-in_default
 returns-in_default g c =
-    IfOk-weaker c.answer_text.result _ _
-    (λ text is. λ batch files s kept. text-answered (serial_rules batch) files s c.args.self.now kept c.args.placed.now.line text.items c.args.placed.now.statement is)
-    c.answer_text.ensures
-
-pub returns-in-Together : goal.returns-in-Together
-returns-in-Together g c =
-    IfOk-weaker c.block_text.result _ _
-    (λ text is. λ batch files s kept. rw c.in-Together.is (text-together (serial_rules batch) files s c.args.self.now kept c.args.placed.now.line text.items c.in-Together.searches (rw c.as_slice.ensures at is)))
-    c.block_text.ensures
+    IfOk-weaker c.version_text.result _ _
+    (λ text is. λ rules. rw (← c.self.view_is) (is rules _))
+    c.version_text.ensures

@@ -1,0 +1,96 @@
+-- The segments that an import gives, one after another, whatever the folder tells.
+use Rattle.std.proofs.Common.{◌≡◌, ◌≢◌, inl, inr, ℕ, ◌+◌, ◌<◌, ◌≤◌, List, [], ◌∷◌, ◌++◌, Option, length, length-append, length-drop, drop, append-nil, refl, sym, ap, ◌∙◌, subst, arith}
+use Rattle.std.proofs.lemmas.Bool.{cases_lt}
+use Rattle.std.proofs.lemmas.List.{map-append, nil_from_length}
+use Rattle.std.proofs.lemmas.List.Sums.{sum_by-append}
+use Rattle.kb_edges.specs.Files.{File}
+use Rattle.import_work.specs.Batches.{games_added, games_told, line_report, line_reports}
+use Rattle.import_work.specs.Course.{FileReport, trees_in}
+use Rattle.import_work.specs.Imports.{AddsUp, HasGiven, ImportState, IsStep, lines_in, nothing, one_more}
+use Rattle.import_work.specs.Log.{Segment, games_in}
+use Rattle.import_work.specs.Outcome.{with_games}
+use Rattle.import_work.specs.Rooms.{AreAdded, AreWithinLimits}
+use Rattle.import_work.proofs.RoomLemmas.{AreAdded-more, AreAdded-none, with_games-none}
+use Rattle.import_work.proofs.SegmentLemmas.{games_in-push}
+use Rattle.import_work.proofs.Turns.{games_counted}
+
+-- nothing is given yet
+AddsUp-start : (start : ImportState) → AddsUp start start []
+AddsUp-start start = record {
+  path = refl;
+  line = refl;
+  number = refl;
+  counted = AreAdded-none start.counts;
+  given = omega arith;
+  told = omega arith;
+  few = omega arith;
+  room = λ some. absurd (some refl);
+}
+
+module _ (told : Option (List File)) (batch : ℕ) (any : 1 ≤ batch) (start between now : ImportState) (segments : List Segment) (segment : Segment) (before after : ℕ) (h : AddsUp start between segments) (s : IsStep told batch between now segment before after) where
+  counted_then : AreAdded start.counts now.counts (trees_in (games_in (segments ++ segment ∷ [])))
+  counted_then =
+      AreAdded-more start.counts between.counts now.counts (games_in segments) (games_in (segments ++ segment ∷ [])) h.counted
+      (record { added = segment; pushed = games_in-push segments segment; counted = ap (λ i. i.counts) s.goes_on })
+
+  told_then : games_told (line_reports (lines_in now.body)) ≡ games_told (line_reports (lines_in start.body)) + length (games_in (segments ++ segment ∷ []))
+  told_then =
+      let body : lines_in now.body ≡ s.lines ++ s.more = ap (λ i. lines_in i.body) s.goes_on in
+      let earlier : lines_in between.body ≡ s.lines = ap lines_in s.listed in
+      let own : games_told (line_reports s.more) ≡ length segment = games_counted told between.path between.counts before (line_reports s.more) segment after s.in_turn in
+      let lines : games_told (line_reports (lines_in now.body)) ≡ games_told (line_reports s.lines) + games_told (line_reports s.more) =
+      ap (λ ls. games_told (line_reports ls)) body ∙ ap games_told (map-append line_report s.lines s.more) ∙ sum_by-append (λ (r : FileReport). games_added r.outcome) (line_reports s.lines) (line_reports s.more) in
+      let so_far : games_told (line_reports s.lines) ≡ games_told (line_reports (lines_in start.body)) + length (games_in segments) = ap (λ ls. games_told (line_reports ls)) (sym earlier) ∙ h.told in
+      let all : length (games_in (segments ++ segment ∷ [])) ≡ length (games_in segments) + length segment = ap length (games_in-push segments segment) ∙ length-append (games_in segments) segment in
+      omega (arith, lines, own, so_far, all)
+
+  some_left : 0 < length between.left
+  some_left = elim (cases_lt 0 (length between.left)) [
+    | inl some ↦ some
+    | inr none ↦ absurd (s.some (nil_from_length between.left (omega (arith, none))))
+  ]
+
+  few_then : length (segments ++ segment ∷ []) + length now.left ≤ length start.left
+  few_then =
+      let rest : length now.left ≡ length (drop batch between.left) = ap (λ i. length i.left) s.goes_on in
+      let fewer : length (drop batch between.left) < length between.left = rw length-drop (omega (arith, some_left, any)) in
+      rw length-append (omega (arith, rest, fewer, h.few))
+
+  room_then : games_in (segments ++ segment ∷ []) ≢ [] → AreWithinLimits now.counts
+  room_then some = elim (cases_lt 0 (length segment)) [
+    | inl more ↦ s.room (λ none. omega (arith, more, ap length none))
+    | inr none ↦
+        let empty : segment ≡ [] = nil_from_length segment (omega (arith, none)) in
+        let same : games_in (segments ++ segment ∷ []) ≡ games_in segments = games_in-push segments segment ∙ ap (λ gs. games_in segments ++ gs) empty ∙ append-nil (games_in segments) in
+        let counts : between.counts ≡ now.counts = sym (ap (λ i. i.counts) s.goes_on ∙ ap (λ gs. with_games between.counts (trees_in gs)) empty ∙ with_games-none between.counts) in
+        subst AreWithinLimits counts (h.room (λ nil. some (same ∙ nil)))
+  ]
+
+  AddsUp-more : AddsUp start now (segments ++ segment ∷ [])
+  AddsUp-more = record {
+    path = ap (λ i. i.path) s.goes_on ∙ h.path;
+    line = ap (λ i. i.line) s.goes_on ∙ h.line;
+    number = ap (λ i. i.number) s.goes_on ∙ h.number;
+    counted = counted_then;
+    given = let one : now.given ≡ between.given + 1 = ap (λ i. i.given) s.goes_on in rw length-append (omega (arith, one, h.given));
+    told = told_then;
+    few = few_then;
+    room = room_then;
+  }
+
+pub adds_up : (told : Option (List File)) (batch : ℕ) (start : ImportState) (first : ℕ) (now : ImportState) (segments : List Segment) (last : ℕ) → 1 ≤ batch → HasGiven told batch start first segments now last → AddsUp start now segments
+adds_up told batch start first _ _ _ any nothing = AddsUp-start start
+adds_up told batch start first _ _ _ any (one_more {segments = segments} {between = between} {faults = faults} now segment last h s) =
+    AddsUp-more told batch any start between now segments segment faults last (adds_up told batch start first between segments faults any h) s
+
+-- an import without a name gives nothing
+pub record IsStill (start now : ImportState) (segments : List Segment) (first last : ℕ) : Type 0 where
+  pub none : segments ≡ []
+  pub same : now ≡ start
+  pub faults : last ≡ first
+
+pub none_given : (told : Option (List File)) (batch : ℕ) (start : ImportState) (first : ℕ) (now : ImportState) (segments : List Segment) (last : ℕ) → start.left ≡ [] → HasGiven told batch start first segments now last → IsStill start now segments first last
+none_given told batch start first _ _ _ empty nothing = record { none = refl; same = refl; faults = refl }
+none_given told batch start first _ _ _ empty (one_more {segments = segments} {between = between} {faults = faults} now segment last h s) =
+    let before = none_given told batch start first between segments faults empty h in
+    absurd (s.some (ap (λ i. i.left) before.same ∙ empty))

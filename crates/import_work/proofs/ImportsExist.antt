@@ -1,0 +1,116 @@
+-- Each import can find something by which nothing is lost, and the games that it adds are trees.
+use Rattle.std.proofs.Common.{◌≡◌, inl, inr, ℕ, ◌+◌, ◌-◌, ◌*◌, ◌/◌, List, [], ◌∷◌, ◌++◌, Option, Some, None, length, take, drop, refl, sym, ap, ◌∙◌, subst, append_assoc, arith}
+use Rattle.std.specs.Prelude.{All}
+use Rattle.std.proofs.lemmas.Bool.{cases_lt}
+use Rattle.std.proofs.lemmas.Grind.{flat_map-append}
+use Rattle.std.proofs.lemmas.List.{append-nil, length-map, map_push, take-append-drop}
+use Rattle.std.proofs.lemmas.List.Elements.{All-append, All-cons, All-head, All-nil, All-tail}
+use Rattle.kb_geometry.proofs.Lists.{All-before}
+use Rattle.kb_edges.specs.Files.{File, HasFile, HasPath, content_of}
+use Rattle.game_tree.specs.Tree.{IsTree, Tree}
+use Rattle.node_position.specs.Games.{Game}
+use Rattle.import_work.specs.Course.{AreNames, AreRead, Files, Finding, ImportCourse, ImportFile, IsImported, TooMany, Unlisted, games_from, games_of_files, import_file, nothing_lost, trees_in}
+use Rattle.import_work.specs.Log.{games_in, segments_of}
+use Rattle.import_work.specs.Outcome.{with_games}
+use Rattle.import_work.specs.declared.outcome.Counts.{Counts}
+use Rattle.import_work.specs.declared.outcome.FileOutcome.{FileOutcome}
+use Rattle.import_work.specs.Batches.{names_of}
+use Rattle.import_work.proofs.FileLemmas.{content_of-there}
+use Rattle.import_work.proofs.NameLemmas.{AreNames-there, has_path_or_none}
+use Rattle.import_work.proofs.SegmentLemmas.{pieces_joined}
+use Rattle.import_work.proofs.NamesExist.{names-exist}
+use Rattle.import_work.proofs.OutcomesExist.{outcome-found, outcome-trees}
+
+-- these files are read, and then those of these names, and none of them is left out
+pub record AllRead (all : List File) (path : List ℕ) (before : Counts) (files : List ImportFile) (unread : List (List ℕ)) (names : List (List ℕ)) : Type 0 where
+  pub more : List ImportFile
+  pub read : AreRead all path before (files ++ more) unread
+  pub named : names_of more ≡ names
+
+module _ (all : List File) (path : List ℕ) (before : Counts) (files : List ImportFile) (unread : List (List ℕ)) where
+  -- one file more is read
+  one-read : (names : List (List ℕ)) (name : List ℕ) (content : Option (List ℕ)) → content_of all path name ≡ content → HasFile all path name → AllRead all path before files unread names → AllRead all path before files unread (names ++ name ∷ [])
+  one-read names name None is there h = absurd (content_of-there all path name there is)
+  one-read names name (Some whole) is there h =
+      let bytes = take 16777217 whole in
+      let found = outcome-found bytes (with_games before (trees_in (games_of_files (files ++ h.more)))) in
+      let f = import_file name found.0 found.1 in record {
+        more = h.more ++ f ∷ [];
+        read = subst (λ fs. AreRead all path before fs unread) (append_assoc files h.more (f ∷ [])) (AreRead.read name bytes found.0 found.1 h.read (whole, is, refl) found.2);
+        named = map_push (λ (g : ImportFile). g.report.name) h.more f ∙ ap (λ ns. ns ++ name ∷ []) h.named;
+      }
+
+  -- files are read one after another
+  each-read : (names more : List (List ℕ)) → All (HasFile all path) more → AllRead all path before files unread names → AllRead all path before files unread (names ++ more)
+  each-read names [] there h = subst (AllRead all path before files unread) (sym (append-nil names)) h
+  each-read names (name ∷ more) there h =
+      let next = one-read names name (content_of all path name) refl (All-head (HasFile all path) name more there) h in
+      subst (AllRead all path before files unread) (append_assoc names (name ∷ []) more)
+      (each-read (names ++ name ∷ []) more (All-tail (HasFile all path) name more there) next)
+
+  pub all-read : (names : List (List ℕ)) → All (HasFile all path) names → AreRead all path before files unread → AllRead all path before files unread names
+  all-read names there so_far =
+      each-read [] names there (record { more = []; read = subst (λ fs. AreRead all path before fs unread) (sym (append-nil files)) so_far; named = refl })
+
+module _ (all : List File) (path : List ℕ) (before : Counts) where
+  -- an import whose names are these
+  import-named : (names : List (List ℕ)) → HasPath all path → AreNames all path names → (finding : Finding) × IsImported all path before nothing_lost finding
+  import-named names there are = elim (cases_lt 100000 (length names)) [
+    | inl many ↦ (TooMany (length names), (record { names = names; path_there = there; are_names = are; counted = refl; many = many }, refl))
+    | inr few ↦
+        let h = all-read all path before [] [] names (AreNames-there all path names are) AreRead.nothing in
+        let counted : length h.more ≡ length names = sym (length-map h.more (λ (f : ImportFile). f.report.name)) ∙ ap length h.named in
+        (Files h.more, record { path_there = there; names = subst (AreNames all path) (sym h.named) are; few = omega (arith, counted, few); read = h.read; listed = refl })
+  ]
+
+  -- an import finds something, and nothing is lost
+  pub import-found : (finding : Finding) × IsImported all path before nothing_lost finding
+  import-found = elim (has_path_or_none all path) [
+    | inl has ↦ let names = names-exist all path in import-named names.0 has names.1
+    | inr none ↦ (Unlisted, (inr (refl, none), refl))
+  ]
+
+-- ---- the games of an import
+
+-- the game's tree is a tree
+abbrev pub HasTree : Game → Type 0
+HasTree game = IsTree game.tree
+
+-- the games of a file
+games-trees : (name : List ℕ) (place : ℕ) (trees : List Tree) → All IsTree trees → All HasTree (games_from name place trees)
+games-trees name place [] are = All-nil HasTree
+games-trees name place (tree ∷ trees) are =
+    All-cons HasTree (record { file = name; place = place; tree = tree }) (games_from name (place + 1) trees)
+    (All-head IsTree tree trees are) (games-trees name (place + 1) trees (All-tail IsTree tree trees are))
+
+-- one file more
+files-push : (files : List ImportFile) (f : ImportFile) → All HasTree (games_of_files files) → All HasTree f.games → All HasTree (games_of_files (files ++ f ∷ []))
+files-push files f are more =
+    subst (All HasTree)
+    (ap (λ gs. games_of_files files ++ gs) (sym (append-nil f.games)) ∙ sym (flat_map-append (λ (g : ImportFile). g.games) files (f ∷ [])))
+    (All-append HasTree (games_of_files files) f.games are more)
+
+read-trees-all : (all : List File) (path : List ℕ) (before : Counts) (files : List ImportFile) (unread : List (List ℕ)) → AreRead all path before files unread → All HasTree (games_of_files files)
+read-trees-all all path before _ _ AreRead.nothing = All-nil HasTree
+read-trees-all all path before _ _ (AreRead.read {files} {unread} name bytes outcome trees so_far content is) =
+    files-push files (import_file name outcome trees) (read-trees-all all path before files unread so_far)
+    (games-trees name 0 trees (outcome-trees bytes (with_games before (trees_in (games_of_files files))) outcome trees is))
+read-trees-all all path before _ _ (AreRead.not_read {files} {unread} name so_far) =
+    files-push files (import_file name FileOutcome.Unread []) (read-trees-all all path before files unread so_far) (All-nil HasTree)
+
+-- the games of the first files
+first-trees : (files : List ImportFile) (n : ℕ) → All HasTree (games_of_files files) → All HasTree (games_of_files (take n files))
+first-trees files n are =
+    All-before HasTree (games_of_files (take n files)) (games_of_files (drop n files))
+    (subst (All HasTree)
+    (ap games_of_files (sym (take-append-drop n files)) ∙ flat_map-append (λ (g : ImportFile). g.games) (take n files) (drop n files))
+    are)
+
+-- the games that an import adds are trees
+pub imported-trees : (all : List File) (path : List ℕ) (before : Counts) (entry : ImportCourse) (batch : ℕ) (finding : Finding) → IsImported all path before entry finding → All HasTree (games_in (segments_of batch finding))
+imported-trees all path before entry batch Unlisted is = All-nil HasTree
+imported-trees all path before entry batch (TooMany names) is = All-nil HasTree
+imported-trees all path before entry batch (Files files) is =
+    let count = (length files + (batch - 1)) / batch in
+    subst (All HasTree) (sym (pieces_joined files batch count))
+    (first-trees files (count * batch) (read-trees-all all path before files entry.unread is.read))

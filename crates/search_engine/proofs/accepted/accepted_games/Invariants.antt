@@ -1,5 +1,0 @@
-use Rattle.search_engine.proofs.GameBits.{AreAcceptedTo}
-use Rattle.search_engine.proofs.accepted.accepted_games.Given as goal
-
-abbrev pub invariant-loop-at : goal.invariant-loop-at
-invariant-loop-at l = AreAcceptedTo l.filter l.block l.at l.accepted

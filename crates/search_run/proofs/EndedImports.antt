@@ -1,0 +1,141 @@
+-- How an import by an order ends: the log, the report, and what the folder's count says of losses.
+use Rattle.std.proofs.Common.{◌≡◌, ◌⊎◌, inl, inr, ℕ, ◌≤◌, ◌+◌, List, [], ◌∷◌, ◌++◌, Option, Some, Ok, Err, length, length-append, refl, sym, ap, ◌∙◌, subst, append_assoc, arith}
+use Rattle.std.specs.Prelude.{IfOk, Result, string_bytes}
+use Rattle.std.proofs.lemmas.Result.{IfOk-weaker}
+use mathlib.Core.List.{IsPrefix}
+use Rattle.kb_geometry.proofs.Prefixes.{prefix_same}
+use Rattle.kb_geometry.specs.declared.memory.NoMemory.{NoMemory}
+use Rattle.kb_edges.specs.Faults.{Rose}
+use Rattle.kb_edges.specs.Files.{File, HasPath}
+use Rattle.kb_edges.specs.Told.{IfTold}
+use Rattle.version_publisher.specs.Contents.{Opening, items_in}
+use Rattle.version_publisher.specs.declared.state.PublisherState.{PublisherState}
+use Rattle.node_position.specs.Games.{Game}
+use Rattle.import_work.specs.Batches.{games_told, line_reports}
+use Rattle.import_work.specs.Course.{IsImported, losses_of, nothing_lost, trees_in}
+use Rattle.import_work.specs.Imports.{FindsIn, GivesAll, GivesFirst, ImportState, IsListed, IsListedIn, IsOpened, lines_in}
+use Rattle.import_work.specs.Log.{Segment, games_in, segments_of}
+use Rattle.import_work.specs.Outcome.{counts_of}
+use Rattle.import_work.specs.declared.report.Report.{Report}
+use Rattle.import_work.specs.declared.report.ReportBody.TheVariants as report
+use Rattle.import_work.proofs.FileLemmas.{rose_by_none}
+use Rattle.import_work.proofs.ImportsExist.{import-found}
+use Rattle.import_work.proofs.GivenSegments.{adds_up}
+use Rattle.import_work.proofs.Losses.{loses}
+use Rattle.import_work.proofs.RoomLemmas.{length-trees}
+use Rattle.search_run.specs.Beside.{EndsWith, EndsWithFirst, Finds, HasEnded}
+use Rattle.search_run.specs.Publishing.{IsIdle, IsOpenedWith, IsWithinLimits, PublishesAll, PublishesFirst}
+use Rattle.search_run.specs.Reports.{told_text}
+use Rattle.search_run.specs.Texts.{report_text}
+use Rattle.search_run.specs.declared.importer.Order.{Order}
+use Rattle.import_work.proofs.SegmentLemmas.{games_in-append}
+use Rattle.search_run.proofs.ImportReports.{few_left, no_lines, text_told}
+use Rattle.search_run.proofs.PushedSegments.{items_in-games_in}
+
+-- the path is there, or the count rose
+cause_there : (files : List File) (told : Option (List File)) (path : List ℕ) (faults now : ℕ) → told ≡ Some files → Rose faults now ⊎ ((all : List File) × (told ≡ Some all) × (¬ HasPath all path)) → Rose faults now ⊎ (¬ HasPath files path)
+cause_there files told path faults now here (inl rose) = inl rose
+cause_there files told path faults now here (inr (all, also, gone)) =
+    let both : Some files ≡ Some all = sym here ∙ also in
+    let same : files ≡ all = cc in
+    inr (subst (λ fs. ¬ HasPath fs path) (sym same) gone)
+
+-- An import by an order was opened with this log, at a time when the count of faults was this.
+pub record WasOpened (told : Option (List File)) (order : Order) (log : List Segment) (first opened_at : ℕ) (start : ImportState) : Type 0 where
+  pub opened : IsOpened (string_bytes order.path) order.line order.before (length log) start
+  pub listed : IsListed start.body start.left
+  pub unlisted : start.body ≡ report.Unlisted → Rose first opened_at ⊎ ((all : List File) × (told ≡ Some all) × (¬ HasPath all (string_bytes order.path)))
+  pub counted : order.before ≡ counts_of (trees_in (items_in log))
+  pub few : length log ≤ 9000000000000000000
+  pub later : first ≤ opened_at
+
+module _ (told : Option (List File)) (order : Order) (some : 1 ≤ order.batch) (log : List Segment) (first opened_at : ℕ) (start : ImportState) (was : WasOpened told order log first opened_at start) where
+  path_is : start.path ≡ string_bytes order.path
+  path_is = ap (λ (i : ImportState). i.path) was.opened
+
+  counts_are : start.counts ≡ order.before
+  counts_are = ap (λ (i : ImportState). i.counts) was.opened
+
+  -- so it may be published
+  pub opened_with : IsOpenedWith log start
+  opened_with = record {
+    none_given = ap (λ (i : ImportState). i.given) was.opened;
+    number = ap (λ (i : ImportState). i.number) was.opened;
+    few = was.few;
+    counts = counts_are ∙ was.counted;
+    listed = was.listed;
+  }
+
+  -- what it finds in a folder that tells its files
+  finds : (files : List File) → told ≡ Some files → (last : ℕ) → opened_at ≤ last → FindsIn files start opened_at last → Finds files (string_bytes order.path) log first last
+  finds files here last after f = record {
+    entry = f.entry;
+    finding = f.finding;
+    imported = subst (λ c. IsImported files (string_bytes order.path) c f.entry f.finding) (counts_are ∙ was.counted ∙ ap (λ gs. counts_of (trees_in gs)) (items_in-games_in log))
+        (subst (λ p. IsImported files p start.counts f.entry f.finding) path_is f.imported);
+    paid = loses files start first opened_at last f
+        (λ is. subst (λ p. Rose first opened_at ⊎ (¬ HasPath files p)) (sym path_is) (cause_there files told (string_bytes order.path) first opened_at here (was.unlisted is)))
+        was.later after;
+  }
+
+  -- the log has grown by its first segments
+  pub ends_first : (log_now : List Segment) (last : ℕ) → opened_at ≤ last → PublishesFirst told order.batch start log log_now opened_at last → IfTold told (λ files. EndsWithFirst files order log log_now first last)
+  unfolding finds
+  ends_first log_now last after h = λ files here.
+      let g = h.first files here in record {
+        finds = finds files here last after g.finds;
+        grown = (g.prefix.0, ap (λ l. l ++ g.prefix.0) h.grown ∙ append_assoc log h.segments g.prefix.0 ∙ ap (λ ss. log ++ ss) g.prefix.1);
+      }
+
+  module _ (log_now : List Segment) (last : ℕ) (after : opened_at ≤ last) (report : Report) (h : PublishesAll told order.batch start log log_now report opened_at last) where
+    games_are : games_told (line_reports (lines_in report.body)) ≡ length (games_in h.segments)
+    games_are = omega (arith, ap (λ b. games_told (line_reports (lines_in b))) h.body, (adds_up told order.batch start opened_at h.now h.segments last some h.given).told, no_lines start.body start.left was.listed)
+
+    -- the report tells few games
+    pub few_games : IsWithinLimits log_now → games_told (line_reports (lines_in report.body)) ≤ 400000
+    few_games limits =
+        let all : length (items_in log_now) ≡ length (games_in log) + length (games_in h.segments) =
+        ap length (items_in-games_in log_now ∙ ap games_in h.grown ∙ games_in-append log h.segments) ∙ length-append (games_in log) (games_in h.segments) in
+        omega (arith, games_are, all, length-trees (items_in log_now), limits.0)
+
+    -- the log has grown by all its segments, and the report tells what it found
+    pub ends_all : (files : List File) → told ≡ Some files → EndsWith files order log log_now first last report
+    unfolding finds
+    ends_all files here =
+        let g = h.all files here in
+        let line : report.line ≡ order.line = h.line ∙ ap (λ (i : ImportState). i.line) was.opened in record {
+          finds = finds files here last after g.finds;
+          grown = h.grown ∙ ap (λ ss. log ++ ss) g.segments_are;
+          text =
+              ap (λ l. told_text l report.body report.version) line
+              ∙ ap (λ n. told_text order.line report.body n) h.version
+              ∙ text_told order.batch some order.line (length log_now) report.body g.finds.finding g.tells (games_are ∙ ap (λ (ss : List Segment). length (games_in ss)) g.segments_are);
+        }
+
+  -- how it ends
+  pub ended : (opening : Opening) (told_now : Option (List File)) (last : ℕ) (publisher : PublisherState Game) (result : Result Report NoMemory) → publisher.opening ≡ opening → length publisher.log ≤ length log + length start.left → IsWithinLimits publisher.log → told_now ≡ told → opened_at ≤ last →
+      PublishesFirst told order.batch start log publisher.log opened_at last → IfOk result (λ r. IsIdle publisher × PublishesAll told order.batch start log publisher.log r opened_at last) → HasEnded told first order opening log told_now last publisher result
+  ended opening told_now last publisher result opened few limits same after first_of all = record {
+    opened = opened;
+    few = omega (arith, few, few_left start.body start.left was.listed);
+    limits = limits;
+    same = same;
+    later = omega (arith, was.later, after);
+    idle = IfOk-weaker result _ _ (λ r h. h.0) all;
+    few_told = IfOk-weaker result _ _ (λ r h. few_games publisher.log last after r h.1 limits) all;
+    ends = λ files here. IfOk-weaker result _ _ (λ r h. ends_all publisher.log last after r h.1 files here) all;
+    first = ends_first publisher.log last after first_of;
+  }
+
+-- an import that couldn't be opened has found something by which nothing is lost
+pub not_opened : (told : Option (List File)) (order : Order) (log : List Segment) (faults now : ℕ) → faults ≤ now → IfTold told (λ files. EndsWithFirst files order log log faults now)
+not_opened told order log faults now later = λ files here.
+    let found = import-found files (string_bytes order.path) (counts_of (trees_in (games_in log))) in record {
+      finds = record {
+        entry = nothing_lost;
+        finding = found.0;
+        imported = found.1;
+        paid = rose_by_none faults now later;
+      };
+      grown = (segments_of order.batch found.0, refl);
+    }

@@ -1,0 +1,74 @@
+-- What searchers have seen of a log, and searchers that meet a publisher one after another.
+use Rattle.std.proofs.Common.{◌≡◌, ◌≢◌, ℕ, suc, ◌+◌, ◌<◌, ◌≤◌, ◌⊎◌, inl, inr, List, [], ◌∷◌, ◌++◌, get_or, length, refl, sym, ap, ◌∙◌, subst, length-append, arith}
+use Rattle.std.specs.Prelude.{All}
+use Rattle.std.proofs.Math.ListN.{set}
+use Rattle.std.proofs.lemmas.Bool.{cases_eq, cases_lt}
+use Rattle.std.proofs.lemmas.List.{get_or-set_other, get_or-set_same, length-set}
+use mathlib.Core.List.{IsPrefix}
+use Rattle.std.proofs.Math.Seq.{get_or-append_seam}
+use Rattle.kb_geometry.proofs.Lists.{All-before}
+use Rattle.kb_geometry.proofs.Prefixes.{prefix_trans}
+use Rattle.node_position.specs.Games.{Game}
+use Rattle.version_publisher.specs.Contents.{IsNewSearcher, Opening}
+use Rattle.version_publisher.specs.declared.state.SearcherState.{SearcherState}
+use Rattle.import_work.specs.Log.{Segment}
+use Rattle.search_run.specs.Seen.{AreOfOpening, HaveMet, HaveSeen, HaveSeenOf}
+
+-- a prefix is at most as long
+pub prefix_length : {A : Type 0} (xs ys : List A) → IsPrefix xs ys → length xs ≤ length ys
+prefix_length xs ys p = omega (arith, ap length p.1, length-append xs p.0)
+
+-- new searchers are of their opening
+pub new_opened : (opening : Opening) (searchers : List (SearcherState Game)) → All (IsNewSearcher opening) searchers → AreOfOpening opening searchers
+new_opened opening searchers new = λ k d below. (new k d below).0
+
+-- the last of new searchers, and those before it
+pub new_last : (opening : Opening) (all block : List (SearcherState Game)) (own : SearcherState Game) → All (IsNewSearcher opening) all → all ≡ block ++ own ∷ [] → IsNewSearcher opening own × All (IsNewSearcher opening) block
+new_last opening all block own new split =
+    let both : All (IsNewSearcher opening) (block ++ own ∷ []) = subst (All (IsNewSearcher opening)) split new in (
+      subst (IsNewSearcher opening) (get_or-append_seam block own [] own) (both (length block) own (omega (arith, length-append block (own ∷ [])))),
+      All-before (IsNewSearcher opening) block (own ∷ []) both,
+    )
+
+-- who has seen more has seen this
+pub seen_before : (own now : SearcherState Game) (block blocks : List (SearcherState Game)) → IsPrefix own.seen now.seen → blocks ≡ block → (log : List Segment) → HaveSeen now blocks log → HaveSeen own block log
+seen_before own now block blocks grows same log h = record {
+  own_seen = prefix_trans own.seen now.seen log grows h.own_seen;
+  block_seen = subst (HaveSeenOf log) same h.block_seen;
+}
+
+-- ---- searchers that meet a publisher
+
+-- none has met it yet
+pub HaveMet-none : (opening : Opening) (log : List Segment) (searchers : List (SearcherState Game)) → AreOfOpening opening searchers → HaveMet opening log searchers searchers 0
+HaveMet-none opening log searchers opened = record {
+  same_length = refl;
+  met = λ k d below. absurd (omega (arith, below));
+  opened = opened;
+  left = λ k d from. refl;
+}
+
+-- one more meets it
+pub HaveMet-more : (opening : Opening) (log : List Segment) (before now after : List (SearcherState Game)) (i : ℕ) (old new : SearcherState Game) → HaveMet opening log before now i → i < length now → ((d : SearcherState Game) → get_or now i d ≡ old) → after ≡ set now i new → IsPrefix old.seen log → new.opening ≡ opening → HaveMet opening log before after (i + 1)
+HaveMet-more opening log before now after i old new h below old_is set_is seen opened = record {
+  same_length = ap length set_is ∙ length-set now i new ∙ h.same_length;
+  met = λ k d under inside. elim (cases_eq k i) [
+    | inl same ↦ subst (λ (s : SearcherState Game). IsPrefix s.seen log) (sym (ap (λ j. get_or before j d) same ∙ sym (h.left i d (omega arith)) ∙ old_is d)) seen
+    | inr other ↦ h.met k d (omega (arith, under, below_of k i under other)) inside
+  ];
+  opened = λ k d under. elim (cases_eq k i) [
+    | inl same ↦ ap (λ (s : SearcherState Game). s.opening) (ap (λ ys. get_or ys k d) set_is ∙ ap (λ j. get_or (set now i new) j d) same ∙ get_or-set_same now i new d below) ∙ opened
+    | inr other ↦ ap (λ (s : SearcherState Game). s.opening) (ap (λ ys. get_or ys k d) set_is ∙ get_or-set_other now i k new d other) ∙ h.opened k d (omega (arith, under, ap length set_is, length-set now i new))
+  ];
+  left = λ k d from. ap (λ ys. get_or ys k d) set_is ∙ get_or-set_other now i k new d (λ same. omega (arith, from, same)) ∙ h.left k d (omega (arith, from));
+}
+  where
+    below_of : (k i : ℕ) → k < i + 1 → (k ≡ i → ⊥) → k < i
+    below_of k i under other = elim (cases_lt k i) [
+      | inl less ↦ less
+      | inr from ↦ absurd (other (omega (arith, under, from)))
+    ]
+
+-- all have met it
+pub HaveMet-all : (opening : Opening) (log : List Segment) (before now : List (SearcherState Game)) (count : ℕ) → HaveMet opening log before now count → length before ≤ count → HaveSeenOf log before
+HaveMet-all opening log before now count h all = λ k d below. h.met k d (omega (arith, below, all)) below

@@ -1,6 +1,0 @@
-use Rattle.std.proofs.Common.{◌≡◌, ◌≤◌, ◌*◌, take}
-use Rattle.search_run.specs.Outcome.{nodes_of}
-use Rattle.search_run.proofs.outcome.nodes_of.Given as goal
-
-abbrev pub invariant-loop-tree : goal.invariant-loop-tree
-invariant-loop-tree l = (l.nodes ≡ nodes_of (take l.tree-index l.trees)) × (l.nodes ≤ l.tree-index * 65536)

@@ -1,0 +1,14 @@
+use Rattle.std.proofs.Common.{map}
+use Rattle.search_run.specs.Run.{beside_rules}
+use Rattle.search_run.proofs.JoinedRuns.{closed-run, rose_either}
+use Rattle.search_run.proofs.run_beside.run_beside.Goals as goal
+
+pub returns-clause-lawful : goal.returns-clause-lawful
+returns-clause-lawful g c = λ files told before written.
+    let run = c.run_all-tools in
+    closed-run run.result.outcome c.close.result (beside_rules c.args.batch) files (map (λ board. g.C.Collector.tally board) c.args.boards.items) run.new.session c.args.placed.now run.result.tools.carried.publisher before _ _ (g.F.Folder.faults c.args.tools.folder) (g.F.Folder.faults run.result.tools.folder)
+    (rw c.new-session.ensures at (run.ensures.ran files told before written)) run.ensures.idle c.close.ensures.whole c.close.ensures.ran
+
+pub returns-clause-sink_fault : goal.returns-clause-sink_fault
+returns-clause-sink_fault g c = λ is.
+    rose_either _ _ _ _ c.run_all-tools.ensures.sink_fault c.run_all-tools.ensures.sink_later c.close.ensures.sink_later (c.close.ensures.sink_fault is)

@@ -1,0 +1,38 @@
+use Rattle.std.proofs.Common.{Ok, Result, ◌++◌, ◌∙◌, refl, subst, take}
+use Rattle.std.specs.Prelude.{IfOk}
+use Rattle.kb_geometry.specs.declared.memory.NoMemory.{NoMemory}
+use Rattle.query_script.specs.Texts.{import_text}
+use Rattle.import_work.specs.declared.report.Report.{Report}
+use Rattle.search_run.specs.Beside.{EndsWith, HasAnsweredAll}
+use Rattle.search_run.specs.Publishing.{IsIdle}
+use Rattle.search_run.specs.Seen.{HaveSeen}
+use Rattle.search_run.specs.Steps.{kept_report}
+use Rattle.search_run.proofs.JoinedRuns.{joined-run, ok_both}
+use Rattle.search_run.proofs.run_beside.run_import.Goals as goal
+
+pub returns-clause-ran : goal.returns-clause-ran
+returns-clause-ran g c = λ files told.
+    ok_both c.join-outcome.result _ _ _ c.join-outcome.ensures.joined c.join-outcome.ensures.answered (λ r j counted. λ start done before first h.
+    let at = c.args.searchers.now in
+    let now = c.import_beside-joined.new.searchers in
+    let ended = c.import_beside-joined.result.ended in
+    let publisher = ended.tools.carried.publisher in
+    let own = kept_report c.args.standing ++ import_text c.args.line c.args.path.now in
+    let wrote = c.in-Ok.ensures.written (before ++ h.run.text) h.run.written_is in
+    let answered = subst (λ a. IfOk a (λ count. HasAnsweredAll (HaveSeen at.own at.block.items) c.into_version-held.result.number c.args.session.now (take count c.args.rest.now) (HaveSeen now.own now.block.items) c.import_beside-joined.new.session ((before ++ h.run.text) ++ own) (g.K.Sink.written c.import_beside-joined.new.out))) counted (c.import_beside-joined.ensures.answered ((before ++ h.run.text) ++ own) wrote) in
+    let ends = subst (λ (report : Result Report NoMemory). IfOk report (EndsWith files c.in-Ok.begun.0 c.args.tools.carried.publisher.log publisher.log (g.F.Folder.faults c.args.tools.folder) (g.F.Folder.faults ended.tools.folder))) j.report_is (c.import_beside-joined.ensures.ended.ends files told) in
+    joined-run files c.args.batch c.args.line c.args.path.now c.in-Ok.begun.0 c.args.standing r.0 c.args.tools.carried.publisher.log publisher.log first (g.F.Folder.faults c.args.tools.folder) (g.F.Folder.faults ended.tools.folder) j.told c.in-Ok.ensures.order ends start done (take r.1 c.args.rest.now) c.args.session.now c.import_beside-joined.new.session before _ _ (HaveSeen at.own at.block.items) (HaveSeen now.own now.block.items) c.into_version-held.result.number h
+    (c.into_version-held.ensures.number ∙ c.requires.stands.version) answered c.join-outcome.ensures.seen (record { told = j.told; report_is = refl; version = j.version; games = j.games; waiting = j.waiting }))
+
+pub returns-clause-stands : goal.returns-clause-stands
+returns-clause-stands g c =
+    let ended = c.import_beside-joined.ensures.ended in
+    let publisher = c.import_beside-joined.result.ended.tools.carried.publisher in
+    ok_both c.join-outcome.result _ _ _ c.join-outcome.ensures.joined c.join-outcome.ensures.own (λ r j own. record {
+      opened = ended.opened ∙ c.requires.stands.opened;
+      idle = subst (λ (report : Result Report NoMemory). IfOk report (λ told. IsIdle publisher)) j.report_is ended.idle;
+      limits = ended.limits;
+      own_seen = own;
+      version = j.version;
+      games = j.games;
+    })

@@ -1,0 +1,22 @@
+use Rattle.std.proofs.Common.{◌++◌, ◌∷◌, subst, take}
+use Rattle.std.proofs.lemmas.Result.{IfOk-weaker}
+use Rattle.query_script.specs.declared.statement.Placed.{Placed}
+use Rattle.search_run.specs.Beside.{HasRunTo}
+use Rattle.search_run.specs.Run.{beside_rules}
+use Rattle.search_run.proofs.JoinedRuns.{placed_as, still-ran}
+use Rattle.search_run.proofs.StatementLemmas.{no-import}
+use Rattle.search_run.proofs.run_beside.run_next.Goals as goal
+
+pub returns-in-Import-clause-ran : goal.returns-in-Import-clause-ran
+returns-in-Import-clause-ran g c = λ files told.
+    let now = c.run_import.result in
+    IfOk-weaker now.outcome _ _ (λ r ran. λ start done before first h.
+    subst (λ (p : Placed). HasRunTo (beside_rules c.args.batch) files start (done ++ p ∷ take r.1 c.args.rest.now) r.0 c.run_import.new.session now.tools.carried.publisher.log before (g.K.Sink.written c.run_import.new.out) first (g.F.Folder.faults now.tools.folder))
+    (placed_as c.args.placed.now c.in-Import.path c.in-Import.is)
+    ((rw c.as_str.ensures at ran) start done before first h))
+    (c.run_import.ensures.ran files told)
+
+pub returns-in_default-clause-ran : goal.returns-in_default-clause-ran
+returns-in_default-clause-ran g c = λ files told.
+    still-ran (beside_rules c.args.batch) files c.args.session.now c.answer_still-outcome.new.session c.args.placed.now c.args.rest.now c.args.standing c.args.tools.carried.publisher.log _ _ _ c.answer_still-outcome.result
+    (no-import c.args.placed.now.statement c.in_default.not-Import) c.answer_still-outcome.ensures.passed c.answer_still-outcome.ensures.alone

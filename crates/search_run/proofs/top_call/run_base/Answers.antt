@@ -1,0 +1,15 @@
+use Rattle.std.proofs.Common.{refl}
+use Rattle.std.proofs.lemmas.Result.{on_ok_weaker}
+use Rattle.search_run.proofs.top_call.run_base.Goals as goal
+
+pub returns-then-said-clause-one_by_one : goal.returns-then-said-clause-one_by_one
+returns-then-said-clause-one_by_one g c = λ files told before written.
+    on_ok_weaker c.run_statements-ran.result (λ wrote. λ serial. (wrote, refl)) (c.run_statements-ran.ensures.lawful files told before written)
+
+pub returns-clause-one_by_one : goal.returns-clause-one_by_one
+returns-clause-one_by_one g c = λ files told before written.
+    on_ok_weaker c.run_beside-ran.result.0 (λ wrote. λ serial. absurd (cc (c.if-said.false, serial))) (c.run_beside-ran.ensures.lawful files told before written)
+
+pub returns-clause-published : goal.returns-clause-published
+returns-clause-published g c = λ files told before written.
+    on_ok_weaker c.run_beside-ran.result.0 (λ wrote. λ beside. rw c.into_publisher.ensures wrote) (c.run_beside-ran.ensures.lawful files told before written)

@@ -1,0 +1,38 @@
+-- What the searchers of a base have seen of its log: words of the private functions.
+use Rattle.std.specs.Prelude.{◌≡◌, ◌<◌, ◌≤◌, ℕ, List, All, get_or, length}
+use mathlib.Core.List.{IsPrefix}
+use Rattle.node_position.specs.Games.{Game}
+use Rattle.version_publisher.specs.Contents.{Opening, items_in}
+use Rattle.version_publisher.specs.declared.state.SearcherState.{SearcherState}
+use Rattle.version_publisher.specs.declared.state.VersionState.{VersionState}
+use Rattle.import_work.specs.Log.{Segment}
+
+-- the version of this log: its number, and the games of its segments
+pub record IsVersionOf (version : VersionState Game) (log : List Segment) : Type 0 where
+  pub number : version.number ≡ length log
+  pub games : items_in version.parts ≡ items_in log
+
+-- all of these are searchers of this opening
+abbrev pub AreOfOpening : Opening → List (SearcherState Game) → Type 0
+AreOfOpening opening searchers =
+    All (λ (s : SearcherState Game). s.opening ≡ opening) searchers
+
+-- what each of these has seen is a prefix of this log
+abbrev pub HaveSeenOf : List Segment → List (SearcherState Game) → Type 0
+HaveSeenOf log searchers = All (λ (s : SearcherState Game). IsPrefix s.seen log) searchers
+
+-- what the session's searcher and those of blocks have seen are prefixes of this log
+pub record HaveSeen (own : SearcherState Game) (block : List (SearcherState Game))
+    (log : List Segment) : Type 0 where
+  pub own_seen : IsPrefix own.seen log
+  pub block_seen : HaveSeenOf log block
+
+-- The first of these searchers have met a publisher with this log: what each had seen before is a
+-- prefix of it, and now it has seen the whole. The others are as before.
+pub record HaveMet (opening : Opening) (log : List Segment)
+    (before now : List (SearcherState Game)) (count : ℕ) : Type 0 where
+  pub same_length : length now ≡ length before
+  pub met : (k : ℕ) (d : SearcherState Game) → k < count → k < length before →
+      IsPrefix (get_or before k d).seen log
+  pub opened : AreOfOpening opening now
+  pub left : (k : ℕ) (d : SearcherState Game) → count ≤ k → get_or now k d ≡ get_or before k d

@@ -1,0 +1,131 @@
+// A search that is answered between two versions of one import.
+ghost use Rattle.std.specs.Prelude.{Some};
+ghost use Rattle.kb_edges.specs.Memory.{sink_faults, sink_written};
+
+use super::{GAME, entries, words_in};
+use crate::{Base, Status, run};
+use hit_collectors::Collector;
+use kb_edges::{Gate, MemoryFolder, MemorySink, MemorySource, Sink, SinkError};
+use std::alloc::Global;
+use std::process::Abort;
+use std::sync::atomic::{AtomicBool, Ordering};
+use std::sync::{Arc, Wait};
+use std::test::Fail;
+use std::thread;
+use std::thread::Threads;
+
+// The line of the search that is to be taken before the second version is published.
+const LINE: &[u8] = b"3 search version 1 games 1 hits 2\n";
+
+// How often the gate looks whether the line was taken.
+const TURNS: u32 = 1_000_000_000;
+
+// What the sink tells the gate, and the gate the test.
+#[derive(Drop)]
+struct Signals {
+    taken: AtomicBool,
+    given_up: AtomicBool,
+}
+
+// A sink in memory that tells when the line was taken.
+#[derive(Drop)]
+struct WatchedSink {
+    inner: MemorySink,
+    signals: Arc<Signals>,
+}
+
+impl Sink for WatchedSink {
+    ghost written = { λ sink. Some (sink_written sink.inner) };
+
+    ghost faults = { λ sink. sink_faults sink.inner };
+
+    fn write(&mut self, bytes: &[u8]) -> Result<usize, SinkError> {
+        let count = self.inner.write(bytes)?;
+        if bytes.starts_with(LINE) {
+            self.signals.taken.store(true, Ordering::SeqCst);
+        }
+        Ok(count)
+    }
+}
+
+// Holds the second version until the line was taken.
+#[derive(Drop)]
+struct HoldsTheSecond {
+    signals: Arc<Signals>,
+}
+
+impl Gate for HoldsTheSecond {
+    fn hold(&self, number: u64) {
+        if number != 2 {
+            return;
+        }
+        for _ in 0..TURNS {
+            if self.signals.taken.load(Ordering::SeqCst) {
+                return;
+            }
+            thread::yield_now();
+        }
+        self.signals.given_up.store(true, Ordering::SeqCst);
+    }
+}
+
+fn search_beside<R: Threads + Wait + Abort + Clone + Drop + Send + Sync + 'static>(
+    rt: &R,
+    alloc: Global,
+) -> Result<(), Fail> {
+    let signals = Arc::new(
+        alloc,
+        Signals {
+            taken: AtomicBool::new(false),
+            given_up: AtomicBool::new(false),
+        },
+    )?;
+    let files = entries(alloc, &[("d", "a.sgf", GAME), ("d", "b.sgf", GAME)])?;
+    let folder = MemoryFolder::new(files, Vec::new(alloc));
+    let script = b"import d\nuntil 1\nsearch same X\nwait\n".to_vec(alloc)?;
+    let mut source = MemorySource::new(script, Vec::new(alloc));
+    let mut sink = WatchedSink {
+        inner: MemorySink::new(Vec::new(alloc), Vec::new(alloc)),
+        signals: Arc::try_clone(&signals)?,
+    };
+    let gate = HoldsTheSecond {
+        signals: Arc::try_clone(&signals)?,
+    };
+    let words = words_in(alloc, "--batch 1")?;
+    let boards: Vec<Box<dyn Collector>> = Vec::new(alloc);
+    let base = Base::open(rt, alloc)?;
+    let (status, _folder, publisher) = run(
+        rt,
+        alloc,
+        &words,
+        folder,
+        &mut source,
+        &mut sink,
+        gate,
+        boards,
+        base,
+    );
+    if let Some(publisher) = publisher {
+        publisher.close(rt);
+    }
+    assert_eq!(rt; status, Status::Done);
+    assert!(rt;
+        !signals.given_up.load(Ordering::SeqCst),
+        "the gate gave up"
+    );
+    let written = "1 import d\n\
+                   2 until 1 version 1\n\
+                   3 search version 1 games 1 hits 2\n\
+                   hit 0 1 2 2 0 -\n\
+                   hit 0 3 2 1 0 -\n\
+                   total 2 0 0 0 0 2\n\
+                   1 imported files 2 accepted 2 refused 0 full 0 unread 0 games 2 version 2\n\
+                   4 wait version 2\n";
+    assert_eq!(rt; sink.inner.written(), written.as_bytes());
+    Ok(())
+}
+
+#[test]
+fn search_between_publishings(rt: HostRuntime) -> Result<(), Fail> {
+    search_beside(&rt, rt.alloc())
+}

@@ -1,0 +1,254 @@
+// The top call, whose imports go on beside the statements.
+ghost use Rattle.std.specs.Prelude.{
+  ◌≡◌,
+  ◌≢◌,
+  ◌≤◌,
+  ◌⊎◌,
+  ℕ,
+  List,
+  [],
+  None,
+  Some,
+  IsErrOf,
+  OnOk,
+  drop,
+  false,
+  length,
+  map,
+  string_bytes,
+  true,
+};
+ghost use Rattle.kb_edges.specs.Faults.{Rose};
+ghost use Rattle.kb_edges.specs.Files.{File};
+ghost use Rattle.kb_edges.specs.Told.{IfTold};
+ghost use Rattle.node_position.specs.Games.{Game};
+ghost use Rattle.query_script.specs.CommandWords.{AreLawful};
+ghost use Rattle.query_script.specs.declared.command_words.Words.{Words};
+ghost use Rattle.version_publisher.specs.declared.state.PublisherState.{PublisherState};
+ghost use Rattle.search_run.specs.Bases.{BaseState, IsNewBase};
+ghost use Rattle.search_run.specs.Run.{WritesLawful, WritesPublished, beside_rules, serial_rules};
+ghost use Rattle.search_run.specs.Script.{IsBad, IsInGrammar};
+ghost use Rattle.search_run.specs.Serial.{IsEarly, Prints, PrintsPublished};
+ghost use Rattle.search_run.specs.declared.status.Status.{Status};
+
+use crate::base::Base;
+use crate::carried::Carried;
+use crate::importer::Tools;
+use crate::run_beside::run_beside;
+use crate::script::{NoStatements, read_statements};
+use crate::serial::run_serial;
+use crate::statements::{Stopped, run_statements};
+use crate::status::Status;
+use hit_collectors::Collector;
+use kb_edges::{Folder, Gate, Sink, Source};
+use query_script::{Placed, Words, WordsError, read_words};
+use segment_store::Segment;
+use std::alloc::Global;
+use std::marker::Brand;
+use std::sync::Wait;
+use std::thread::Threads;
+use version_publisher::{Publisher, Searcher};
+
+/// Reads a script, imports its folders, and writes its answers. How that ended is told by the
+/// [`Status`].
+///
+/// An import goes on in a thread of its own, batch by batch, and the statements behind it are
+/// answered meanwhile, each from a version that was published: it holds all that was named before,
+/// and whatever it is, its answer is that of this version. The next import, a `wait` and the end of
+/// the script join the import that is under way, and so does an `until` of a version that doesn't
+/// come. The gate is asked before each version is published. It may wait.
+///
+/// The words are those of the command line without the program's name: `--batch N`, by which the
+/// files of an import come into the base N at a time, and `--serial`, by which each statement is done
+/// before the next begins. Without a base this is [`run_serial`]. The boxes are those of
+/// [`run_serial`]. The folder is handed back, and so is the publisher of the base: with
+/// [`Status::Done`], and without `--serial`, its log has the segments of all imports, and nothing is
+/// pending.
+pub fn run<
+    R: Threads + Wait + Clone + Drop + Send + Sync + 'static,
+    F: Folder + Send + 'static,
+    S: Source,
+    K: Sink,
+    G: Gate + Send + 'static,
+>(
+    rt: &R,
+    alloc: Global,
+    words: &[String],
+    folder: F,
+    script: &mut S,
+    out: &mut K,
+    gate: G,
+    boards: Vec<Box<dyn Collector>>,
+    base: Option<Base>,
+) -> (Status, F, Option<Publisher<Segment>>)
+    // The words come first. Those that aren't lawful are told so, but for want of memory, and nothing
+    // is read, written or asked. Lawful ones are never told so.
+    ensures bad_words { result.0 ≡ Status.BadWords → (read : Words) →
+        ¬ AreLawful (map string_bytes words.now) read }
+    ensures lawful_words { result.0 ≢ Status.BadWords → result.0 ≢ Status.NoMemory →
+        (read : Words) × AreLawful (map string_bytes words.now) read }
+    ensures nothing_read { ((read : Words) → ¬ AreLawful (map string_bytes words.now) read) →
+        script.new ≡ script.old }
+    ensures nothing_done { ((read : Words) → ¬ AreLawful (map string_bytes words.now) read) →
+        (K.written out.new ≡ K.written out.old) × (result.1 ≡ folder) }
+
+    // Then the script is read.
+    ensures script_unread { result.0 ≡ Status.ScriptUnread →
+        Rose (S.faults script.old) (S.faults script.new) }
+
+    // Then its grammar: where the source tells its bytes, a bad script is told by its bad line, and
+    // no other script is told so or run.
+    ensures bad_script { (bytes : List ℕ) → S.left script.old ≡ Some bytes → (k : ℕ) →
+        result.0 ≡ Status.BadScript k → IsBad bytes k }
+    ensures in_grammar { (bytes : List ℕ) → S.left script.old ≡ Some bytes →
+        (result.0 ≡ Status.Done) ⊎ (result.0 ≡ Status.SinkFault) → IsInGrammar bytes }
+
+    // A script that was read to its end leaves nothing; of one that is too long no more than one
+    // byte past the limit is read.
+    ensures done_left { (bytes : List ℕ) → S.left script.old ≡ Some bytes → result.0 ≡ Status.Done →
+        S.left script.new ≡ Some [] }
+    ensures bad_script_left { (bytes : List ℕ) → S.left script.old ≡ Some bytes → (k : ℕ) →
+        result.0 ≡ Status.BadScript k → S.left script.new ≡ Some (drop 1048577 bytes) }
+
+    // Then the statements. The sink fails only where its count rose.
+    ensures sink_fault { result.0 ≡ Status.SinkFault → Rose (K.faults out.old) (K.faults out.new) }
+
+    // What was written, where the source, the folder and the sink tell their contents; and with a
+    // base what its publisher's log has.
+    ensures done { (bytes : List ℕ) (files : List File) (before : List ℕ) →
+        S.left script.old ≡ Some bytes → F.files folder ≡ Some files →
+        K.written out.old ≡ Some before → base ≡ None →
+        result.0 ≡ Status.Done →
+        Prints (map string_bytes words.now) (map (λ board. tally board) boards.items) bytes files
+        before (K.written out.new) (F.faults folder) (F.faults result.1) }
+    ensures done_published { (bytes : List ℕ) (files : List File) (before : List ℕ) →
+        S.left script.old ≡ Some bytes → F.files folder ≡ Some files →
+        K.written out.old ≡ Some before → (given : BaseState) → base ≡ Some given →
+        result.0 ≡ Status.Done → (back : PublisherState Game) × (result.2 ≡ Some back)
+        × PrintsPublished (map string_bytes words.now) (map (λ board. tally board) boards.items)
+        bytes files before (K.written out.new) (F.faults folder) (F.faults result.1)
+        given.publisher back }
+
+    // Where nothing fails, the run is done, or memory was wanted.
+    ensures complete { (bytes : List ℕ) (read : Words) → S.left script.old ≡ Some bytes →
+        AreLawful (map string_bytes words.now) read → IsInGrammar bytes →
+        ¬ Rose (S.faults script.old) (S.faults script.new) →
+        ¬ Rose (K.faults out.old) (K.faults out.new) → (result.0 ≡ Status.Done)
+        ⊎ (result.0 ≡ Status.NoMemory) }
+
+    // The publisher of a base comes back, and as it was where the run ended before the first
+    // statement.
+    ensures without_base { base ≡ None → result.2 ≡ None }
+    ensures given_back { (given : BaseState) → base ≡ Some given → (back : PublisherState Game)
+        × (result.2 ≡ Some back) × (back.opening ≡ given.publisher.opening) }
+    ensures as_it_was { (given : BaseState) → base ≡ Some given → IsEarly result.0 →
+        result.2 ≡ Some given.publisher }
+
+    // The folder's files stay, and no count of faults falls.
+    ensures same { F.files result.1 ≡ F.files folder }
+    ensures later { F.faults folder ≤ F.faults result.1 }
+    ensures script_later { S.faults script.old ≤ S.faults script.new }
+    ensures sink_later { K.faults out.old ≤ K.faults out.new }
+
+    // Before the first statement nothing is written, and the folder isn't asked.
+    ensures nothing_written { IsEarly result.0 → K.written out.new ≡ K.written out.old }
+    ensures nothing_asked { IsEarly result.0 → result.1 ≡ folder }
+{
+    let Some(base) = base else {
+        let (status, folder) = run_serial(rt, alloc, words, folder, script, out, boards);
+        return (status, folder, None);
+    };
+    let Base {
+        publisher,
+        searchers,
+    } = base;
+    let said = match read_words(alloc, words) {
+        Ok(said) => said,
+        Err(WordsError::BadWords) => return (Status::BadWords, folder, Some(publisher)),
+        Err(WordsError::NoMemory) => return (Status::NoMemory, folder, Some(publisher)),
+    };
+    let placed = match read_statements(alloc, script) {
+        Ok(placed) => placed,
+        Err(NoStatements::Unread) => return (Status::ScriptUnread, folder, Some(publisher)),
+        Err(NoStatements::BadLine { line }) => {
+            return (Status::BadScript { line }, folder, Some(publisher));
+        }
+        Err(NoStatements::NoMemory) => return (Status::NoMemory, folder, Some(publisher)),
+    };
+    let (ran, folder, publisher) = run_base(
+        rt, alloc, said, &placed, folder, out, gate, boards, publisher, searchers,
+    );
+    match ran {
+        Ok(()) => (Status::Done, folder, Some(publisher)),
+        Err(Stopped::SinkFault) => (Status::SinkFault, folder, Some(publisher)),
+        Err(Stopped::NoMemory) => (Status::NoMemory, folder, Some(publisher)),
+    }
+}
+
+// Runs statements with the publisher and the searchers of a base: one after another, or with imports
+// that go on beside them, as the words say.
+fn run_base<
+    R: Threads + Wait + Clone + Drop + Send + Sync + 'static,
+    F: Folder + Send + 'static,
+    K: Sink,
+    G: Gate + Send + 'static,
+    C: Collector,
+>(
+    rt: &R,
+    alloc: Global,
+    said: Words,
+    placed: &[Placed],
+    folder: F,
+    out: &mut K,
+    gate: G,
+    boards: Vec<C>,
+    publisher: Publisher<Segment>,
+    searchers: Vec<Searcher<Segment>>,
+) -> (Result<(), Stopped>, F, Publisher<Segment>)
+    requires some { (1 ≤ said.batch) × (said.batch ≤ 4096) }
+    requires few { length placed.now ≤ 1048576 }
+    requires base { IsNewBase (record {
+      publisher = publisher;
+      searchers = searchers.items;
+    }) }
+    ensures one_by_one { IfTold (F.files folder) (λ files. IfTold (K.written out.old) (λ before.
+        OnOk result.0 (said.serial ≡ true →
+        WritesLawful (serial_rules said.batch) files (map (λ board. C.tally board) boards.items)
+        placed.now before (K.written out.new) (F.faults folder) (F.faults result.1)
+        × (result.2 ≡ publisher)))) }
+    ensures published { IfTold (F.files folder) (λ files. IfTold (K.written out.old) (λ before.
+        OnOk result.0 (said.serial ≡ false →
+        WritesPublished (beside_rules said.batch) files
+        (map (λ board. C.tally board) boards.items) placed.now before (K.written out.new)
+        (F.faults folder) (F.faults result.1) result.2))) }
+    ensures sink_fault { IsErrOf result.0 Stopped.SinkFault →
+        Rose (K.faults out.old) (K.faults out.new) }
+    ensures opening { result.2.opening ≡ publisher.opening }
+    ensures same { F.files result.1 ≡ F.files folder }
+    ensures later { F.faults folder ≤ F.faults result.1 }
+    ensures sink_later { K.faults out.old ≤ K.faults out.new }
+{
+    let batch = said.batch;
+    if said.serial {
+        let mut folder = folder;
+        let ran = run_statements(rt, alloc, batch, boards, placed, &mut folder, out);
+        return (ran, folder, publisher);
+    }
+    let Ok(own) = rt.clone() else {
+        return (Err(Stopped::NoMemory), folder, publisher);
+    };
+    let tools = Tools {
+        carried: Carried { publisher, rt: own },
+        folder,
+        gate,
+    };
+    let (ran, tools) = run_beside::<Brand, R, F, G, K, C>(
+        rt, alloc, batch, boards, placed, tools, searchers, out,
+    );
+    let Tools {
+        carried,
+        folder,
+        gate: _gate,
+    } = tools;
+    (ran, folder, carried.into_publisher())
+}

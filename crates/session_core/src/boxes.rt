@@ -1,0 +1,75 @@
+// The answers of statements that speak of the boxes.
+ghost use Rattle.std.specs.Prelude.{◌≡◌, ◌++◌, List, ℕ, map, OnErr, OnOk};
+ghost use Rattle.std.specs.List.{flat_map};
+ghost use mathlib.Core.List.{IsPrefix};
+ghost use Rattle.hit_collectors.specs.Boxes.{IsFedInPart, all_with_hits};
+ghost use Rattle.hit_collectors.specs.Reports.{report_line};
+ghost use Rattle.session_core.specs.Answers.{IsRetiredBy, boxes_text};
+
+use hit_collectors::{Collector, NoSuchName, feed, retire};
+use kb_geometry::NoMemory;
+use pattern_images::Hit;
+use query_script::{print_no_retire, print_report_head, print_retire};
+
+// Appends the text of a report: how many boxes there are, and the report line of each.
+pub(crate) fn append_report<C: Collector>(
+    line: u32,
+    boards: &[C],
+    out: &mut Vec<u8>,
+) -> Result<(), NoMemory>
+    ensures ok { OnOk result (out.new.items
+        ≡ out.old.items ++ boxes_text line (map (λ board. C.tally board) boards.now)) }
+    ensures refused { OnErr result (IsPrefix out.old.items out.new.items) }
+{
+    print_report_head(line, boards.len(), out)?;
+    for board in boards {
+        append_line(board, out)?;
+    }
+    Ok(())
+}
+
+// Appends the report line of a box.
+fn append_line<C: Collector>(board: &C, out: &mut Vec<u8>) -> Result<(), NoMemory>
+    ensures ok { OnOk result (out.new.items ≡ out.old.items ++ report_line (C.tally board.now)) }
+    ensures refused { OnErr result (out.new.items ≡ out.old.items) }
+{
+    board.report(out)?;
+    Ok(())
+}
+
+// Gives all hits to each box.
+pub(crate) fn feed_boxes<C: Collector>(boards: &mut Vec<C>, hits: &[Hit]) -> Result<(), NoMemory>
+    ensures ok { OnOk result (map (λ board. C.tally board) boards.new.items
+        ≡ all_with_hits hits.now (map (λ board. C.tally board) boards.old.items)) }
+    ensures refused { OnErr result (IsFedInPart hits.now
+        (map (λ board. C.tally board) boards.old.items)
+        (map (λ board. C.tally board) boards.new.items)) }
+{
+    feed(boards, hits)
+}
+
+// Drops the first box of this name and appends that it is retired, or that none has the name.
+pub(crate) fn retire_box<C: Collector>(
+    line: u32,
+    name: &str,
+    boards: &mut Vec<C>,
+    out: &mut Vec<u8>,
+) -> Result<(), NoMemory>
+    ensures ok { OnOk result ((text : List ℕ)
+        × IsRetiredBy line name.now (map (λ board. C.tally board) boards.old.items) text
+        (map (λ board. C.tally board) boards.new.items)
+        × (out.new.items ≡ out.old.items ++ text)) }
+    ensures refused { OnErr result (out.new.items ≡ out.old.items) }
+    ensures same { OnErr result (boards.new.items ≡ boards.old.items) }
+{
+    // The text is there before the box is dropped, so that want of memory drops none.
+    let len = out.len();
+    print_retire(line, name, out)?;
+    match retire(boards, name) {
+        Ok(()) => Ok(()),
+        Err(NoSuchName) => {
+            out.truncate(len);
+            print_no_retire(line, name, out)
+        }
+    }
+}
