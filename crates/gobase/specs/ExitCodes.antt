@@ -1,7 +1,7 @@
 -- With which code the program ends.
 use Rattle.std.specs.Prelude.{ℕ}
-use Rattle.search_run.specs.declared.status.Status.{Status}
-use Rattle.search_run.specs.declared.status.Status.TheVariants as status
+use Rattle.serial_run.specs.declared.status.Status.{Status}
+use Rattle.serial_run.specs.declared.status.Status.TheVariants as status
 
 -- the exit code of a status
 abbrev pub exit_code : Status → ℕ

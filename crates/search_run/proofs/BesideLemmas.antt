@@ -17,12 +17,12 @@ use Rattle.version_publisher.specs.declared.state.VersionState.{VersionState}
 use Rattle.import_work.specs.Course.{ImportCourse}
 use Rattle.import_work.specs.Log.{Segment, games_in, segments_of}
 use Rattle.search_run.specs.Beside.{GoesOnBeside, HasAnswered, HasAnsweredAll, PrintsBeside, Reaches}
-use Rattle.search_run.specs.Lawful.{AreSearched, HasPrinted, IsNamed, IsPassed, Rules, State, after_import, last_of, one_more, view_at, waiting_text, with_boxes, with_floor}
+use Rattle.serial_run.specs.Lawful.{AreSearched, HasPrinted, IsNamed, IsPassed, Rules, State, after_import, last_of, one_more, view_at, waiting_text, with_boxes, with_floor}
 use Rattle.search_run.specs.Run.{beside_rules}
 use Rattle.search_run.specs.Seen.{IsVersionOf}
-use Rattle.search_run.specs.Steps.{IsKept, IsTextByKept, IsTextTo, LeavesBase, import_at, kept_at}
-use Rattle.search_run.proofs.PushedSegments.{items_in-games_in}
-use Rattle.search_run.proofs.StatementLemmas.{floor-joined}
+use Rattle.serial_run.specs.Steps.{IsKept, IsTextByKept, IsTextTo, LeavesBase, import_at, kept_at}
+use Rattle.import_segments.proofs.PushedSegments.{items_in-games_in}
+use Rattle.serial_run.proofs.StatementLemmas.{floor-joined}
 
 -- ---- a state with a longer log
 

@@ -24,13 +24,13 @@ use Rattle.import_work.proofs.GivenSegments.{adds_up}
 use Rattle.import_work.proofs.Losses.{loses}
 use Rattle.import_work.proofs.RoomLemmas.{length-trees}
 use Rattle.search_run.specs.Beside.{EndsWith, EndsWithFirst, Finds, HasEnded}
-use Rattle.search_run.specs.Publishing.{IsIdle, IsOpenedWith, IsWithinLimits, PublishesAll, PublishesFirst}
-use Rattle.search_run.specs.Reports.{told_text}
-use Rattle.search_run.specs.Texts.{report_text}
+use Rattle.import_segments.specs.Publishing.{IsIdle, IsOpenedWith, IsWithinLimits, PublishesAll, PublishesFirst}
+use Rattle.serial_run.specs.Reports.{told_text}
+use Rattle.serial_run.specs.Texts.{report_text}
 use Rattle.search_run.specs.declared.importer.Order.{Order}
 use Rattle.import_work.proofs.SegmentLemmas.{games_in-append}
-use Rattle.search_run.proofs.ImportReports.{few_left, no_lines, text_told}
-use Rattle.search_run.proofs.PushedSegments.{items_in-games_in}
+use Rattle.serial_run.proofs.ImportReports.{few_left, no_lines, text_told}
+use Rattle.import_segments.proofs.PushedSegments.{items_in-games_in}
 
 -- the path is there, or the count rose
 cause_there : (files : List File) (told : Option (List File)) (path : List ℕ) (faults now : ℕ) → told ≡ Some files → Rose faults now ⊎ ((all : List File) × (told ≡ Some all) × (¬ HasPath all path)) → Rose faults now ⊎ (¬ HasPath files path)

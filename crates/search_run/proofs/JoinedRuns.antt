@@ -22,17 +22,17 @@ use Rattle.import_work.specs.declared.report.Report.{Report}
 use Rattle.import_work.proofs.FileLemmas.{RoseBy-then}
 use Rattle.import_work.proofs.Losses.{losses_of-append}
 use Rattle.search_run.specs.Beside.{EndsWith, HasAnsweredAll, HasEnded, HasRunTo, IsJoined, IsOrdered, StandsStill}
-use Rattle.search_run.specs.Lawful.{HasPrinted, Rules, State, waiting_text}
-use Rattle.search_run.specs.Publishing.{IsIdle, IsWithinLimits}
+use Rattle.serial_run.specs.Lawful.{HasPrinted, Rules, State, waiting_text}
+use Rattle.import_segments.specs.Publishing.{IsIdle, IsWithinLimits}
 use Rattle.search_run.specs.Run.{WritesPublished, beside_rules}
-use Rattle.search_run.specs.Reports.{told_text}
-use Rattle.search_run.specs.Steps.{IsNoImport, Kept, PassesText, import_at, kept_report, nothing_kept}
-use Rattle.search_run.specs.Texts.{report_text}
+use Rattle.serial_run.specs.Reports.{told_text}
+use Rattle.serial_run.specs.Steps.{IsNoImport, Kept, PassesText, import_at, kept_report, nothing_kept}
+use Rattle.serial_run.specs.Texts.{report_text}
 use Rattle.search_run.specs.declared.importer.Order.{Order}
 use Rattle.search_run.proofs.BesideLemmas.{prints-first}
-use Rattle.search_run.proofs.PushedSegments.{items_in-games_in}
-use Rattle.search_run.proofs.RunLemmas.{HasRun-more, HasRun-start, no_loss, taken_more}
-use Rattle.search_run.proofs.StatementLemmas.{log_kept, waiting_is}
+use Rattle.import_segments.proofs.PushedSegments.{items_in-games_in}
+use Rattle.serial_run.proofs.RunLemmas.{HasRun-more, HasRun-start, no_loss, taken_more}
+use Rattle.serial_run.proofs.StatementLemmas.{log_kept, waiting_is}
 
 -- what is so of one value, and what else is so of it
 pub ok_both : {T E : Type 0} (result : Result T E) (P Q W : T → Type 0) → IfOk result P → IfOk result Q → ((x : T) → P x → Q x → W x) → IfOk result W

@@ -1,16 +1,4 @@
 mod BesideLemmas
-mod CountLemmas
 mod EndedImports
-mod ImportReports
 mod JoinedRuns
-mod OneOutput
-mod PrintLemmas
-mod PublishedSegments
-mod PushedSegments
-mod ReadLemmas
-mod RunLemmas
-mod ScriptLemmas
 mod SeenLemmas
-mod StatementLemmas
-mod WholeOutputs
-mod WordLemmas

@@ -20,12 +20,12 @@ use Rattle.import_work.specs.Imports.{lines_in}
 use Rattle.import_work.specs.Log.{Segment, games_in, segments_of}
 use Rattle.import_work.specs.Outcome.{counts_of}
 use Rattle.import_work.specs.declared.report.Report.{Report}
-use Rattle.search_run.specs.Lawful.{HasPrinted, Rules, State}
-use Rattle.search_run.specs.Publishing.{IsIdle, IsWithinLimits}
-use Rattle.search_run.specs.Reports.{told_text}
+use Rattle.serial_run.specs.Lawful.{HasPrinted, Rules, State}
+use Rattle.import_segments.specs.Publishing.{IsIdle, IsWithinLimits}
+use Rattle.serial_run.specs.Reports.{told_text}
 use Rattle.search_run.specs.Run.{beside_rules}
-use Rattle.search_run.specs.Steps.{HasRun, Kept}
-use Rattle.search_run.specs.Texts.{report_text}
+use Rattle.serial_run.specs.Steps.{HasRun, Kept}
+use Rattle.serial_run.specs.Texts.{report_text}
 use Rattle.search_run.specs.declared.importer.Order.{Order}
 
 -- ---- what is printed beside an import

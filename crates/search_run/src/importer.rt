@@ -2,8 +2,7 @@
 ghost use Rattle.search_run.specs.Beside.{HasEnded, MayBegin};
 
 use crate::carried::Carried;
-use crate::publish::publish_import;
-use crate::receipts::{OpenName, Receipts};
+use import_segments::{OpenName, Receipts, publish_import};
 use import_work::{Counts, Import, Report};
 use kb_edges::{Folder, Gate};
 use kb_geometry::NoMemory;

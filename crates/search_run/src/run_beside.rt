@@ -41,25 +41,23 @@ ghost use Rattle.search_run.specs.Beside.{
   MayBegin,
   StandsStill,
 };
-ghost use Rattle.search_run.specs.Publishing.{IsIdle, IsWithinLimits};
+ghost use Rattle.import_segments.specs.Publishing.{IsIdle, IsWithinLimits};
 ghost use Rattle.search_run.specs.Run.{WritesPublished, beside_rules};
 ghost use Rattle.search_run.specs.Seen.{HaveSeen, IsVersionOf};
-ghost use Rattle.search_run.specs.Steps.{IsNoImport, PassesText, import_at, kept_report};
+ghost use Rattle.serial_run.specs.Steps.{IsNoImport, PassesText, import_at, kept_report};
 
 use crate::beside::answer_beside;
 use crate::carried::Carried;
 use crate::importer::{Ended, Importing, Order, Tools, import};
-use crate::receipts::{OpenName, Receipts};
 use crate::searchers::Searchers;
-use crate::standing::Standing;
-use crate::statements::Stopped;
-use crate::write::write_all;
 use hit_collectors::Collector;
+use import_segments::{OpenName, Receipts};
 use import_work::Report;
 use kb_edges::{Folder, Gate, Sink};
 use kb_geometry::NoMemory;
 use query_script::{Placed, Statement};
 use segment_store::Segment;
+use serial_run::{Standing, Stopped, write_all};
 use session_core::Session;
 use std::alloc::Global;
 use std::snapshot::Snapshot;

@@ -9,7 +9,7 @@ ghost use Rattle.search_run.specs.Seen.{
   IsVersionOf,
 };
 
-use crate::receipts::{OpenName, Receipts};
+use import_segments::{OpenName, Receipts};
 use kb_geometry::NoMemory;
 use segment_store::Segment;
 use std::alloc::Global;

@@ -1,7 +1,7 @@
 use Rattle.std.proofs.Common.{◌++◌, arith, take}
 use Rattle.search_run.specs.Seen.{HaveSeen}
 use Rattle.search_run.proofs.BesideLemmas.{answered-all, answers-more, answers-none}
-use Rattle.search_run.proofs.RunLemmas.{taken_more}
+use Rattle.serial_run.proofs.RunLemmas.{taken_more}
 use Rattle.search_run.proofs.SeenLemmas.{prefix_length}
 use Rattle.search_run.proofs.beside.answer_beside.Goals as goal
 

@@ -4,9 +4,9 @@ use Rattle.kb_geometry.specs.declared.memory.NoMemory.{NoMemory}
 use Rattle.query_script.specs.Texts.{import_text}
 use Rattle.import_work.specs.declared.report.Report.{Report}
 use Rattle.search_run.specs.Beside.{EndsWith, HasAnsweredAll}
-use Rattle.search_run.specs.Publishing.{IsIdle}
+use Rattle.import_segments.specs.Publishing.{IsIdle}
 use Rattle.search_run.specs.Seen.{HaveSeen}
-use Rattle.search_run.specs.Steps.{kept_report}
+use Rattle.serial_run.specs.Steps.{kept_report}
 use Rattle.search_run.proofs.JoinedRuns.{joined-run, ok_both}
 use Rattle.search_run.proofs.run_beside.run_import.Goals as goal
 

@@ -4,7 +4,7 @@ use Rattle.query_script.specs.declared.statement.Placed.{Placed}
 use Rattle.search_run.specs.Beside.{HasRunTo}
 use Rattle.search_run.specs.Run.{beside_rules}
 use Rattle.search_run.proofs.JoinedRuns.{placed_as, still-ran}
-use Rattle.search_run.proofs.StatementLemmas.{no-import}
+use Rattle.serial_run.proofs.StatementLemmas.{no-import}
 use Rattle.search_run.proofs.run_beside.run_next.Goals as goal
 
 pub returns-in-Import-clause-ran : goal.returns-in-Import-clause-ran

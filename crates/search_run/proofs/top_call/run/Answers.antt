@@ -1,8 +1,8 @@
 use Rattle.std.proofs.Common.{◌≡◌, ◌∙◌, Err, Some, ap, refl, subst, sym}
 use Rattle.search_run.specs.Bases.{BaseState}
-use Rattle.search_run.specs.Script.{IsBad}
-use Rattle.search_run.proofs.ScriptLemmas.{IsScript-in_grammar, good_not_bad}
-use Rattle.search_run.proofs.WordLemmas.{batch_few, batch_some}
+use Rattle.serial_run.specs.Script.{IsBad}
+use Rattle.serial_run.proofs.ScriptLemmas.{IsScript-in_grammar, good_not_bad}
+use Rattle.serial_run.proofs.WordLemmas.{batch_few, batch_some}
 use Rattle.search_run.proofs.top_call.run.Goals as goal
 
 pub returns-in_default-clause-done : goal.returns-in_default-clause-done

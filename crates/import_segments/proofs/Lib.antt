@@ -1,0 +1,2 @@
+mod PublishedSegments
+pub mod PushedSegments

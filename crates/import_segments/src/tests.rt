@@ -1,0 +1,2 @@
+// An import beside a searcher.
+mod publishing;

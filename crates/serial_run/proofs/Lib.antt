@@ -1,0 +1,10 @@
+pub mod CountLemmas
+pub mod ImportReports
+mod OneOutput
+mod PrintLemmas
+mod ReadLemmas
+pub mod RunLemmas
+pub mod ScriptLemmas
+pub mod StatementLemmas
+pub mod WholeOutputs
+pub mod WordLemmas

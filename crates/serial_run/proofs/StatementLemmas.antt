@@ -1,0 +1,252 @@
+-- What statements print and where they lead, by what is kept of a state.
+use Rattle.std.proofs.Common.{◌≡◌, ◌≢◌, inr, ℕ, ◌+◌, ◌≤◌, List, [], ◌∷◌, ◌++◌, Option, Some, None, length, refl, sym, ap, ◌∙◌, subst, append_assoc, length-append, arith}
+use Rattle.std.specs.Prelude.{max}
+use Rattle.std.specs.Option.{option_map_or}
+use Rattle.std.proofs.Math.Nat.{max-le}
+use Rattle.std.proofs.lemmas.Grind.{flat_map-append}
+use Rattle.std.proofs.lemmas.List.{append-nil, take_all}
+use Rattle.kb_edges.specs.Faults.{RoseBy}
+use Rattle.kb_edges.specs.Files.{File}
+use Rattle.query_script.specs.declared.statement.PlacedSearch.{PlacedSearch}
+use Rattle.query_script.specs.declared.statement.Statement.{Statement}
+use Rattle.query_script.specs.declared.statement.Statement.TheVariants as statement
+use Rattle.query_script.specs.Texts.{import_text, until_text, wait_text}
+use Rattle.hit_collectors.specs.Tallies.{BoxTally}
+use Rattle.session_core.specs.Answers.{IsAnswer, IsSearched, View, boxes_text}
+use Rattle.node_position.specs.Games.{Game}
+use Rattle.import_work.specs.Course.{Finding, ImportCourse, IsImported, losses_of, trees_in}
+use Rattle.serial_run.specs.Lawful.{AreSearched, IsNamed, IsPassed, IsStatementText, Rules, State, after_import, report_printed, last_of, view_at, waiting_text, with_boxes, with_floor}
+use Rattle.import_work.specs.Log.{games_in, segments_of}
+use Rattle.import_work.specs.Outcome.{counts_of}
+use Rattle.serial_run.specs.Steps.{AreAnswered, IsKept, IsNoImport, IsTextTo, Kept, LeadsOn, LeavesBase, kept_report, view_of}
+use Rattle.serial_run.specs.Texts.{report_text}
+use Rattle.import_work.proofs.FileLemmas.{rose_by_none}
+
+-- the last version may be named, and it is seen as it is kept
+pub last_named : (rules : Rules) (s : State) → s.floor ≤ last_of s → IsNamed rules s (last_of s)
+last_named rules s floor = record { from = floor; to = omega arith; serial = λ one. refl }
+
+pub view_kept : (s : State) (kept : Kept) (boxes : List BoxTally) → IsKept s kept boxes → view_at s (last_of s) ≡ view_of kept
+view_kept s kept boxes is =
+    ap (λ (gs : List Game). record { version = last_of s; games = gs }) (ap games_in (take_all (last_of s) s.log (omega arith)) ∙ sym is.games)
+    ∙ ap (λ (n : ℕ). record { version = n; games = kept.games }) (sym is.version)
+
+-- the searches of a block, and one search more, each over the last version
+pub AreAnswered-more : (view : View) (searches : List PlacedSearch) (p : PlacedSearch) (boxes between after : List BoxTally) (text more : List ℕ) → AreAnswered view searches boxes text between
+    → IsSearched p.line view p.query p.filter between more after → AreAnswered view (searches ++ p ∷ []) boxes (text ++ more) after
+AreAnswered-more view [] p boxes between after text more none is =
+    (more, after, [], subst (λ told. IsSearched p.line view p.query p.filter told more after) none.1 is, (refl, refl), ap (λ t. t ++ more) none.0 ∙ sym (append-nil more))
+AreAnswered-more view (q ∷ searches) p boxes between after text more h is =
+    (h.0, h.1, h.2 ++ more, h.3, AreAnswered-more view searches p h.1 between after h.2 more h.4 is, ap (λ t. t ++ more) h.5 ∙ append_assoc h.0 h.2 more)
+
+-- are those of the block
+AreAnswered-searched : (rules : Rules) (s : State) (seen : View) → s.floor ≤ last_of s → view_at s (last_of s) ≡ seen → (searches : List PlacedSearch) (boxes after : List BoxTally) (text : List ℕ) → AreAnswered seen searches boxes text after
+    → (greatest : ℕ) × (greatest ≤ last_of s) × AreSearched rules s searches boxes greatest text after
+AreAnswered-searched rules s seen floor view [] boxes after text none = (0, omega arith, (refl, none.0, none.1))
+AreAnswered-searched rules s seen floor view (p ∷ ps) boxes after text h =
+    let rest = AreAnswered-searched rules s seen floor view ps h.1 after h.2 h.4 in (
+      max (last_of s) rest.0,
+      max-le (omega arith) rest.1,
+      (last_of s, h.0, h.1, rest.0, h.2, last_named rules s floor, rw view h.3, rest.2, refl, h.5),
+    )
+
+-- the report that waits is that which is kept
+pub waiting_is : (s : State) (kept : Kept) (boxes : List BoxTally) → IsKept s kept boxes → kept_report kept ≡ waiting_text s
+waiting_is s kept boxes is = ap (λ (w : Option (List ℕ)). option_map_or (λ report. report) w []) is.waiting
+
+-- the greatest number that a block names is at most the last version
+pub greatest-le : (rules : Rules) (s : State) (searches : List PlacedSearch) (boxes after : List BoxTally) (greatest : ℕ) (text : List ℕ) → AreSearched rules s searches boxes greatest text after → greatest ≤ last_of s
+greatest-le rules s [] boxes after greatest text h = rw h.0 (omega arith)
+greatest-le rules s (p ∷ ps) boxes after greatest text h = rw h.8 (max-le h.5.to (greatest-le rules s ps h.2 after h.3 h.4 h.7))
+
+-- a floor that is at most the last version
+pub floor-named : (s : State) (n : ℕ) → s.floor ≤ last_of s → n ≤ last_of s → max s.floor n ≤ last_of s
+floor-named s n floor named = max-le floor named
+
+pub floor-joined : (waiting : Option (List ℕ)) (floor last : ℕ) → floor ≤ last → option_map_or (λ report. last) waiting floor ≤ last
+floor-joined None floor last le = le
+floor-joined (Some report) floor last le = omega arith
+
+-- a text with which the boxes tell something is a text
+pub text-told : (files : List File) (rules : Rules) (s : State) (line : ℕ) (own : Statement) (text : List ℕ) (told : List BoxTally) → IsTextTo files rules s line own text told → IsStatementText files rules s line own text
+text-told files rules s line (statement.Import path) text told of = of.0
+text-told files rules s line statement.Wait text told of = (of.0, of.1, of.2)
+text-told files rules s line (statement.Until number) text told of = (of.0, of.1, of.2)
+text-told files rules s line (statement.Search query filter) text told of = (of.0, of.1, of.2)
+text-told files rules s line (statement.Together searches) text told of = (of.0, of.1, of.2)
+text-told files rules s line (statement.Kept query) text told of = (of.0, of.1, of.2)
+text-told files rules s line (statement.Signature pattern) text told of = (of.0, of.1, of.2)
+text-told files rules s line statement.Players text told of = (of.0, of.1, of.2)
+text-told files rules s line statement.Doubles text told of = (of.0, of.1, of.2)
+text-told files rules s line (statement.Game number) text told of = (of.0, of.1, of.2)
+text-told files rules s line statement.Report text told of = (of.0, of.1, of.2)
+text-told files rules s line (statement.Retire name) text told of = (of.0, of.1, of.2)
+
+module _ (rules : Rules) (files : List File) (s : State) (kept : Kept) (boxes told : List BoxTally) (is : IsKept s kept boxes) (line : ℕ) (text : List ℕ) where
+  -- ---- the text of a statement
+
+  pub text-import : (path : List ℕ) → text ≡ kept_report kept ++ import_text line path → told ≡ boxes → IsTextTo files rules s line (statement.Import path) text told
+  text-import path of same = (of ∙ ap (λ t. t ++ import_text line path) (waiting_is s kept boxes is), same ∙ sym is.tallies)
+
+  pub text-wait : text ≡ kept_report kept ++ wait_text line kept.version → told ≡ boxes → IsTextTo files rules s line statement.Wait text told
+  text-wait of same = (
+    [],
+    with_floor (report_printed s) (last_of s),
+    (refl, of ∙ ap (λ t. t ++ wait_text line kept.version) (waiting_is s kept boxes is) ∙ ap (λ n. waiting_text s ++ wait_text line n) is.version, refl),
+    is.tallies ∙ sym same,
+  )
+
+  pub text-until : (number : ℕ) → text ≡ until_text line number kept.version → told ≡ boxes → IsTextTo files rules s line (statement.Until number) text told
+  text-until number of same =
+      ([], with_floor s (last_of s), (last_of s, record { named = last_named rules s is.floor; reached = inr refl }, refl, of ∙ ap (λ n. until_text line number n) is.version, refl), is.tallies ∙ sym same)
+
+  pub text-together : (searches : List PlacedSearch) → AreAnswered (view_of kept) searches boxes text told → IsTextTo files rules s line (statement.Together searches) text told
+  text-together searches block =
+      let are = AreAnswered-searched rules s (view_of kept) is.floor (view_kept s kept boxes is) searches boxes told text block in
+      ([], with_boxes (with_floor s are.0) told, (are.0, told, subst (λ (from : List BoxTally). AreSearched rules s searches from are.0 text told) (sym is.tallies) are.2, refl, refl), refl)
+
+  -- one that is answered from the games of a version: it names the last one
+  answered-here : (own : Statement) → IsAnswer line (view_of kept) boxes own text told → (n : ℕ) × (after : List BoxTally) × IsNamed rules s n × IsAnswer line (view_at s n) s.boxes own text after × ◌≡◌ {A = List ImportCourse} [] []
+      × (with_boxes (with_floor s (last_of s)) told ≡ with_boxes (with_floor s n) after)
+  answered-here own of = (last_of s, told, last_named rules s is.floor, rw (view_kept s kept boxes is, is.tallies) of, refl, refl)
+
+  pub text-answered : (own : Statement) → IsAnswer line (view_of kept) boxes own text told → IsTextTo files rules s line own text told
+  text-answered (statement.Search query filter) of = ([], with_boxes (with_floor s (last_of s)) told, answered-here (statement.Search query filter) of, refl)
+  text-answered (statement.Kept query) of = ([], with_boxes (with_floor s (last_of s)) told, answered-here (statement.Kept query) of, refl)
+  text-answered (statement.Signature pattern) of = ([], with_boxes (with_floor s (last_of s)) told, answered-here (statement.Signature pattern) of, refl)
+  text-answered statement.Players of = ([], with_boxes (with_floor s (last_of s)) told, answered-here statement.Players of, refl)
+  text-answered statement.Doubles of = ([], with_boxes (with_floor s (last_of s)) told, answered-here statement.Doubles of, refl)
+  text-answered (statement.Game number) of = ([], with_boxes (with_floor s (last_of s)) told, answered-here (statement.Game number) of, refl)
+  text-answered statement.Report of = ([], s, (of.0 ∙ ap (boxes_text line) (sym is.tallies), refl, refl), is.tallies ∙ sym of.1)
+  text-answered (statement.Retire name) of = ([], with_boxes s told, (told, rw is.tallies of, refl, refl), refl)
+  text-answered (statement.Import path) of = absurd of
+  text-answered statement.Wait of = absurd of
+  text-answered (statement.Until number) of = absurd of
+  text-answered (statement.Together searches) of = absurd of
+
+-- ---- where a statement leads
+
+-- each statement but an import is no import
+pub no-import : (own : Statement) → ((path : List ℕ) → own ≢ statement.Import path) → IsNoImport own
+no-import (statement.Import path) not = absurd (not path refl)
+no-import statement.Wait not = tt
+no-import (statement.Until number) not = tt
+no-import (statement.Together searches) not = tt
+no-import (statement.Search query filter) not = tt
+no-import (statement.Kept query) not = tt
+no-import (statement.Signature pattern) not = tt
+no-import statement.Players not = tt
+no-import statement.Doubles not = tt
+no-import (statement.Game number) not = tt
+no-import statement.Report not = tt
+no-import (statement.Retire name) not = tt
+
+-- one that is no import and no wait leaves the base
+pub leaves-base_of : (own : Statement) → IsNoImport own → own ≢ statement.Wait → LeavesBase own
+leaves-base_of (statement.Import path) no_import no_wait = absurd no_import
+leaves-base_of statement.Wait no_import no_wait = absurd (no_wait refl)
+leaves-base_of (statement.Until number) no_import no_wait = tt
+leaves-base_of (statement.Together searches) no_import no_wait = tt
+leaves-base_of (statement.Search query filter) no_import no_wait = tt
+leaves-base_of (statement.Kept query) no_import no_wait = tt
+leaves-base_of (statement.Signature pattern) no_import no_wait = tt
+leaves-base_of statement.Players no_import no_wait = tt
+leaves-base_of statement.Doubles no_import no_wait = tt
+leaves-base_of (statement.Game number) no_import no_wait = tt
+leaves-base_of statement.Report no_import no_wait = tt
+leaves-base_of (statement.Retire name) no_import no_wait = tt
+
+-- each statement but an import and a wait is such a one
+pub leaves-base : (own : Statement) → ((path : List ℕ) → own ≢ statement.Import path) → own ≢ statement.Wait → LeavesBase own
+leaves-base own no_import no_wait = leaves-base_of own (no-import own no_import) no_wait
+
+-- a statement that is no import leaves the log
+pub log_kept : (rules : Rules) (files : List File) (s next : State) (line : ℕ) (own : Statement) (used : List ImportCourse) (text : List ℕ) → IsNoImport own → IsPassed files rules s line own used text next → next.log ≡ s.log
+log_kept rules files s next line (statement.Import path) used text not of = absurd not
+log_kept rules files s next line statement.Wait used text not of = ap (λ (t : State). t.log) of.2
+log_kept rules files s next line (statement.Until number) used text not of = ap (λ (t : State). t.log) of.4
+log_kept rules files s next line (statement.Together searches) used text not of = ap (λ (t : State). t.log) of.4
+log_kept rules files s next line (statement.Search query filter) used text not of = ap (λ (t : State). t.log) of.5
+log_kept rules files s next line (statement.Kept query) used text not of = ap (λ (t : State). t.log) of.5
+log_kept rules files s next line (statement.Signature pattern) used text not of = ap (λ (t : State). t.log) of.5
+log_kept rules files s next line statement.Players used text not of = ap (λ (t : State). t.log) of.5
+log_kept rules files s next line statement.Doubles used text not of = ap (λ (t : State). t.log) of.5
+log_kept rules files s next line (statement.Game number) used text not of = ap (λ (t : State). t.log) of.5
+log_kept rules files s next line statement.Report used text not of = ap (λ (t : State). t.log) of.2
+log_kept rules files s next line (statement.Retire name) used text not of = ap (λ (t : State). t.log) of.3
+
+module _ (rules : Rules) (files : List File) (kept : Kept) (line : ℕ) (text : List ℕ) (before now : ℕ) (later : before ≤ now) where
+  -- no import was made, and the same is kept, whatever the boxes tell
+  abbrev IsLed : State → List ImportCourse → State → Type 0
+  IsLed s used next = ◌≡◌ {A = List ImportCourse} used [] × IsKept next kept next.boxes
+
+  named : (s next : State) (n : ℕ) (boxes after : List BoxTally) → IsKept s kept boxes → n ≤ last_of s → next ≡ with_boxes (with_floor s n) after → IsKept next kept next.boxes
+  named s next n boxes after is to same =
+      subst (λ (t : State). IsKept t kept t.boxes) (sym same)
+      (record { version = is.version; games = is.games; waiting = is.waiting; floor = floor-named s n is.floor to; tallies = refl })
+
+  led : (s next : State) (boxes : List BoxTally) (used : List ImportCourse) → IsKept s kept boxes → (own : Statement) → LeavesBase own → IsPassed files rules s line own used text next → IsLed s used next
+  led s next boxes used is (statement.Import path) still of = absurd still
+  led s next boxes used is statement.Wait still of = absurd still
+  led s next boxes used is (statement.Until number) still of = (of.2, named s next of.0 boxes s.boxes is of.1.named.to of.4)
+  led s next boxes used is (statement.Together searches) still of = (of.3, named s next of.0 boxes of.1 is (greatest-le rules s searches s.boxes of.1 of.0 text of.2) of.4)
+  led s next boxes used is (statement.Search query filter) still of = (of.4, named s next of.0 boxes of.1 is of.2.to of.5)
+  led s next boxes used is (statement.Kept query) still of = (of.4, named s next of.0 boxes of.1 is of.2.to of.5)
+  led s next boxes used is (statement.Signature pattern) still of = (of.4, named s next of.0 boxes of.1 is of.2.to of.5)
+  led s next boxes used is statement.Players still of = (of.4, named s next of.0 boxes of.1 is of.2.to of.5)
+  led s next boxes used is statement.Doubles still of = (of.4, named s next of.0 boxes of.1 is of.2.to of.5)
+  led s next boxes used is (statement.Game number) still of = (of.4, named s next of.0 boxes of.1 is of.2.to of.5)
+  led s next boxes used is statement.Report still of =
+      (of.1, subst (λ (t : State). IsKept t kept t.boxes) (sym of.2) (record { version = is.version; games = is.games; waiting = is.waiting; floor = is.floor; tallies = refl }))
+  led s next boxes used is (statement.Retire name) still of =
+      (of.2, subst (λ (t : State). IsKept t kept t.boxes) (sym of.3) (record { version = is.version; games = is.games; waiting = is.waiting; floor = is.floor; tallies = refl }))
+
+  -- so it leads on
+  led_on : (own : Statement) (s : State) (boxes told : List BoxTally) → LeavesBase own → IsKept s kept boxes → (used : List ImportCourse) (next : State) → IsPassed files rules s line own used text next → next.boxes ≡ told →
+      (used : List ImportCourse) × (next : State) × IsKept next kept told × IsPassed files rules s line own used text next × RoseBy (losses_of used) before now
+  led_on own s boxes told still is used next of tells =
+      let on = led s next boxes used is own still of in
+      (used, next, subst (IsKept next kept) tells on.1, of, subst (λ (u : List ImportCourse). RoseBy (losses_of u) before now) (sym on.0) (rose_by_none before now later))
+
+  pub leads-still : (own : Statement) → LeavesBase own → LeadsOn files rules kept line own text kept before now
+  leads-still (statement.Import path) still = absurd still
+  leads-still statement.Wait still = absurd still
+  leads-still (statement.Until number) still = λ boxes told s is of. led_on (statement.Until number) s boxes told still is of.0 of.1 of.2 of.3
+  leads-still (statement.Together searches) still = λ boxes told s is of. led_on (statement.Together searches) s boxes told still is of.0 of.1 of.2 of.3
+  leads-still (statement.Search query filter) still = λ boxes told s is of. led_on (statement.Search query filter) s boxes told still is of.0 of.1 of.2 of.3
+  leads-still (statement.Kept query) still = λ boxes told s is of. led_on (statement.Kept query) s boxes told still is of.0 of.1 of.2 of.3
+  leads-still (statement.Signature pattern) still = λ boxes told s is of. led_on (statement.Signature pattern) s boxes told still is of.0 of.1 of.2 of.3
+  leads-still statement.Players still = λ boxes told s is of. led_on statement.Players s boxes told still is of.0 of.1 of.2 of.3
+  leads-still statement.Doubles still = λ boxes told s is of. led_on statement.Doubles s boxes told still is of.0 of.1 of.2 of.3
+  leads-still (statement.Game number) still = λ boxes told s is of. led_on (statement.Game number) s boxes told still is of.0 of.1 of.2 of.3
+  leads-still statement.Report still = λ boxes told s is of. led_on statement.Report s boxes told still is of.0 of.1 of.2 of.3
+  leads-still (statement.Retire name) still = λ boxes told s is of. led_on (statement.Retire name) s boxes told still is of.0 of.1 of.2 of.3
+
+  pub leads-wait : LeadsOn files rules kept line statement.Wait text (record { version = kept.version; games = kept.games; waiting = None }) before now
+  leads-wait = λ boxes told s is of. (
+    [],
+    with_floor (report_printed s) (last_of s),
+    record { version = is.version; games = is.games; waiting = refl; floor = max-le (floor-joined s.waiting s.floor (last_of s) is.floor) (omega arith); tallies = ap (λ (t : State). t.boxes) (sym of.2.2) ∙ of.3 },
+    (refl, of.2.1, refl),
+    rose_by_none before now later,
+  )
+
+-- an import that found this leads on to what is kept with its games and its report
+pub leads-import : (rules : Rules) (files : List File) (kept : Kept) (line : ℕ) (path text : List ℕ) (before now : ℕ) (entry : ImportCourse) (finding : Finding) (games : List Game) (report : List ℕ) (version : ℕ) →
+    IsImported files path (counts_of (trees_in kept.games)) entry finding → version ≡ kept.version + length (segments_of rules.batch finding) → games ≡ kept.games ++ games_in (segments_of rules.batch finding) → report ≡ report_text line finding version →
+    RoseBy (losses_of (entry ∷ [])) before now →
+    LeadsOn files rules kept line (statement.Import path) text (record { version = version; games = games; waiting = Some report }) before now
+leads-import rules files kept line path text before now entry finding games report version found version_is games_are report_is paid = λ boxes told s is of.
+    let counted : version ≡ length (s.log ++ segments_of rules.batch finding) = version_is ∙ ap (λ n. n + length (segments_of rules.batch finding)) is.version ∙ sym (length-append s.log (segments_of rules.batch finding)) in (
+      entry ∷ [],
+      after_import rules s line finding,
+      record {
+        version = counted;
+        games = games_are ∙ ap (λ gs. gs ++ games_in (segments_of rules.batch finding)) is.games ∙ sym (flat_map-append (λ (g : List Game). g) s.log (segments_of rules.batch finding));
+        waiting = ap (λ r. Some r) (report_is ∙ ap (λ n. report_text line finding n) counted);
+        floor = rw length-append (omega (arith, floor-joined s.waiting s.floor (last_of s) is.floor));
+        tallies = sym of.1;
+      },
+      (entry, finding, refl, subst (λ gs. IsImported files path (counts_of (trees_in gs)) entry finding) is.games found, of.0, refl),
+      paid,
+    )

@@ -1,0 +1,231 @@
+-- Each begun text is a prefix of a lawful output: what is left of the script is passed on, each
+-- statement with the last version, and each import without a loss.
+use Rattle.std.proofs.Common.{◌≡◌, inl, inr, ℕ, ◌≤◌, List, [], ◌∷◌, ◌++◌, refl, sym, ap, ◌∙◌, subst, append_assoc, length-append, arith}
+use Rattle.std.specs.Prelude.{All, max}
+use Rattle.std.proofs.Math.Nat.{max-le}
+use Rattle.std.proofs.lemmas.Grind.{flat_map-append}
+use Rattle.std.proofs.lemmas.List.{append-nil, take_all}
+use Rattle.std.proofs.lemmas.List.Elements.{All-append, All-nil}
+use mathlib.Core.List.{IsPrefix}
+use Rattle.kb_geometry.proofs.Prefixes.{prefix_same, prefix_trans}
+use Rattle.kb_edges.specs.Files.{File}
+use Rattle.query_script.specs.declared.statement.Placed.{Placed}
+use Rattle.query_script.specs.declared.statement.PlacedSearch.{PlacedSearch}
+use Rattle.query_script.specs.declared.statement.Statement.{Statement}
+use Rattle.query_script.specs.declared.statement.Statement.TheVariants as statement
+use Rattle.query_script.specs.Texts.{import_text, until_text, wait_text}
+use Rattle.hit_collectors.specs.Tallies.{BoxTally}
+use Rattle.session_core.specs.Answers.{IsAnswer, IsAnswered, boxes_text}
+use Rattle.session_core.proofs.OneAnswer.{answer-found, retired-found, search-found}
+use Rattle.import_work.specs.Course.{Finding, ImportCourse, IsImported, losses_of, nothing_lost, trees_in}
+use Rattle.serial_run.specs.Lawful.{AreSearched, HasPrinted, IsBegun, IsLawful, IsNamed, IsNextPrefix, IsPassed, IsStatementText, Rules, State, after_import, at_start, report_printed, last_of, view_at, waiting_text, with_boxes, with_floor}
+use Rattle.import_work.specs.Log.{Segment, games_at, games_in, segments_of}
+use Rattle.import_work.specs.Outcome.{counts_of}
+use Rattle.import_work.proofs.Losses.{losses_of-append}
+use Rattle.import_work.proofs.ImportsExist.{HasTree, import-found, imported-trees}
+use Rattle.serial_run.proofs.StatementLemmas.{floor-joined, floor-named, greatest-le, last_named}
+
+-- ---- prefixes
+
+prefix_behind : (text more whole : List ℕ) → IsPrefix more whole → IsPrefix (text ++ more) (text ++ whole)
+prefix_behind text more whole p = (p.0, append_assoc text more p.0 ∙ ap (λ t. text ++ t) p.1)
+
+-- ---- states
+
+-- What holds of each state of a run: the floor is at most the last version, and the games of the
+-- log are trees.
+pub record IsReached (s : State) : Type 0 where
+  pub floor : s.floor ≤ last_of s
+  pub trees : All HasTree (games_in s.log)
+
+-- the games of a version are trees
+pub trees-at : (s : State) → IsReached s → All HasTree (games_at s.log (last_of s))
+trees-at s h = subst (All HasTree) (ap games_in (sym (take_all (last_of s) s.log (omega arith)))) h.trees
+
+module _ (files : List File) (rules : Rules) where
+  -- ---- each statement leads to such a state
+
+  named : (s : State) (n : ℕ) (boxes : List BoxTally) → IsReached s → n ≤ last_of s → IsReached (with_boxes (with_floor s n) boxes)
+  named s n boxes h to = record { floor = floor-named s n h.floor to; trees = h.trees }
+
+  waited : (s : State) → IsReached s → IsReached (with_floor (report_printed s) (last_of s))
+  waited s h = record { floor = max-le (floor-joined s.waiting s.floor (last_of s) h.floor) (omega arith); trees = h.trees }
+
+  imported : (s : State) (line : ℕ) (path : List ℕ) (entry : ImportCourse) (finding : Finding) → IsReached s → IsImported files path (counts_of (trees_in (games_in s.log))) entry finding → IsReached (after_import rules s line finding)
+  imported s line path entry finding h is = record {
+    floor = rw length-append (omega (arith, floor-joined s.waiting s.floor (last_of s) h.floor));
+    trees = subst (All HasTree) (sym (flat_map-append (λ (g : Segment). g) s.log (segments_of rules.batch finding)))
+        (All-append HasTree (games_in s.log) (games_in (segments_of rules.batch finding)) h.trees
+        (imported-trees files path (counts_of (trees_in (games_in s.log))) entry rules.batch finding is));
+  }
+
+  pub passed-on : (s next : State) (line : ℕ) (own : Statement) (used : List ImportCourse) (text : List ℕ) → IsReached s → IsPassed files rules s line own used text next → IsReached next
+  passed-on s next line (statement.Import path) used text h is = rw is.5 (imported s line path is.0 is.1 h is.3)
+  passed-on s next line statement.Wait used text h is = rw is.2 (waited s h)
+  passed-on s next line (statement.Until number) used text h is = rw is.4 (named s is.0 s.boxes h is.1.named.to)
+  passed-on s next line (statement.Together searches) used text h is = rw is.4 (named s is.0 is.1 h (greatest-le rules s searches s.boxes is.1 is.0 text is.2))
+  passed-on s next line (statement.Search query filter) used text h is = rw is.5 (named s is.0 is.1 h is.2.to)
+  passed-on s next line (statement.Kept query) used text h is = rw is.5 (named s is.0 is.1 h is.2.to)
+  passed-on s next line (statement.Signature pattern) used text h is = rw is.5 (named s is.0 is.1 h is.2.to)
+  passed-on s next line statement.Players used text h is = rw is.5 (named s is.0 is.1 h is.2.to)
+  passed-on s next line statement.Doubles used text h is = rw is.5 (named s is.0 is.1 h is.2.to)
+  passed-on s next line (statement.Game number) used text h is = rw is.5 (named s is.0 is.1 h is.2.to)
+  passed-on s next line statement.Report used text h is = rw is.2 h
+  passed-on s next line (statement.Retire name) used text h is = rw is.3 (record { floor = h.floor; trees = h.trees })
+
+  pub reached : (start : List BoxTally) (course : List ImportCourse) (placed : List Placed) (s : State) (out : List ℕ) → HasPrinted files rules start course placed s out → IsReached s
+  reached start _ _ _ _ HasPrinted.nothing = record { floor = omega arith; trees = All-nil HasTree }
+  reached start _ _ _ _ (HasPrinted.one_more {course} {placed} {s} {out} used p next text so_far is) =
+      passed-on s next p.line p.statement used text (reached start course placed s out so_far) is
+
+  -- ---- each statement can be passed, and nothing is lost
+
+  abbrev Passes : State → ℕ → Statement → List ℕ → Type 0
+  Passes s line own text =
+      (used : List ImportCourse) × (next : State) × IsPassed files rules s line own used text next × (losses_of used ≡ 0)
+
+  searches-found : (s : State) → IsReached s → (searches : List PlacedSearch) (boxes : List BoxTally) → (n : ℕ) × (text : List ℕ) × (after : List BoxTally) × AreSearched rules s searches boxes n text after
+  searches-found s h [] boxes = (0, [], boxes, (refl, refl, refl))
+  searches-found s h (p ∷ ps) boxes =
+      let first = search-found p.line (view_at s (last_of s)) (trees-at s h) p.query p.filter boxes in
+      let rest = searches-found s h ps first.1 in
+      (max (last_of s) rest.0, first.0 ++ rest.1, rest.2, (last_of s, first.0, first.1, rest.0, rest.1, last_named rules s h.floor, first.2, rest.3, refl, refl))
+
+  import-passes : (s : State) (line : ℕ) (path : List ℕ) (text : List ℕ) → text ≡ waiting_text s ++ import_text line path → Passes s line (statement.Import path) text
+  import-passes s line path text of =
+      let found = import-found files path (counts_of (trees_in (games_in s.log))) in
+      (nothing_lost ∷ [], after_import rules s line found.0, (nothing_lost, found.0, refl, found.1, of, refl), refl)
+
+  -- a statement that is answered from the games of a version passes by the last one
+  answered-passes : (s : State) (line : ℕ) (own : Statement) → IsReached s → IsAnswered own →
+      (text : List ℕ) × (next : State) × ((n : ℕ) × (after : List BoxTally) × IsNamed rules s n × IsAnswer line (view_at s n) s.boxes own text after × ◌≡◌ {A = List ImportCourse} [] [] × (next ≡ with_boxes (with_floor s n) after))
+  answered-passes s line own h answered =
+      let found = answer-found line (view_at s (last_of s)) (trees-at s h) s.boxes own answered in
+      (found.0, with_boxes (with_floor s (last_of s)) found.1, (last_of s, found.1, last_named rules s h.floor, found.2, refl, refl))
+
+  pub statement-passes : (s : State) (line : ℕ) (own : Statement) → IsReached s → (text : List ℕ) × Passes s line own text
+  statement-passes s line (statement.Import path) h =
+      (waiting_text s ++ import_text line path, import-passes s line path (waiting_text s ++ import_text line path) refl)
+  statement-passes s line statement.Wait h =
+      (waiting_text s ++ wait_text line (last_of s), ([], with_floor (report_printed s) (last_of s), (refl, refl, refl), refl))
+  statement-passes s line (statement.Until number) h =
+      (until_text line number (last_of s), ([], with_floor s (last_of s), (last_of s, record { named = last_named rules s h.floor; reached = inr refl }, refl, refl, refl), refl))
+  statement-passes s line (statement.Together searches) h =
+      let found = searches-found s h searches s.boxes in (found.1, ([], with_boxes (with_floor s found.0) found.2, (found.0, found.2, found.3, refl, refl), refl))
+  statement-passes s line (statement.Search query filter) h = let found = answered-passes s line (statement.Search query filter) h tt in (found.0, ([], found.1, found.2, refl))
+  statement-passes s line (statement.Kept query) h = let found = answered-passes s line (statement.Kept query) h tt in (found.0, ([], found.1, found.2, refl))
+  statement-passes s line (statement.Signature pattern) h = let found = answered-passes s line (statement.Signature pattern) h tt in (found.0, ([], found.1, found.2, refl))
+  statement-passes s line statement.Players h = let found = answered-passes s line statement.Players h tt in (found.0, ([], found.1, found.2, refl))
+  statement-passes s line statement.Doubles h = let found = answered-passes s line statement.Doubles h tt in (found.0, ([], found.1, found.2, refl))
+  statement-passes s line (statement.Game number) h = let found = answered-passes s line (statement.Game number) h tt in (found.0, ([], found.1, found.2, refl))
+  statement-passes s line statement.Report h = (boxes_text line s.boxes, ([], s, (refl, refl, refl), refl))
+  statement-passes s line (statement.Retire name) h =
+      let found = retired-found line name s.boxes in (found.0, ([], with_boxes s found.1, (found.1, found.2, refl, refl), refl))
+
+  -- a statement whose text is begun passes with that text
+  text-passes : (s : State) (line : ℕ) (own : Statement) (text : List ℕ) → IsStatementText files rules s line own text → Passes s line own text
+  text-passes s line (statement.Import path) text of = import-passes s line path text of
+  text-passes s line statement.Wait text (used, next, is) = (used, next, is, rw is.0 refl)
+  text-passes s line (statement.Until number) text (used, next, is) = (used, next, is, rw is.2 refl)
+  text-passes s line (statement.Together searches) text (used, next, is) = (used, next, is, rw is.3 refl)
+  text-passes s line (statement.Search query filter) text (used, next, is) = (used, next, is, rw is.4 refl)
+  text-passes s line (statement.Kept query) text (used, next, is) = (used, next, is, rw is.4 refl)
+  text-passes s line (statement.Signature pattern) text (used, next, is) = (used, next, is, rw is.4 refl)
+  text-passes s line statement.Players text (used, next, is) = (used, next, is, rw is.4 refl)
+  text-passes s line statement.Doubles text (used, next, is) = (used, next, is, rw is.4 refl)
+  text-passes s line (statement.Game number) text (used, next, is) = (used, next, is, rw is.4 refl)
+  text-passes s line statement.Report text (used, next, is) = (used, next, is, rw is.1 refl)
+  text-passes s line (statement.Retire name) text (used, next, is) = (used, next, is, rw is.2 refl)
+
+  -- ---- the rest of a script
+
+  -- where the boxes tell this at the start
+  module _ (start : List BoxTally) where
+    -- a lawful output that begins with this text, by a course that loses no more
+    pub record IsCompleted (course : List ImportCourse) (placed : List Placed) (text : List ℕ) : Type 0 where
+      pub whole_course : List ImportCourse
+      pub whole : List ℕ
+      pub lawful : IsLawful files rules start whole_course placed whole
+      pub prefix : IsPrefix text whole
+      pub losses : losses_of whole_course ≡ losses_of course
+
+    -- a course by which nothing more was lost
+    earlier : (course more : List ImportCourse) (placed : List Placed) (text : List ℕ) → losses_of more ≡ 0 → IsCompleted (course ++ more) placed text → IsCompleted course placed text
+    earlier course more placed text none h = record {
+      whole_course = h.whole_course;
+      whole = h.whole;
+      lawful = h.lawful;
+      prefix = h.prefix;
+      losses = omega (arith, h.losses, losses_of-append course more, none);
+    }
+
+    -- a prefix of such a text
+    cut : (course : List ImportCourse) (placed : List Placed) (text whole : List ℕ) → IsPrefix text whole → IsCompleted course placed whole → IsCompleted course placed text
+    cut course placed text whole prefix h = record {
+      whole_course = h.whole_course;
+      whole = h.whole;
+      lawful = h.lawful;
+      prefix = prefix_trans text whole h.whole prefix h.prefix;
+      losses = h.losses;
+    }
+
+    -- the closing report is written
+    closed : (course : List ImportCourse) (placed : List Placed) (s : State) (text : List ℕ) → HasPrinted files rules start course placed s text → IsCompleted course placed (text ++ waiting_text s)
+    closed course placed s text printed = record {
+      whole_course = course;
+      whole = text ++ waiting_text s;
+      lawful = (s, text, printed, refl);
+      prefix = prefix_same (text ++ waiting_text s);
+      losses = refl;
+    }
+
+    -- a statement is passed with this text, and then the rest
+    one-passed : (p : Placed) (left : List Placed) (course used : List ImportCourse) (placed : List Placed) (text : List ℕ) → losses_of used ≡ 0 → IsCompleted (course ++ used) ((placed ++ p ∷ []) ++ left) text → IsCompleted course (placed ++ p ∷ left) text
+    one-passed p left course used placed text none h =
+        earlier course used (placed ++ p ∷ left) text none
+        (subst (λ ps. IsCompleted (course ++ used) ps text) (append_assoc placed (p ∷ []) left) h)
+
+    -- the statements that are left are passed, and the closing report is written
+    completed : (left : List Placed) (course : List ImportCourse) (placed : List Placed) (s : State) (text : List ℕ) → IsReached s → HasPrinted files rules start course placed s text → IsCompleted course (placed ++ left) text
+    completed [] course placed s text h printed =
+        subst (λ ps. IsCompleted course ps text) (sym (append-nil placed))
+        (cut course placed text (text ++ waiting_text s) (waiting_text s, refl) (closed course placed s text printed))
+    completed (p ∷ left) course placed s text h printed =
+        let (more, passes) = statement-passes s p.line p.statement h in
+        let (used, next, is, none) = passes in
+        cut course (placed ++ p ∷ left) text (text ++ more) (more, refl)
+        (one-passed p left course used placed (text ++ more) none
+        (completed left (course ++ used) (placed ++ p ∷ []) next (text ++ more)
+        (passed-on s next p.line p.statement used more h is)
+        (HasPrinted.one_more used p next more printed is)))
+
+    -- statements have a lawful output by which nothing is lost
+    whole-output : (placed : List Placed) → IsCompleted [] placed []
+    whole-output placed = completed placed [] [] (at_start start) [] (reached start [] [] (at_start start) [] HasPrinted.nothing) HasPrinted.nothing
+
+    -- what is written next is a prefix
+    begun-next : (left : List Placed) (course : List ImportCourse) (placed : List Placed) (s : State) (text more : List ℕ) → HasPrinted files rules start course placed s text → IsNextPrefix files rules s left more → IsCompleted course (placed ++ left) (text ++ more)
+    begun-next [] course placed s text more printed prefix =
+        subst (λ ps. IsCompleted course ps (text ++ more)) (sym (append-nil placed))
+        (cut course placed (text ++ more) (text ++ waiting_text s) (prefix_behind text more (waiting_text s) prefix) (closed course placed s text printed))
+    begun-next (p ∷ left) course placed s text more printed (inl none) =
+        subst (IsCompleted course (placed ++ p ∷ left)) (sym (ap (λ t. text ++ t) none ∙ append-nil text))
+        (completed (p ∷ left) course placed s text (reached start course placed s text printed) printed)
+    begun-next (p ∷ left) course placed s text more printed (inr (whole, of, prefix)) =
+        let (used, next, is, none) = text-passes s p.line p.statement whole of in
+        cut course (placed ++ p ∷ left) (text ++ more) (text ++ whole) (prefix_behind text more whole prefix)
+        (one-passed p left course used placed (text ++ whole) none
+        (completed left (course ++ used) (placed ++ p ∷ []) next (text ++ whole)
+        (passed-on s next p.line p.statement used whole (reached start course placed s text printed) is)
+        (HasPrinted.one_more used p next whole printed is)))
+
+    -- a begun text is a prefix of a lawful output
+    pub begun-completed : (course : List ImportCourse) (placed : List Placed) (out : List ℕ) → IsBegun files rules start course placed out → IsCompleted course placed out
+    begun-completed course placed out b =
+        subst (λ ps. IsCompleted course ps out) (sym b.split)
+        (subst (IsCompleted course (b.passed ++ b.left)) (sym b.out_is)
+        (begun-next b.left course b.passed b.state b.text b.more b.printed b.prefix))
+
+pub output-found : (files : List File) (rules : Rules) (boxes : List BoxTally) (placed : List Placed) → (course : List ImportCourse) × (out : List ℕ) × IsLawful files rules boxes course placed out × (losses_of course ≡ 0)
+output-found files rules boxes placed =
+    let h = whole-output files rules boxes placed in (h.whole_course, h.whole, h.lawful, h.losses)

@@ -1,0 +1,35 @@
+// Laws of the words for outputs, for who reads a contract over them. Each stands as a
+// contract of a function that does nothing.
+ghost use mathlib.Core.List.{IsPrefix};
+ghost use Rattle.std.specs.Prelude.{◌≡◌, IsTrue, List, ℕ};
+ghost use Rattle.kb_edges.specs.Files.{File};
+ghost use Rattle.hit_collectors.specs.Tallies.{BoxTally};
+ghost use Rattle.query_script.specs.declared.statement.Placed.{Placed};
+ghost use Rattle.import_work.specs.Course.{ImportCourse, losses_of};
+ghost use Rattle.serial_run.specs.Lawful.{IsBegun, IsLawful, Rules};
+
+/// Statements have a lawful output by which nothing is lost.
+pub fn each_script_has_a_lawful_output()
+    ensures { (files : List File) (rules : Rules) (boxes : List BoxTally) (placed : List Placed) →
+        (course : List ImportCourse) × (out : List ℕ) ×
+        IsLawful files rules boxes course placed out × (losses_of course ≡ 0) }
+{}
+
+/// Where each statement is done before the next begins, statements by which nothing is lost have one
+/// lawful output only.
+pub fn a_serial_run_without_a_loss_has_one_output()
+    ensures { (files : List File) (rules : Rules) (boxes : List BoxTally) (placed : List Placed)
+        (course other : List ImportCourse) (a b : List ℕ) → IsTrue rules.serial →
+        IsLawful files rules boxes course placed a → losses_of course ≡ 0 →
+        IsLawful files rules boxes other placed b → losses_of other ≡ 0 → a ≡ b }
+{}
+
+/// Each begun text is a prefix of a lawful output of the same statements, with the same losses.
+pub fn a_begun_text_is_a_prefix_of_a_lawful_output()
+    ensures { (files : List File) (rules : Rules) (boxes : List BoxTally) (placed : List Placed)
+        (course : List ImportCourse) (text : List ℕ) →
+        IsBegun files rules boxes course placed text →
+        (whole_course : List ImportCourse) × (whole : List ℕ) ×
+        IsLawful files rules boxes whole_course placed whole × IsPrefix text whole ×
+        (losses_of whole_course ≡ losses_of course) }
+{}

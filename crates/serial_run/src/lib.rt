@@ -1,0 +1,37 @@
+//! A run of a script, one statement after another: a script, a folder of games and a sink become a
+//! status and the printed answers.
+//!
+//! Stands on session_core, hit_collectors, import_segments, import_work, search_engine, query_script,
+//! segment_store, version_publisher, node_position, sgf_reader, kb_edges, kb_geometry and the library
+//! bstr. In `specs/` are the script that is too long, the printed report of an import, and the lawful
+//! outputs; what becomes of the files of an import, and the course of imports, are words of
+//! import_work. The layer above uses that [`run_serial`] writes a lawful output where it is done and a
+//! prefix of one where it stops, and that [`Standing`] tells the text of each statement.
+#![tactic(auto)]
+
+mod counts;
+mod laws;
+mod print;
+mod read;
+mod script;
+mod serial;
+mod standing;
+mod statements;
+mod status;
+mod version_text;
+mod write;
+
+pub use laws::{
+    a_begun_text_is_a_prefix_of_a_lawful_output, a_serial_run_without_a_loss_has_one_output,
+    each_script_has_a_lawful_output,
+};
+pub use script::{NoStatements, read_statements};
+pub use serial::run_serial;
+pub use standing::Standing;
+pub use statements::{Stopped, run_statements};
+pub use status::Status;
+pub use version_text::version_text;
+pub use write::write_all;
+
+#[cfg(test)]
+mod tests;

@@ -1,0 +1,125 @@
+// Running the statements of a script, one after another.
+ghost use Rattle.std.specs.Prelude.{◌≡◌, ◌≤◌, ◌+◌, IfOk, IsErrOf, OnErr, OnOk, length, map};
+ghost use Rattle.kb_edges.specs.Faults.{Rose};
+ghost use Rattle.kb_edges.specs.Told.{IfTold};
+ghost use Rattle.serial_run.specs.Run.{WritesLawful, WritesPrefix, serial_rules};
+ghost use Rattle.serial_run.specs.Steps.{PassesStatement, StopsInStatement};
+
+use crate::standing::Standing;
+use crate::write::write_all;
+use hit_collectors::Collector;
+use kb_edges::{Folder, Sink, SinkError};
+use kb_geometry::NoMemory;
+use query_script::{MAX_SCRIPT, Placed};
+use session_core::Session;
+use std::alloc::Global;
+use std::thread::Threads;
+
+/// Why a run stopped amid its statements.
+#[derive(Clone, Copy, Debug, PartialEq, Eq)]
+pub enum Stopped {
+    /// A write failed.
+    SinkFault,
+    /// Want of memory.
+    NoMemory,
+}
+
+impl From<NoMemory> for Stopped {
+    ghost use Rattle.serial_run.specs.declared.statements.Stopped.TheVariants.{NoMemory};
+
+    ghost from_gives = { λ _ e. e ≡ NoMemory };
+
+    fn from(_: NoMemory) -> Self {
+        Stopped::NoMemory
+    }
+}
+
+impl From<SinkError> for Stopped {
+    ghost use Rattle.serial_run.specs.RunErrors.{stopped_of};
+
+    ghost from_gives = { λ e s. s ≡ stopped_of e };
+
+    fn from(error: SinkError) -> Self {
+        match error {
+            SinkError::Failed => Stopped::SinkFault,
+            SinkError::NoMemory => Stopped::NoMemory,
+        }
+    }
+}
+
+/// Runs statements in order, with imports by batches of so many files, and writes the text of each. The
+/// boxes tally the hits of the searches.
+pub fn run_statements<R: Threads + Sync, F: Folder, K: Sink, C: Collector>(
+    rt: &R,
+    alloc: Global,
+    batch: u32,
+    boards: Vec<C>,
+    placed: &[Placed],
+    folder: &mut F,
+    out: &mut K,
+) -> Result<(), Stopped>
+    requires some { 1 ≤ batch }
+    requires few { length placed.now ≤ 1048576 }
+    ensures lawful { IfTold (F.files folder.old)
+        (λ files. IfTold (K.written out.old) (λ before. OnOk result
+        (WritesLawful (serial_rules batch) files (map (λ board. C.tally board) boards.items)
+        placed.now before (K.written out.new) (F.faults folder.old) (F.faults folder.new)))) }
+    ensures prefix { IfTold (F.files folder.old)
+        (λ files. IfTold (K.written out.old) (λ before. OnErr result
+        (WritesPrefix (serial_rules batch) files (map (λ board. C.tally board) boards.items)
+        placed.now before (K.written out.new) (F.faults folder.old) (F.faults folder.new)))) }
+    ensures sink_fault { IsErrOf result Stopped.SinkFault →
+        Rose (K.faults out.old) (K.faults out.new) }
+    ensures same { F.files folder.new ≡ F.files folder.old }
+    ensures later { F.faults folder.old ≤ F.faults folder.new }
+    ensures sink_later { K.faults out.old ≤ K.faults out.new }
+{
+    let mut session = Session::new(boards);
+    let mut standing = Standing::new(alloc);
+    for statement in placed {
+        standing = run_statement(
+            rt,
+            alloc,
+            batch,
+            &mut session,
+            standing,
+            statement,
+            folder,
+            out,
+        )?;
+    }
+    write_all(out, standing.report())?;
+    Ok(())
+}
+
+// Writes the text of a statement. Hands back the state after it.
+fn run_statement<R: Threads + Sync, F: Folder, K: Sink, C: Collector>(
+    rt: &R,
+    alloc: Global,
+    batch: u32,
+    session: &mut Session<C>,
+    standing: Standing,
+    placed: &Placed,
+    folder: &mut F,
+    out: &mut K,
+) -> Result<Standing, Stopped>
+    requires some { 1 ≤ batch }
+    requires number { standing.version ≤ 9000000000000000000 }
+    ensures passed { IfTold (F.files folder.old)
+        (λ files. IfTold (K.written out.old) (λ before. IfOk result (λ next.
+        PassesStatement files (serial_rules batch) standing session.old placed.now next
+        session.new before (K.written out.new) (F.faults folder.old) (F.faults folder.new)))) }
+    ensures stopped { IfTold (K.written out.old)
+        (λ before. OnErr result (StopsInStatement (serial_rules batch) standing session.old
+        placed.now before (K.written out.new))) }
+    ensures sink_fault { IsErrOf result Stopped.SinkFault →
+        Rose (K.faults out.old) (K.faults out.new) }
+    ensures version { IfOk result (λ next. next.version ≤ standing.version + 100000) }
+    ensures same { F.files folder.new ≡ F.files folder.old }
+    ensures later { F.faults folder.old ≤ F.faults folder.new }
+    ensures sink_later { K.faults out.old ≤ K.faults out.new }
+{
+    let text = standing.text_of(rt, alloc, session, placed)?;
+    write_all(out, &text)?;
+    Ok(standing.pass(rt, alloc, folder, batch, placed)?)
+}
