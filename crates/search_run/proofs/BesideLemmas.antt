@@ -1,8 +1,9 @@
 -- What statements print beside an import that is under way, whatever it finds.
-use Rattle.std.proofs.Common.{◌≡◌, ◌⊎◌, inl, inr, ℕ, ◌≤◌, List, [], ◌∷◌, ◌++◌, Option, Some, None, length, take, refl, sym, ap, ◌∙◌, subst, append_assoc, length-append, arith}
-use Rattle.std.specs.Prelude.{IsTrue}
+use Rattle.std.proofs.Common.{◌≡◌, ◌⊎◌, inl, inr, ℕ, ◌≤◌, List, [], ◌∷◌, ◌++◌, Option, Some, None, length, map, take, refl, sym, ap, ◌∙◌, subst, append_assoc, length-append, arith}
+use Rattle.std.specs.Prelude.{All, IsTrue, max}
 use Rattle.std.proofs.Math.Nat.{max-le}
-use Rattle.std.proofs.lemmas.List.{append-nil, take-append-le}
+use Rattle.std.proofs.lemmas.List.{append-nil, take-append-le, take_all}
+use Rattle.std.proofs.lemmas.List.Elements.{All-head, All-tail}
 use mathlib.Core.List.{IsPrefix}
 use Rattle.kb_edges.specs.Files.{File}
 use Rattle.query_script.specs.declared.statement.Placed.{Placed}
@@ -13,16 +14,18 @@ use Rattle.query_script.specs.Texts.{import_text}
 use Rattle.hit_collectors.specs.Tallies.{BoxTally}
 use Rattle.node_position.specs.Games.{Game}
 use Rattle.session_core.specs.Answers.{IsAnswer, IsSearched, View}
+use Rattle.session_core.specs.Stores.{view_of as seen_in}
+use Rattle.version_publisher.specs.declared.state.SearcherState.{SearcherState}
 use Rattle.version_publisher.specs.declared.state.VersionState.{VersionState}
 use Rattle.import_work.specs.Course.{ImportCourse}
 use Rattle.import_work.specs.Log.{Segment, games_in, segments_of}
-use Rattle.search_run.specs.Beside.{GoesOnBeside, HasAnswered, HasAnsweredAll, PrintsBeside, Reaches}
+use Rattle.search_run.specs.Beside.{GoesOnBeside, HasAnswered, HasAnsweredAll, PrintsBeside, Reaches, block_at}
 use Rattle.serial_run.specs.Lawful.{AreSearched, HasPrinted, IsNamed, IsPassed, Rules, State, after_import, last_of, one_more, view_at, waiting_text, with_boxes, with_floor}
 use Rattle.search_run.specs.Run.{beside_rules}
-use Rattle.search_run.specs.Seen.{IsVersionOf}
-use Rattle.serial_run.specs.Steps.{IsKept, IsTextByKept, IsTextTo, LeavesBase, import_at, kept_at}
+use Rattle.search_run.specs.Seen.{HaveSeenOf, IsLookedAt, IsVersionOf}
+use Rattle.serial_run.specs.Steps.{AreAnsweredFrom, IsKept, IsTextByKept, IsTextTo, LeavesBase, import_at, kept_at}
 use Rattle.import_segments.proofs.PushedSegments.{items_in-games_in}
-use Rattle.serial_run.proofs.StatementLemmas.{floor-joined}
+use Rattle.serial_run.proofs.StatementLemmas.{AreAnsweredFrom-searched, AreNamed, floor-joined, greatest_of}
 
 -- ---- a state with a longer log
 
@@ -170,6 +173,77 @@ module _ (batch : ℕ) (WasSeen IsSeen : List Segment → Type 0) (floor : ℕ) 
         floor_at_most = omega (arith, on.floor_at_most (omega (arith, r.floor_at_most, floor_seen)), of.number);
         boxes_are = on.boxes_are;
       }
+
+-- ---- a block
+
+-- the version is of a log with which this one begins, and its number is at least the floor
+pub record IsBetween (floor : ℕ) (seen : List Segment) (version : VersionState Game) : Type 0 where
+  pub mine : List Segment
+  pub of : IsVersionOf version mine
+  pub within : IsPrefix mine seen
+  pub from : floor ≤ version.number
+
+-- one that a searcher of a block found is so once the session's has seen as much
+pub looked-between : (own now : List Segment) (block : List (SearcherState Game)) (floor : ℕ) (version : VersionState Game) → floor ≡ length own → IsPrefix own now → HaveSeenOf now block → IsLookedAt own block version → IsBetween floor now version
+looked-between own now block floor version is grows caught h = record {
+  mine = h.seen;
+  of = h.of;
+  within = h.known now grows caught;
+  from = omega (arith, is, h.of.number, ap length h.later.1, length-append own h.later.0);
+}
+
+module _ (rules : Rules) (beside : ¬ IsTrue rules.serial) (s : State) (seen : List Segment) (longer : IsPrefix seen s.log) (floor : ℕ) (low : s.floor ≤ floor) where
+  number-within : (v : VersionState Game) → IsBetween floor seen v → v.number ≤ length seen
+  number-within v h = omega (arith, h.of.number, ap length h.within.1, length-append h.mine h.within.0)
+
+  view-is : (v : VersionState Game) → IsBetween floor seen v → view_at s v.number ≡ seen_in v
+  view-is v h =
+      let le : v.number ≤ length h.mine = omega (arith, h.of.number) in
+      let cut : take v.number s.log ≡ h.mine =
+      ap (take v.number) (sym longer.1) ∙ take-append-le v.number seen longer.0 (number-within v h)
+      ∙ ap (take v.number) (sym h.within.1) ∙ take-append-le v.number h.mine h.within.0 le
+      ∙ take_all v.number h.mine (omega (arith, h.of.number)) in
+      ap (λ (games : List Game). record { version = v.number; games = games }) (ap games_in cut ∙ sym (items_in-games_in h.mine) ∙ sym h.of.games)
+
+  -- each of these may be named
+  all-named : (versions : List (VersionState Game)) → All (IsBetween floor seen) versions → AreNamed rules s (map seen_in versions)
+  all-named [] all = tt
+  all-named (v ∷ vs) all =
+      let h = All-head (IsBetween floor seen) v vs all in (
+        record { from = omega (arith, low, h.from); to = omega (arith, number-within v h, ap length longer.1, length-append seen longer.0); serial = λ one. absurd (beside one) },
+        view-is v h,
+        all-named vs (All-tail (IsBetween floor seen) v vs all),
+      )
+
+  greatest-within : (versions : List (VersionState Game)) → All (IsBetween floor seen) versions → greatest_of (map seen_in versions) ≤ length seen
+  greatest-within [] all = omega arith
+  greatest-within (v ∷ vs) all = max-le (number-within v (All-head (IsBetween floor seen) v vs all)) (greatest-within vs (All-tail (IsBetween floor seen) v vs all))
+
+-- a block is answered, each search from a version of its own
+module _ (batch : ℕ) (WasSeen IsSeen : List Segment → Type 0) (floor : ℕ) (boxes told : List BoxTally) (line : ℕ) (searches : List PlacedSearch) (text : List ℕ) (version : VersionState Game) (seen : List Segment) where
+  pub block-goes-on : ((log : List Segment) → IsSeen log → WasSeen log) → ((log : List Segment) → IsSeen log → IsPrefix seen log) → IsVersionOf version seen → floor ≤ length seen → (versions : List (VersionState Game)) → All (IsBetween floor seen) versions → AreAnsweredFrom (map seen_in versions) searches boxes text told →
+      GoesOnBeside (beside_rules batch) WasSeen floor boxes (block_at line searches ∷ []) text IsSeen version.number told
+  block-goes-on weaker seen_prefix of floor_seen versions all answers = λ files start began at path course placed printed h. λ entry finding imported is_seen.
+      let log : List Segment = began.log ++ segments_of batch finding in
+      let r = h entry finding imported (weaker log is_seen) in
+      let s = r.state in
+      let longer = subst (IsPrefix seen) (sym r.log_is) (seen_prefix log is_seen) in
+      let views = map seen_in versions in
+      let named = all-named (beside_rules batch) (λ same. absurd (cc same)) s seen longer floor r.floor_at_most versions all in
+      let greatest = greatest-within (beside_rules batch) (λ same. absurd (cc same)) s seen longer floor r.floor_at_most versions all in
+      let searched = AreAnsweredFrom-searched (beside_rules batch) s views searches s.boxes told text named (subst (λ from. AreAnsweredFrom views searches from text told) (sym r.boxes_are) answers) in
+      let next = with_boxes (with_floor s (greatest_of views)) told in
+      let at_most : max s.floor (greatest_of views) ≤ length seen = max-le (omega (arith, r.floor_at_most, floor_seen)) greatest in record {
+        state = next;
+        printed = subst (λ c. HasPrinted files (beside_rules batch) start c (placed ++ block_at line searches ∷ []) next (printed ++ text)) (append-nil (course ++ entry ∷ []))
+            (one_more [] (block_at line searches) next text r.printed (greatest_of views, told, searched, refl, refl));
+        log_is = r.log_is;
+        waiting_is = r.waiting_is;
+        floor_at_most = omega (arith, at_most, of.number);
+        boxes_are = refl;
+      }
+
+-- ---- one statement behind another
 
 -- what is printed by these statements and this text, in other words for them
 printed-as : (files : List File) (rules : Rules) (start : List BoxTally) (began : State) (line : ℕ) (path : List ℕ) (course : List ImportCourse) (IsSeen : List Segment → Type 0) (floor : ℕ) (boxes : List BoxTally) (placed other : List Placed) (text more : List ℕ) → placed ≡ other → text ≡ more → PrintsBeside files rules start began line path course IsSeen floor boxes placed text → PrintsBeside files rules start began line path course IsSeen floor boxes other more

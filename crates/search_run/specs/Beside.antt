@@ -8,6 +8,7 @@ use Rattle.kb_edges.specs.Told.{IfTold}
 use Rattle.kb_geometry.specs.declared.memory.NoMemory.{NoMemory}
 use Rattle.hit_collectors.specs.Tallies.{BoxTally}
 use Rattle.query_script.specs.declared.statement.Placed.{Placed}
+use Rattle.query_script.specs.declared.statement.PlacedSearch.{PlacedSearch}
 use Rattle.query_script.specs.declared.statement.Statement.{Statement}
 use Rattle.query_script.specs.declared.statement.Statement.TheVariants as statement
 use Rattle.node_position.specs.Games.{Game}
@@ -160,6 +161,10 @@ pub record IsJoined (log : List Segment) (report : Result Report NoMemory) (kept
   pub waiting : kept.waiting ≡ Some (told_text told.line told.body told.version)
 
 -- ---- statements that are answered beside an import
+
+-- a block of these searches at this line
+abbrev pub block_at : ℕ → List PlacedSearch → Placed
+block_at line searches = record { line = line; statement = statement.Together searches }
 
 -- a statement that awaits a version is answered from one that is at least as late
 abbrev pub Reaches : Statement → ℕ → Type 0

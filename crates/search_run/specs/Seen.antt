@@ -27,6 +27,15 @@ pub record HaveSeen (own : SearcherState Game) (block : List (SearcherState Game
   pub own_seen : IsPrefix own.seen log
   pub block_seen : HaveSeenOf log block
 
+-- A version that a searcher of a block found: it is one of a log that begins with what the session's
+-- searcher has seen, and with which each log begins of which these have seen no more.
+pub record IsLookedAt (own : List Segment) (block : List (SearcherState Game))
+    (version : VersionState Game) : Type 0 where
+  pub seen : List Segment
+  pub of : IsVersionOf version seen
+  pub later : IsPrefix own seen
+  pub known : (log : List Segment) → IsPrefix own log → HaveSeenOf log block → IsPrefix seen log
+
 -- The first of these searchers have met a publisher with this log: what each had seen before is a
 -- prefix of it, and now it has seen the whole. The others are as before.
 pub record HaveMet (opening : Opening) (log : List Segment)

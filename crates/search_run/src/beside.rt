@@ -1,21 +1,22 @@
 // Statements that are answered beside an import.
-ghost use Rattle.std.specs.Prelude.{◌≡◌, ◌≤◌, ◌∷◌, [], List, ℕ, IfOk, IfSome, IsErrOf, None, length, take};
+ghost use Rattle.std.specs.Prelude.{◌≡◌, ◌≤◌, ◌∷◌, [], List, ℕ, IfOk, IfSome, IsErrOf, None, length, map, take};
 ghost use mathlib.Core.List.{IsPrefix};
 ghost use Rattle.kb_edges.specs.Faults.{Rose};
 ghost use Rattle.kb_edges.specs.Told.{IfTold};
 ghost use Rattle.import_work.specs.Log.{Segment};
-ghost use Rattle.search_run.specs.Beside.{HasAnswered, HasAnsweredAll, Reaches};
+ghost use Rattle.search_run.specs.Beside.{HasAnswered, HasAnsweredAll, Reaches, block_at};
 ghost use Rattle.search_run.specs.Seen.{HaveSeen, IsVersionOf};
-ghost use Rattle.serial_run.specs.Steps.{LeavesBase};
+ghost use Rattle.session_core.specs.Stores.{view_of};
+ghost use Rattle.serial_run.specs.Steps.{AreAnsweredFrom, LeavesBase};
 
 use crate::searchers::Searchers;
 use hit_collectors::Collector;
 use import_segments::OpenName;
 use kb_edges::Sink;
 use kb_geometry::NoMemory;
-use query_script::{Placed, Statement};
+use query_script::{Placed, PlacedSearch, Statement};
 use segment_store::Segment;
-use serial_run::{Stopped, version_text, write_all};
+use serial_run::{Stopped, block_text, version_text, write_all};
 use session_core::Session;
 use std::alloc::Global;
 use std::sync::Wait;
@@ -57,8 +58,9 @@ pub(crate) fn answer_beside<J: OpenName, R: Threads + Wait + Sync, K: Sink, C: C
     Ok(count)
 }
 
-// Answers a statement beside an import, and hands back the version that is held then. None where the
-// statement waits for the import's end; then nothing is answered.
+// Answers a statement beside an import, and hands back the version that is held then: a block from a
+// version for each search. None where the statement waits for the import's end; then nothing is
+// answered.
 fn answer_one<J: OpenName, R: Threads + Wait + Sync, K: Sink, C: Collector>(
     rt: &R,
     alloc: Global,
@@ -84,12 +86,68 @@ fn answer_one<J: OpenName, R: Threads + Wait + Sync, K: Sink, C: Collector>(
         Rose (K.faults out.old) (K.faults out.new) }
     ensures sink_later { K.faults out.old ≤ K.faults out.new }
 {
+    if let Statement::Together { searches } = &placed.statement {
+        let searches = searches.as_slice();
+        let version = answer_block(rt, alloc, session, searchers, held, searches, out)?;
+        return Ok(Some(version));
+    }
     let Some(version) = version_for(rt, alloc, searchers, held, &placed.statement)? else {
         return Ok(None);
     };
     let text = version_text(rt, alloc, session, placed, &version)?;
     write_all(out, &text)?;
     Ok(Some(version))
+}
+
+// Answers a block beside an import, each search from a version that a searcher of its own finds, and
+// hands back a version that is at least as late as each.
+fn answer_block<J: OpenName, R: Threads + Wait + Sync, K: Sink, C: Collector>(
+    rt: &R,
+    alloc: Global,
+    session: &mut Session<C>,
+    searchers: &mut Searchers<J>,
+    held: Version<Segment>,
+    searches: &[PlacedSearch],
+    out: &mut K,
+) -> Result<Version<Segment>, Stopped>
+    requires held { IsVersionOf held searchers.old.own.seen }
+    ensures answered { IfTold (K.written out.old) (λ before. IfOk result (λ version.
+        (line batch : ℕ) → HasAnswered batch
+        (HaveSeen searchers.old.own searchers.old.block.items) held.number session.old
+        (block_at line searches.now ∷ [])
+        (HaveSeen searchers.new.own searchers.new.block.items) version.number session.new before
+        (K.written out.new))) }
+    ensures version { IfOk result (λ version. IsVersionOf version searchers.new.own.seen) }
+    ensures seen { (log : List Segment) → HaveSeen searchers.new.own searchers.new.block.items log →
+        HaveSeen searchers.old.own searchers.old.block.items log }
+    ensures sink_fault { IsErrOf result Stopped.SinkFault →
+        Rose (K.faults out.old) (K.faults out.new) }
+    ensures sink_later { K.faults out.old ≤ K.faults out.new }
+{
+    let versions = searchers.look_each(alloc, &held, searches.len())?;
+    let version = searchers.catch_up(rt, alloc)?;
+    let text = texts_from(rt, alloc, session, searches, &versions)?;
+    write_all(out, &text)?;
+    Ok(version)
+}
+
+// The texts of the searches of a block, each over the version at its place.
+fn texts_from<R: Threads + Sync, C: Collector>(
+    rt: &R,
+    alloc: Global,
+    session: &mut Session<C>,
+    searches: &[PlacedSearch],
+    versions: &[Version<Segment>],
+) -> Result<Vec<u8>, NoMemory>
+    requires { length versions.now ≡ length searches.now }
+    ensures { IfOk result (λ text. AreAnsweredFrom (map view_of versions.now) searches.now
+        session.old text.items session.new) }
+{
+    let mut each = Vec::new(alloc);
+    for version in versions {
+        each.push(version)?;
+    }
+    block_text(rt, alloc, session, searches, &each)
 }
 
 // The version from which a statement is answered beside an import. None where it waits for the

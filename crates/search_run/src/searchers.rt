@@ -1,11 +1,13 @@
 // The searchers of a base: the session's own, and those of blocks.
-ghost use Rattle.std.specs.Prelude.{◌≡◌, ◌≤◌, [], All, IfOk, IfSome, length};
+ghost use Rattle.std.specs.Prelude.{◌≡◌, ◌≤◌, ◌⊎◌, [], All, IfOk, IfSome, List, length};
+ghost use Rattle.import_work.specs.Log.{Segment};
 ghost use Rattle.version_publisher.specs.Contents.{IsNewSearcher};
 ghost use mathlib.Core.List.{IsPrefix};
 ghost use Rattle.search_run.specs.Seen.{
   AreOfOpening,
   HaveSeen,
   HaveSeenOf,
+  IsLookedAt,
   IsVersionOf,
 };
 
@@ -93,6 +95,37 @@ impl<J: OpenName> Searchers<J> {
         }
     }
 
+    // A version for each of so many searches, which a searcher of its own finds, or the one that is
+    // held where it can't enter.
+    pub fn look_each(
+        &mut self,
+        alloc: Global,
+        held: &Version<Segment>,
+        count: usize,
+    ) -> Result<Vec<Version<Segment>>, NoMemory>
+        requires { IsVersionOf held.now self.old.own.seen }
+        ensures count { IfOk result (λ versions. length versions.items ≡ count) }
+        ensures found { IfOk result (λ versions.
+            All (IsLookedAt self.old.own.seen self.new.block.items) versions.items) }
+        ensures seen { (log : List Segment) → HaveSeenOf log self.new.block.items →
+            HaveSeenOf log self.old.block.items }
+        ensures own { self.new.own ≡ self.old.own }
+    {
+        look_each(alloc, &self.own, &mut self.block, held, count)
+    }
+
+    // The session's searcher learns what those of blocks have seen, and finds a version that holds
+    // it. It may wait.
+    pub fn catch_up<R: Wait>(&mut self, rt: &R, alloc: Global) -> Result<Version<Segment>, NoMemory>
+        ensures version { IfOk result (λ version. IsVersionOf version self.new.own.seen) }
+        ensures caught { IfOk result (λ _. HaveSeenOf self.new.own.seen self.new.block.items) }
+        ensures grows { IsPrefix self.old.own.seen self.new.own.seen }
+        ensures block { self.new.block.items ≡ self.old.block.items }
+    {
+        learn_each(&mut self.own, &self.block);
+        Ok(enter(rt, alloc, &mut self.own)?)
+    }
+
     // All searchers find the whole log of a publisher. It may wait.
     pub fn meet<R: Wait>(&mut self, rt: &R, publisher: &Publisher<Segment>)
         requires { publisher.now.opening ≡ J.opening }
@@ -144,6 +177,86 @@ fn enter<R: Wait>(
         }
     }
     unreachable!()
+}
+
+// A version for each of so many searches, which the searcher at its place finds, or the one that is
+// held.
+fn look_each(
+    alloc: Global,
+    own: &Searcher<Segment>,
+    block: &mut [Searcher<Segment>],
+    held: &Version<Segment>,
+    count: usize,
+) -> Result<Vec<Version<Segment>>, NoMemory>
+    requires opened { AreOfOpening own.now.opening block.old }
+    requires held { IsVersionOf held.now own.now.seen }
+    ensures count { IfOk result (λ versions. length versions.items ≡ count) }
+    ensures found { IfOk result (λ versions.
+        All (IsLookedAt own.now.seen block.new) versions.items) }
+    ensures seen { (log : List Segment) → HaveSeenOf log block.new → HaveSeenOf log block.old }
+    ensures same { AreOfOpening own.now.opening block.new }
+{
+    let mut versions = Vec::new(alloc);
+    for place in 0..count {
+        let version = look_at(alloc, own, block, place, held)?;
+        versions.push(version)?;
+    }
+    Ok(versions)
+}
+
+// The version that the searcher at a place finds, or the one that is held where there is none.
+fn look_at(
+    alloc: Global,
+    own: &Searcher<Segment>,
+    block: &mut [Searcher<Segment>],
+    place: usize,
+    held: &Version<Segment>,
+) -> Result<Version<Segment>, NoMemory>
+    requires opened { AreOfOpening own.now.opening block.old }
+    requires held { IsVersionOf held.now own.now.seen }
+    ensures version { IfOk result (IsLookedAt own.now.seen block.new) }
+    ensures seen { (log : List Segment) → HaveSeenOf log block.new → HaveSeenOf log block.old }
+    ensures same { AreOfOpening own.now.opening block.new }
+{
+    if place >= block.len() {
+        return held.copy(alloc);
+    }
+    look_later(alloc, own, &mut block[place], held)
+}
+
+// The version that a searcher of a block finds, which holds what the session's has seen, or the one
+// that is held where it can't enter.
+fn look_later(
+    alloc: Global,
+    own: &Searcher<Segment>,
+    searcher: &mut Searcher<Segment>,
+    held: &Version<Segment>,
+) -> Result<Version<Segment>, NoMemory>
+    requires opening { own.now.opening ≡ searcher.old.opening }
+    requires held { IsVersionOf held.now own.now.seen }
+    ensures version { IfOk result (λ version. IsVersionOf version own.now.seen
+        ⊎ (IsVersionOf version searcher.new.seen × IsPrefix own.now.seen searcher.new.seen)) }
+    ensures grows { IsPrefix searcher.old.seen searcher.new.seen }
+    ensures same { searcher.new.opening ≡ searcher.old.opening }
+{
+    searcher.learn(own.seen());
+    match searcher.look(alloc) {
+        Ok(version) => Ok(version),
+        Err(LookError::NotEntered) => held.copy(alloc),
+        Err(LookError::NoMemory) => Err(NoMemory),
+    }
+}
+
+// A searcher learns what each of these has seen.
+fn learn_each(own: &mut Searcher<Segment>, block: &[Searcher<Segment>])
+    requires { AreOfOpening own.old.opening block.now }
+    ensures learned { HaveSeenOf own.new.learned block.now }
+    ensures seen { own.new.seen ≡ own.old.seen }
+    ensures opening { own.new.opening ≡ own.old.opening }
+{
+    for searcher in block {
+        own.learn(searcher.seen());
+    }
 }
 
 // Each of these searchers finds the whole log of a publisher. It may wait.

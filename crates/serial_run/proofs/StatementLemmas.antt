@@ -1,5 +1,5 @@
 -- What statements print and where they lead, by what is kept of a state.
-use Rattle.std.proofs.Common.{◌≡◌, ◌≢◌, inr, ℕ, ◌+◌, ◌≤◌, List, [], ◌∷◌, ◌++◌, Option, Some, None, length, refl, sym, ap, ◌∙◌, subst, append_assoc, length-append, arith}
+use Rattle.std.proofs.Common.{◌≡◌, ◌≢◌, inr, ℕ, ◌+◌, ◌≤◌, List, [], ◌∷◌, ◌++◌, Option, Some, None, length, map, replicate, refl, sym, ap, ◌∙◌, subst, append_assoc, length-append, arith}
 use Rattle.std.specs.Prelude.{max}
 use Rattle.std.specs.Option.{option_map_or}
 use Rattle.std.proofs.Math.Nat.{max-le}
@@ -18,7 +18,7 @@ use Rattle.import_work.specs.Course.{Finding, ImportCourse, IsImported, losses_o
 use Rattle.serial_run.specs.Lawful.{AreSearched, IsNamed, IsPassed, IsStatementText, Rules, State, after_import, report_printed, last_of, view_at, waiting_text, with_boxes, with_floor}
 use Rattle.import_work.specs.Log.{games_in, segments_of}
 use Rattle.import_work.specs.Outcome.{counts_of}
-use Rattle.serial_run.specs.Steps.{AreAnswered, IsKept, IsNoImport, IsTextTo, Kept, LeadsOn, LeavesBase, kept_report, view_of}
+use Rattle.serial_run.specs.Steps.{AreAnswered, AreAnsweredFrom, IsKept, IsNoImport, IsTextTo, Kept, LeadsOn, LeavesBase, kept_report, view_of}
 use Rattle.serial_run.specs.Texts.{report_text}
 use Rattle.import_work.proofs.FileLemmas.{rose_by_none}
 
@@ -31,24 +31,55 @@ view_kept s kept boxes is =
     ap (λ (gs : List Game). record { version = last_of s; games = gs }) (ap games_in (take_all (last_of s) s.log (omega arith)) ∙ sym is.games)
     ∙ ap (λ (n : ℕ). record { version = n; games = kept.games }) (sym is.version)
 
--- the searches of a block, and one search more, each over the last version
-pub AreAnswered-more : (view : View) (searches : List PlacedSearch) (p : PlacedSearch) (boxes between after : List BoxTally) (text more : List ℕ) → AreAnswered view searches boxes text between
-    → IsSearched p.line view p.query p.filter between more after → AreAnswered view (searches ++ p ∷ []) boxes (text ++ more) after
-AreAnswered-more view [] p boxes between after text more none is =
-    (more, after, [], subst (λ told. IsSearched p.line view p.query p.filter told more after) none.1 is, (refl, refl), ap (λ t. t ++ more) none.0 ∙ sym (append-nil more))
-AreAnswered-more view (q ∷ searches) p boxes between after text more h is =
-    (h.0, h.1, h.2 ++ more, h.3, AreAnswered-more view searches p h.1 between after h.2 more h.4 is, ap (λ t. t ++ more) h.5 ∙ append_assoc h.0 h.2 more)
+-- ---- the searches of a block
 
--- are those of the block
-AreAnswered-searched : (rules : Rules) (s : State) (seen : View) → s.floor ≤ last_of s → view_at s (last_of s) ≡ seen → (searches : List PlacedSearch) (boxes after : List BoxTally) (text : List ℕ) → AreAnswered seen searches boxes text after
-    → (greatest : ℕ) × (greatest ≤ last_of s) × AreSearched rules s searches boxes greatest text after
-AreAnswered-searched rules s seen floor view [] boxes after text none = (0, omega arith, (refl, none.0, none.1))
-AreAnswered-searched rules s seen floor view (p ∷ ps) boxes after text h =
-    let rest = AreAnswered-searched rules s seen floor view ps h.1 after h.2 h.4 in (
-      max (last_of s) rest.0,
-      max-le (omega arith) rest.1,
-      (last_of s, h.0, h.1, rest.0, h.2, last_named rules s floor, rw view h.3, rest.2, refl, h.5),
-    )
+-- one search more
+pub AreAnsweredFrom-more : (views : List View) (view : View) (searches : List PlacedSearch) (p : PlacedSearch) (boxes between after : List BoxTally) (text more : List ℕ) → AreAnsweredFrom views searches boxes text between
+    → IsSearched p.line view p.query p.filter between more after → AreAnsweredFrom (views ++ view ∷ []) (searches ++ p ∷ []) boxes (text ++ more) after
+AreAnsweredFrom-more [] view [] p boxes between after text more none is =
+    (more, after, [], subst (λ told. IsSearched p.line view p.query p.filter told more after) none.1 is, (refl, refl), ap (λ t. t ++ more) none.0 ∙ sym (append-nil more))
+AreAnsweredFrom-more [] view (q ∷ searches) p boxes between after text more h is = absurd h
+AreAnsweredFrom-more (v ∷ views) view [] p boxes between after text more h is = absurd h
+AreAnsweredFrom-more (v ∷ views) view (q ∷ searches) p boxes between after text more h is =
+    (h.0, h.1, h.2 ++ more, h.3, AreAnsweredFrom-more views view searches p h.1 between after h.2 more h.4 is, ap (λ t. t ++ more) h.5 ∙ append_assoc h.0 h.2 more)
+
+-- what is seen at as many places of one list is seen at each of another
+pub seen-alike : {A : Type 0} (view : View) (f : A → View) (x : A) → f x ≡ view → (searches : List PlacedSearch) → map f (replicate (length searches) x) ≡ map (λ (p : PlacedSearch). view) searches
+seen-alike view f x is [] = refl
+seen-alike view f x is (p ∷ ps) = ap (λ (v : View). v ∷ map f (replicate (length ps) x)) is ∙ ap (λ (vs : List View). view ∷ vs) (seen-alike view f x is ps)
+
+-- each of these is what is seen in a version that may be named
+abbrev pub AreNamed : Rules → State → List View → Type 0
+AreNamed rules s [] = Unit {0}
+AreNamed rules s (view ∷ views) = IsNamed rules s view.version × (view_at s view.version ≡ view) × AreNamed rules s views
+
+-- the greatest of their numbers
+abbrev pub greatest_of : List View → ℕ
+greatest_of [] = 0
+greatest_of (view ∷ views) = max view.version (greatest_of views)
+
+-- searches over these are those of a block
+pub AreAnsweredFrom-searched : (rules : Rules) (s : State) (views : List View) (searches : List PlacedSearch) (boxes after : List BoxTally) (text : List ℕ) → AreNamed rules s views → AreAnsweredFrom views searches boxes text after → AreSearched rules s searches boxes (greatest_of views) text after
+AreAnsweredFrom-searched rules s [] [] boxes after text named h = (refl, h.0, h.1)
+AreAnsweredFrom-searched rules s [] (p ∷ ps) boxes after text named h = absurd h
+AreAnsweredFrom-searched rules s (view ∷ views) [] boxes after text named h = absurd h
+AreAnsweredFrom-searched rules s (view ∷ views) (p ∷ ps) boxes after text named h = (
+  view.version,
+  h.0,
+  h.1,
+  greatest_of views,
+  h.2,
+  named.0,
+  subst (λ (v : View). IsSearched p.line v p.query p.filter boxes h.0 h.1) (sym named.1) h.3,
+  AreAnsweredFrom-searched rules s views ps h.1 after h.2 named.2 h.4,
+  refl,
+  h.5,
+)
+
+-- the last version may be named by each
+last-alike : (rules : Rules) (s : State) (view : View) → IsNamed rules s view.version → view_at s view.version ≡ view → (searches : List PlacedSearch) → AreNamed rules s (map (λ (p : PlacedSearch). view) searches)
+last-alike rules s view named is [] = tt
+last-alike rules s view named is (p ∷ ps) = (named, is, last-alike rules s view named is ps)
 
 -- the report that waits is that which is kept
 pub waiting_is : (s : State) (kept : Kept) (boxes : List BoxTally) → IsKept s kept boxes → kept_report kept ≡ waiting_text s
@@ -102,8 +133,11 @@ module _ (rules : Rules) (files : List File) (s : State) (kept : Kept) (boxes to
 
   pub text-together : (searches : List PlacedSearch) → AreAnswered (view_of kept) searches boxes text told → IsTextTo files rules s line (statement.Together searches) text told
   text-together searches block =
-      let are = AreAnswered-searched rules s (view_of kept) is.floor (view_kept s kept boxes is) searches boxes told text block in
-      ([], with_boxes (with_floor s are.0) told, (are.0, told, subst (λ (from : List BoxTally). AreSearched rules s searches from are.0 text told) (sym is.tallies) are.2, refl, refl), refl)
+      let views = map (λ (p : PlacedSearch). view_of kept) searches in
+      let named : IsNamed rules s kept.version = subst (IsNamed rules s) (sym is.version) (last_named rules s is.floor) in
+      let seen : view_at s kept.version ≡ view_of kept = ap (view_at s) is.version ∙ view_kept s kept boxes is in
+      let are = AreAnsweredFrom-searched rules s views searches boxes told text (last-alike rules s (view_of kept) named seen searches) block in
+      ([], with_boxes (with_floor s (greatest_of views)) told, (greatest_of views, told, subst (λ (from : List BoxTally). AreSearched rules s searches from (greatest_of views) text told) (sym is.tallies) are, refl, refl), refl)
 
   -- one that is answered from the games of a version: it names the last one
   answered-here : (own : Statement) → IsAnswer line (view_of kept) boxes own text told → (n : ℕ) × (after : List BoxTally) × IsNamed rules s n × IsAnswer line (view_at s n) s.boxes own text after × ◌≡◌ {A = List ImportCourse} [] []

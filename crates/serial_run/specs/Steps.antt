@@ -1,5 +1,5 @@
 -- A run so far, and one statement of it: words of the private functions.
-use Rattle.std.specs.Prelude.{◌≡◌, ◌⊎◌, ℕ, ◌≤◌, List, [], ◌∷◌, ◌++◌, Option, Some, None}
+use Rattle.std.specs.Prelude.{◌≡◌, ◌⊎◌, ℕ, ◌≤◌, List, [], ◌∷◌, ◌++◌, map, Option, Some, None}
 use Rattle.std.specs.Option.{option_map_or}
 use mathlib.Core.List.{IsPrefix}
 use Rattle.kb_edges.specs.Faults.{RoseBy}
@@ -49,14 +49,22 @@ pub record IsKept (s : State) (kept : Kept) (boxes : List BoxTally) : Type 0 whe
 abbrev pub view_of : Kept → View
 view_of kept = record { version = kept.version; games = kept.games }
 
--- the searches of a block, in order, each over the same version: their texts, and what the boxes
--- tell before them and behind them
-abbrev pub AreAnswered : View → List PlacedSearch → List BoxTally → List ℕ → List BoxTally → Type 0
-AreAnswered view [] boxes text after = (text ≡ []) × (after ≡ boxes)
-AreAnswered view (p ∷ ps) boxes text after =
+-- the searches of a block, in order, each over what is seen of the base at its place of the list:
+-- their texts, and what the boxes tell before them and behind them
+abbrev pub AreAnsweredFrom : List View → List PlacedSearch → List BoxTally → List ℕ → List BoxTally →
+    Type 0
+AreAnsweredFrom [] [] boxes text after = (text ≡ []) × (after ≡ boxes)
+AreAnsweredFrom [] (p ∷ ps) boxes text after = ⊥
+AreAnsweredFrom (view ∷ views) [] boxes text after = ⊥
+AreAnsweredFrom (view ∷ views) (p ∷ ps) boxes text after =
     (first : List ℕ) × (between : List BoxTally) × (rest : List ℕ)
     × IsSearched p.line view p.query p.filter boxes first between
-    × AreAnswered view ps between rest after × (text ≡ first ++ rest)
+    × AreAnsweredFrom views ps between rest after × (text ≡ first ++ rest)
+
+-- all of them over the same
+abbrev pub AreAnswered : View → List PlacedSearch → List BoxTally → List ℕ → List BoxTally → Type 0
+AreAnswered view searches boxes text after =
+    AreAnsweredFrom (map (λ (p : PlacedSearch). view) searches) searches boxes text after
 
 -- the text of the report that waits, or nothing
 abbrev pub kept_report : Kept → List ℕ

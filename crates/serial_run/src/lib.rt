@@ -9,6 +9,7 @@
 //! prefix of one where it stops, and that [`Standing`] tells the text of each statement.
 #![tactic(auto)]
 
+mod block;
 mod counts;
 mod laws;
 mod print;
@@ -16,11 +17,12 @@ mod read;
 mod script;
 mod serial;
 mod standing;
+mod statement_text;
 mod statements;
 mod status;
-mod version_text;
 mod write;
 
+pub use block::block_text;
 pub use laws::{
     a_begun_text_is_a_prefix_of_a_lawful_output, a_serial_run_without_a_loss_has_one_output,
     each_script_has_a_lawful_output,
@@ -28,9 +30,9 @@ pub use laws::{
 pub use script::{NoStatements, read_statements};
 pub use serial::run_serial;
 pub use standing::Standing;
+pub use statement_text::version_text;
 pub use statements::{Stopped, run_statements};
 pub use status::Status;
-pub use version_text::version_text;
 pub use write::write_all;
 
 #[cfg(test)]

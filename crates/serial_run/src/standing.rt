@@ -3,7 +3,7 @@ ghost use Rattle.std.specs.Prelude.{◌≡◌, ◌≤◌, ◌+◌, ◌++◌, Lis
 
 use crate::counts::counts_in;
 use crate::print::print_report;
-use crate::version_text::version_text;
+use crate::statement_text::version_text;
 use hit_collectors::Collector;
 use import_segments::take_segments;
 use import_work::{Counts, Import, Report};

@@ -2,7 +2,7 @@ use Rattle.std.proofs.Common.{refl}
 use Rattle.std.proofs.lemmas.Result.{IfOk-weaker}
 use Rattle.serial_run.specs.Steps.{kept_at}
 use Rattle.serial_run.proofs.StatementLemmas.{text-answered, text-together, text-until}
-use Rattle.serial_run.proofs.version_text.version_text.Goals as goal
+use Rattle.serial_run.proofs.statement_text.version_text.Goals as goal
 
 pub returns-in-Until : goal.returns-in-Until
 returns-in-Until g c =

@@ -7,6 +7,7 @@ ghost use Rattle.session_core.specs.Stores.{view_of};
 ghost use Rattle.serial_run.specs.Lawful.{Rules};
 ghost use Rattle.serial_run.specs.Steps.{AreAnswered, IsTextByKept, LeavesBase, kept_at};
 
+use crate::block::block_text;
 use hit_collectors::Collector;
 use kb_geometry::NoMemory;
 use query_script::{Placed, PlacedSearch, Statement, print_until};
@@ -34,7 +35,7 @@ pub fn version_text<R: Threads + Sync, C: Collector>(
     match &placed.statement {
         Statement::Until { number } => until_text(alloc, line, *number, version),
         Statement::Together { searches } => {
-            block_text(rt, alloc, session, searches.as_slice(), version)
+            block_at(rt, alloc, session, searches.as_slice(), version)
         }
         // The condition excludes these.
         Statement::Import { .. } | Statement::Wait => unreachable!(),
@@ -72,8 +73,8 @@ fn answer_text<R: Threads + Sync, C: Collector>(
     Ok(text)
 }
 
-// The texts of the searches of a block, in order.
-fn block_text<R: Threads + Sync, C: Collector>(
+// The texts of the searches of a block, in order, each over one version.
+fn block_at<R: Threads + Sync, C: Collector>(
     rt: &R,
     alloc: Global,
     session: &mut Session<C>,
@@ -83,13 +84,9 @@ fn block_text<R: Threads + Sync, C: Collector>(
     ensures { IfOk result (λ text.
         AreAnswered (view_of version.now) searches.now session.old text.items session.new) }
 {
-    let mut text = Vec::new(alloc);
-    for PlacedSearch {
-        line,
-        query,
-        filter,
-    } in searches {
-        session.answer_search(rt, alloc, *line, query, filter, version, &mut text)?;
+    let mut versions = Vec::new(alloc);
+    for _ in searches {
+        versions.push(version)?;
     }
-    Ok(text)
+    block_text(rt, alloc, session, searches, &versions)
 }
