@@ -243,6 +243,10 @@ module _ (batch : ℕ) (WasSeen IsSeen : List Segment → Type 0) (floor : ℕ) 
         boxes_are = refl;
       }
 
+-- a block's statement, by its line and its searches
+pub placed_block : (p : Placed) (searches : List PlacedSearch) → p.statement ≡ statement.Together searches → block_at p.line searches ≡ p
+placed_block p searches is = λ i. record { line = p.line; statement = (sym is) i }
+
 -- ---- one statement behind another
 
 -- what is printed by these statements and this text, in other words for them

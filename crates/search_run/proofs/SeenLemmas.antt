@@ -7,12 +7,13 @@ use Rattle.std.proofs.lemmas.List.{get_or-set_other, get_or-set_same, length-set
 use mathlib.Core.List.{IsPrefix}
 use Rattle.std.proofs.Math.Seq.{get_or-append_seam}
 use Rattle.kb_geometry.proofs.Lists.{All-before}
-use Rattle.kb_geometry.proofs.Prefixes.{prefix_trans}
+use Rattle.kb_geometry.proofs.Prefixes.{prefix_same, prefix_trans}
 use Rattle.node_position.specs.Games.{Game}
 use Rattle.version_publisher.specs.Contents.{IsNewSearcher, Opening}
 use Rattle.version_publisher.specs.declared.state.SearcherState.{SearcherState}
+use Rattle.version_publisher.specs.declared.state.VersionState.{VersionState}
 use Rattle.import_work.specs.Log.{Segment}
-use Rattle.search_run.specs.Seen.{AreOfOpening, HaveMet, HaveSeen, HaveSeenOf}
+use Rattle.search_run.specs.Seen.{AreOfOpening, HaveMet, HaveSeen, HaveSeenOf, IsLookedAt, IsVersionOf}
 
 -- a prefix is at most as long
 pub prefix_length : {A : Type 0} (xs ys : List A) → IsPrefix xs ys → length xs ≤ length ys
@@ -35,6 +36,39 @@ pub seen_before : (own now : SearcherState Game) (block blocks : List (SearcherS
 seen_before own now block blocks grows same log h = record {
   own_seen = prefix_trans own.seen now.seen log grows h.own_seen;
   block_seen = subst (HaveSeenOf log) same h.block_seen;
+}
+
+-- ---- searchers that look one after another
+
+-- what one of these has seen is of each log of which they have seen no more
+pub seen-at : (block : List (SearcherState Game)) (i : ℕ) (new : SearcherState Game) → i < length block → (log : List Segment) → HaveSeenOf log (set block i new) → IsPrefix new.seen log
+seen-at block i new below log h = subst (λ (s : SearcherState Game). IsPrefix s.seen log) (get_or-set_same block i new new below) (h i new (omega (arith, below, length-set block i new)))
+
+-- one of these has seen more: of a log of which they have seen no more, they had seen no more before
+pub seen-less : (block : List (SearcherState Game)) (i : ℕ) (old new : SearcherState Game) → i < length block → ((d : SearcherState Game) → get_or block i d ≡ old) → IsPrefix old.seen new.seen → (log : List Segment) → HaveSeenOf log (set block i new) → HaveSeenOf log block
+seen-less block i old new below old_is grows log h = λ k d under. elim (cases_eq k i) [
+  | inl same ↦ subst (λ (s : SearcherState Game). IsPrefix s.seen log) (sym (ap (λ j. get_or block j d) same ∙ old_is d)) (prefix_trans old.seen new.seen log grows (seen-at block i new below log h))
+  | inr other ↦ subst (λ (s : SearcherState Game). IsPrefix s.seen log) (get_or-set_other block i k new d other) (h k d (omega (arith, under, length-set block i new)))
+]
+
+-- a version of what the session's searcher has seen
+pub looked-held : (own : List Segment) (block : List (SearcherState Game)) (version : VersionState Game) → IsVersionOf version own → IsLookedAt own block version
+looked-held own block version of = record { seen = own; of = of; later = prefix_same own; known = λ log begins h. begins }
+
+-- one that a searcher of a block found, or that
+pub looked-at : (own : List Segment) (block : List (SearcherState Game)) (i : ℕ) (new : SearcherState Game) (version : VersionState Game) → i < length block → IsVersionOf version own ⊎ (IsVersionOf version new.seen × IsPrefix own new.seen) → IsLookedAt own (set block i new) version
+looked-at own block i new version below (inl of) = looked-held own (set block i new) version of
+looked-at own block i new version below (inr (of, later)) = record { seen = new.seen; of = of; later = later; known = λ log begins h. seen-at block i new below log h }
+
+-- it stays one when they have seen more
+pub looked-later : (own : List Segment) (block after : List (SearcherState Game)) (version : VersionState Game) → ((log : List Segment) → HaveSeenOf log after → HaveSeenOf log block) → IsLookedAt own block version → IsLookedAt own after version
+looked-later own block after version less h = record { seen = h.seen; of = h.of; later = h.later; known = λ log begins seen. h.known log begins (less log seen) }
+
+-- who has seen what the session's searcher and those of a block have seen at last has seen what they had
+pub seen-before-block : (own now : SearcherState Game) (block looked caught : List (SearcherState Game)) → IsPrefix own.seen now.seen → ((log : List Segment) → HaveSeenOf log looked → HaveSeenOf log block) → caught ≡ looked → (log : List Segment) → HaveSeen now caught log → HaveSeen own block log
+seen-before-block own now block looked caught grows less same log h = record {
+  own_seen = prefix_trans own.seen now.seen log grows h.own_seen;
+  block_seen = less log (subst (HaveSeenOf log) same h.block_seen);
 }
 
 -- ---- searchers that meet a publisher

@@ -86,11 +86,43 @@ fn answer_one<J: OpenName, R: Threads + Wait + Sync, K: Sink, C: Collector>(
         Rose (K.faults out.old) (K.faults out.new) }
     ensures sink_later { K.faults out.old ≤ K.faults out.new }
 {
-    if let Statement::Together { searches } = &placed.statement {
-        let searches = searches.as_slice();
-        let version = answer_block(rt, alloc, session, searchers, held, searches, out)?;
-        return Ok(Some(version));
+    match &placed.statement {
+        Statement::Together { searches } => {
+            let searches = searches.as_slice();
+            let version = answer_block(rt, alloc, session, searchers, held, searches, out)?;
+            Ok(Some(version))
+        }
+        _ => answer_from_one(rt, alloc, session, searchers, held, placed, out),
     }
+}
+
+// Answers a statement beside an import from one version, which is held then. None where the statement
+// waits for the import's end; then nothing is answered.
+fn answer_from_one<J: OpenName, R: Threads + Wait + Sync, K: Sink, C: Collector>(
+    rt: &R,
+    alloc: Global,
+    session: &mut Session<C>,
+    searchers: &mut Searchers<J>,
+    held: Version<Segment>,
+    placed: &Placed,
+    out: &mut K,
+) -> Result<Option<Version<Segment>>, Stopped>
+    requires held { IsVersionOf held searchers.old.own.seen }
+    ensures answered { IfTold (K.written out.old) (λ before. IfOk result (λ found.
+        IfSome found (λ version. (batch : ℕ) →
+        HasAnswered batch (HaveSeen searchers.old.own searchers.old.block.items) held.number
+        session.old (placed.now ∷ []) (HaveSeen searchers.new.own searchers.new.block.items)
+        version.number session.new before (K.written out.new)))) }
+    ensures version { IfOk result (λ found. IfSome found (λ version.
+        IsVersionOf version searchers.new.own.seen)) }
+    ensures waits { IfOk result (λ found. found ≡ None →
+        (session.new ≡ session.old) × (K.written out.new ≡ K.written out.old)) }
+    ensures seen { (log : List Segment) → HaveSeen searchers.new.own searchers.new.block.items log →
+        HaveSeen searchers.old.own searchers.old.block.items log }
+    ensures sink_fault { IsErrOf result Stopped.SinkFault →
+        Rose (K.faults out.old) (K.faults out.new) }
+    ensures sink_later { K.faults out.old ≤ K.faults out.new }
+{
     let Some(version) = version_for(rt, alloc, searchers, held, &placed.statement)? else {
         return Ok(None);
     };

@@ -43,10 +43,10 @@ AreAnsweredFrom-more (v ∷ views) view [] p boxes between after text more h is 
 AreAnsweredFrom-more (v ∷ views) view (q ∷ searches) p boxes between after text more h is =
     (h.0, h.1, h.2 ++ more, h.3, AreAnsweredFrom-more views view searches p h.1 between after h.2 more h.4 is, ap (λ t. t ++ more) h.5 ∙ append_assoc h.0 h.2 more)
 
--- what is seen at as many places of one list is seen at each of another
-pub seen-alike : {A : Type 0} (view : View) (f : A → View) (x : A) → f x ≡ view → (searches : List PlacedSearch) → map f (replicate (length searches) x) ≡ map (λ (p : PlacedSearch). view) searches
-seen-alike view f x is [] = refl
-seen-alike view f x is (p ∷ ps) = ap (λ (v : View). v ∷ map f (replicate (length ps) x)) is ∙ ap (λ (vs : List View). view ∷ vs) (seen-alike view f x is ps)
+-- the same is seen by each
+pub seen-alike : (view : View) (searches : List PlacedSearch) → replicate (length searches) view ≡ map (λ (p : PlacedSearch). view) searches
+seen-alike view [] = refl
+seen-alike view (p ∷ ps) = ap (λ (views : List View). view ∷ views) (seen-alike view ps)
 
 -- each of these is what is seen in a version that may be named
 abbrev pub AreNamed : Rules → State → List View → Type 0

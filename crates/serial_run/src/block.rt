@@ -1,5 +1,5 @@
 // The texts of the searches of a block.
-ghost use Rattle.std.specs.Prelude.{◌≡◌, ◌++◌, IfOk, List, OnOk, length, map, ℕ};
+ghost use Rattle.std.specs.Prelude.{◌≡◌, ◌<◌, ◌++◌, IfOk, List, OnOk, length, map, ℕ};
 ghost use Rattle.continuation_table.specs.Table.{IsTable};
 ghost use Rattle.search_engine.specs.Hits.{AreHits};
 ghost use Rattle.session_core.specs.Answers.{IsSearched};
@@ -37,7 +37,9 @@ pub fn block_text<R: Threads + Sync, C: Collector>(
         rt,
         alloc,
         searches.len(),
-        &|i| { answer_of(rt, alloc, &searches[i], versions[i]) },
+        &|i| -> Result<Answer, NoMemory>
+            requires { (i < length searches.now) × (i < length versions.now) }
+        { answer_of(rt, alloc, &searches[i], versions[i]) },
     )?;
     let mut text = Vec::new(alloc);
     for i in 0..searches.len() {

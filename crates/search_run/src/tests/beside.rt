@@ -73,7 +73,7 @@ fn outputs_that_no_order_of_the_threads_changes(rt: HostRuntime) -> Result<(), F
              total 2 0 0 0 0 2\n",
             1,
         ),
-        // A block, each of whose searches has a searcher of its own.
+        // A block over the last version.
         (
             "--batch 1",
             "import d\nwait\ntogether\nsearch same X\nsearch same O\nend\n",

@@ -1,4 +1,4 @@
-// A search that is answered between two versions of one import.
+// Searches that are answered between two versions of one import.
 ghost use Rattle.std.specs.Prelude.{Some};
 ghost use Rattle.kb_edges.specs.Memory.{sink_faults, sink_written};
 
@@ -14,9 +14,6 @@ use std::test::Fail;
 use std::thread;
 use std::thread::Threads;
 
-// The line of the search that is to be taken before the second version is published.
-const LINE: &[u8] = b"3 search version 1 games 1 hits 2\n";
-
 // How often the gate looks whether the line was taken.
 const TURNS: u32 = 1_000_000_000;
 
@@ -27,10 +24,11 @@ struct Signals {
     given_up: AtomicBool,
 }
 
-// A sink in memory that tells when the line was taken.
+// A sink in memory that tells when a line was taken, which begins a text.
 #[derive(Drop)]
 struct WatchedSink {
     inner: MemorySink,
+    line: &'static [u8],
     signals: Arc<Signals>,
 }
 
@@ -41,7 +39,7 @@ impl Sink for WatchedSink {
 
     fn write(&mut self, bytes: &[u8]) -> Result<usize, SinkError> {
         let count = self.inner.write(bytes)?;
-        if bytes.starts_with(LINE) {
+        if bytes.starts_with(self.line) {
             self.signals.taken.store(true, Ordering::SeqCst);
         }
         Ok(count)
@@ -69,9 +67,13 @@ impl Gate for HoldsTheSecond {
     }
 }
 
+// Runs a script over two files, whose second version is published once the line was taken.
 fn search_beside<R: Threads + Wait + Abort + Clone + Drop + Send + Sync + 'static>(
     rt: &R,
     alloc: Global,
+    script: &str,
+    line: &'static [u8],
+    written: &str,
 ) -> Result<(), Fail> {
     let signals = Arc::new(
         alloc,
@@ -82,10 +84,10 @@ fn search_beside<R: Threads + Wait + Abort + Clone + Drop + Send + Sync + 'stati
     )?;
     let files = entries(alloc, &[("d", "a.sgf", GAME), ("d", "b.sgf", GAME)])?;
     let folder = MemoryFolder::new(files, Vec::new(alloc));
-    let script = b"import d\nuntil 1\nsearch same X\nwait\n".to_vec(alloc)?;
-    let mut source = MemorySource::new(script, Vec::new(alloc));
+    let mut source = MemorySource::new(script.as_bytes().to_vec(alloc)?, Vec::new(alloc));
     let mut sink = WatchedSink {
         inner: MemorySink::new(Vec::new(alloc), Vec::new(alloc)),
+        line,
         signals: Arc::try_clone(&signals)?,
     };
     let gate = HoldsTheSecond {
@@ -113,19 +115,46 @@ fn search_beside<R: Threads + Wait + Abort + Clone + Drop + Send + Sync + 'stati
         !signals.given_up.load(Ordering::SeqCst),
         "the gate gave up"
     );
-    let written = "1 import d\n\
-                   2 until 1 version 1\n\
-                   3 search version 1 games 1 hits 2\n\
-                   hit 0 1 2 2 0 -\n\
-                   hit 0 3 2 1 0 -\n\
-                   total 2 0 0 0 0 2\n\
-                   1 imported files 2 accepted 2 refused 0 full 0 unread 0 games 2 version 2\n\
-                   4 wait version 2\n";
     assert_eq!(rt; sink.inner.written(), written.as_bytes());
     Ok(())
 }
 
 #[test]
 fn search_between_publishings(rt: HostRuntime) -> Result<(), Fail> {
-    search_beside(&rt, rt.alloc())
+    search_beside(
+        &rt,
+        rt.alloc(),
+        "import d\nuntil 1\nsearch same X\nwait\n",
+        b"3 search version 1 games 1 hits 2\n",
+        "1 import d\n\
+         2 until 1 version 1\n\
+         3 search version 1 games 1 hits 2\n\
+         hit 0 1 2 2 0 -\n\
+         hit 0 3 2 1 0 -\n\
+         total 2 0 0 0 0 2\n\
+         1 imported files 2 accepted 2 refused 0 full 0 unread 0 games 2 version 2\n\
+         4 wait version 2\n",
+    )
+}
+
+// A block, each of whose searches has a searcher of its own.
+#[test]
+fn block_between_publishings(rt: HostRuntime) -> Result<(), Fail> {
+    search_beside(
+        &rt,
+        rt.alloc(),
+        "import d\nuntil 1\ntogether\nsearch same X\nsearch same O\nend\nwait\n",
+        b"4 search version 1 games 1 hits 2\n",
+        "1 import d\n\
+         2 until 1 version 1\n\
+         4 search version 1 games 1 hits 2\n\
+         hit 0 1 2 2 0 -\n\
+         hit 0 3 2 1 0 -\n\
+         total 2 0 0 0 0 2\n\
+         5 search version 1 games 1 hits 1\n\
+         hit 0 2 1 2 0 -\n\
+         total 1 0 0 0 0 1\n\
+         1 imported files 2 accepted 2 refused 0 full 0 unread 0 games 2 version 2\n\
+         7 wait version 2\n",
+    )
 }

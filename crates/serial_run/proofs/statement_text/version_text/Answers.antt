@@ -12,9 +12,9 @@ returns-in-Until g c =
 
 pub returns-in-Together : goal.returns-in-Together
 returns-in-Together g c =
-    IfOk-weaker c.block_text.result _ _
+    IfOk-weaker c.block_at.result _ _
     (λ text is. λ rules waiting files s kept. rw c.in-Together.is (text-together rules files s (kept_at c.args.version.now waiting) c.args.session.now _ kept c.args.placed.now.line text.items c.in-Together.searches (rw c.as_slice.ensures at is)))
-    c.block_text.ensures
+    c.block_at.ensures
 
 pub returns-in_default : goal.returns-in_default
 returns-in_default g c =

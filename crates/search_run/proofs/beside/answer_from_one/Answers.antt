@@ -1,0 +1,39 @@
+use Rattle.std.proofs.Common.{arith, subst}
+use Rattle.kb_geometry.proofs.Prefixes.{prefix_trans}
+use Rattle.search_run.specs.Beside.{Reaches}
+use Rattle.search_run.specs.Seen.{HaveSeen}
+use Rattle.search_run.proofs.BesideLemmas.{goes-on}
+use Rattle.search_run.proofs.SeenLemmas.{prefix_length, seen_before}
+use Rattle.search_run.proofs.beside.answer_from_one.Goals as goal
+
+pub returns-in_err-version-clause-seen : goal.returns-in_err-version-clause-seen
+returns-in_err-version-clause-seen g c = seen_before _ _ _ _ c.version_for.ensures.grows c.version_for.ensures.block
+
+pub returns-in_default-clause-seen : goal.returns-in_default-clause-seen
+returns-in_default-clause-seen g c = seen_before _ _ _ _ c.version_for.ensures.grows c.version_for.ensures.block
+
+pub returns-in_err-text-clause-seen : goal.returns-in_err-text-clause-seen
+returns-in_err-text-clause-seen g c = seen_before _ _ _ _ c.version_for.ensures.grows c.version_for.ensures.block
+
+pub returns-in_err-write_all-clause-seen : goal.returns-in_err-write_all-clause-seen
+returns-in_err-write_all-clause-seen g c = seen_before _ _ _ _ c.version_for.ensures.grows c.version_for.ensures.block
+
+pub returns-clause-seen : goal.returns-clause-seen
+returns-clause-seen g c = seen_before _ _ _ _ c.version_for.ensures.grows c.version_for.ensures.block
+
+pub returns-clause-answered : goal.returns-clause-answered
+returns-clause-answered g c = λ before written. λ batch.
+    let own = c.args.searchers.now.own in
+    let block = c.args.searchers.now.block.items in
+    let own_now = c.version_for.new.searchers.own in
+    let block_now = c.version_for.new.searchers.block.items in
+    let of = rw c.in-Some.is at c.in_ok-version.ensures.version in
+    let reaches = rw c.in-Some.is at c.in_ok-version.ensures.reaches in
+    let grows = c.version_for.ensures.grows in
+    let longer = prefix_length own.seen own_now.seen grows in record {
+      text = c.in_ok-text.text.items;
+      goes_on = goes-on batch (HaveSeen own block) (HaveSeen own_now block_now) c.args.held.number c.args.session.now c.version_text.new.session c.args.placed.now c.in_ok-text.text.items c.in-Some.version own_now.seen
+          (seen_before own own_now block block_now grows c.version_for.ensures.block) (λ log seen. seen.own_seen) of (omega (arith, c.requires.held.number, longer)) (rw c.in-Some.is at c.in_ok-version.ensures.leaves)
+          (subst (Reaches c.args.placed.now.statement) of.number reaches) c.in_ok-text.ensures;
+      written_is = rw c.deref.ensures.value at (c.in_ok-write_all.ensures.whole before written);
+    }
