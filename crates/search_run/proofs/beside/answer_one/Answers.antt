@@ -9,6 +9,6 @@ pub returns-in_ok-version-in-Together-clause-answered : goal.returns-in_ok-versi
 returns-in_ok-version-in-Together-clause-answered g c = λ before written. λ batch.
     let at = c.args.searchers.now in
     let now = c.answer_block.new.searchers in
-    subst (λ (p : Placed). HasAnswered batch (HaveSeen at.own at.block.items) c.args.held.number c.args.session.now (p ∷ []) (HaveSeen now.own now.block.items) c.in_ok-version.version.number c.answer_block.new.session before (g.K.Sink.written c.answer_block.new.out))
+    subst (λ (p : Placed). HasAnswered batch (HaveSeen at.own at.block.items) c.args.held.number c.args.session.now (p ∷ []) (HaveSeen now.own now.block.items) c.in_ok-version-in-Together.version.number c.answer_block.new.session before (g.K.Sink.written c.answer_block.new.out))
     (placed_block c.args.placed.now c.in-Together.searches c.in-Together.is)
-    (rw c.as_slice.ensures at (c.in_ok-version.ensures.answered before written c.args.placed.now.line batch))
+    (rw c.as_slice-searches.ensures at (c.in_ok-version-in-Together.ensures.answered before written c.args.placed.now.line batch))
