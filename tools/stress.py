@@ -15,7 +15,7 @@ import subprocess
 import sys
 import tempfile
 
-PATTERNS = ["X", "same XO", "anchored X.", "same fixed X.O", "X*/*O", "main XX"]
+PATTERNS = ["XOXO/OXOX", "same OXX/XXO/OX.", "fixed at 0 0 XOX/OX*", "main XXXX/OOOO", "same fixed XOOXO"]
 
 
 def game(numbers):

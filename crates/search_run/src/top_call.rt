@@ -10,6 +10,7 @@ ghost use Rattle.std.specs.Prelude.{
   None,
   Some,
   IsErrOf,
+  OnErr,
   OnOk,
   drop,
   false,
@@ -27,9 +28,10 @@ ghost use Rattle.query_script.specs.declared.command_words.Words.{Words};
 ghost use Rattle.version_publisher.specs.declared.state.PublisherState.{PublisherState};
 ghost use Rattle.search_run.specs.Bases.{BaseState, IsNewBase};
 ghost use Rattle.search_run.specs.Run.{PrintsPublished, WritesPublished, beside_rules};
-ghost use Rattle.serial_run.specs.Run.{WritesLawful, serial_rules};
+ghost use Rattle.search_run.specs.Stopped.{PrintsStopped};
+ghost use Rattle.serial_run.specs.Run.{WritesLawful, WritesPrefix, serial_rules};
 ghost use Rattle.serial_run.specs.Script.{IsBad, IsInGrammar};
-ghost use Rattle.serial_run.specs.Serial.{IsEarly, Prints};
+ghost use Rattle.serial_run.specs.Serial.{IsEarly, Prints, PrintsPrefix};
 ghost use Rattle.serial_run.specs.declared.status.Status.{Status};
 
 use crate::base::Base;
@@ -127,6 +129,36 @@ pub fn run<
         bytes files before (K.written out.new) (F.faults folder) (F.faults result.1)
         given.publisher back }
 
+    // The same where the run stopped. With a base this tells of runs with `--serial` alone.
+    ensures stopped { (bytes : List ℕ) (files : List File) (before : List ℕ) →
+        S.left script.old ≡ Some bytes → F.files folder ≡ Some files →
+        K.written out.old ≡ Some before → base ≡ None →
+        result.0 ≡ Status.SinkFault →
+        PrintsPrefix (map string_bytes words.now) (map (λ board. tally board) boards.items) bytes
+        files before (K.written out.new) (F.faults folder) (F.faults result.1) }
+    ensures no_memory { (bytes : List ℕ) (files : List File) (before : List ℕ) →
+        S.left script.old ≡ Some bytes → F.files folder ≡ Some files →
+        K.written out.old ≡ Some before → base ≡ None →
+        result.0 ≡ Status.NoMemory → (K.written out.new ≡ Some before) × (result.1 ≡ folder)
+        ⊎ PrintsPrefix (map string_bytes words.now) (map (λ board. tally board) boards.items)
+        bytes files before (K.written out.new) (F.faults folder) (F.faults result.1) }
+    ensures stopped_with_base { (bytes : List ℕ) (files : List File) (before : List ℕ) →
+        S.left script.old ≡ Some bytes → F.files folder ≡ Some files →
+        K.written out.old ≡ Some before → (given : BaseState) → base ≡ Some given →
+        result.0 ≡ Status.SinkFault → (back : PublisherState Game) × (result.2 ≡ Some back)
+        × PrintsStopped (map string_bytes words.now) (map (λ board. tally board) boards.items)
+        bytes files before (K.written out.new) (F.faults folder) (F.faults result.1)
+        given.publisher back }
+    ensures no_memory_with_base { (bytes : List ℕ) (files : List File) (before : List ℕ) →
+        S.left script.old ≡ Some bytes → F.files folder ≡ Some files →
+        K.written out.old ≡ Some before → (given : BaseState) → base ≡ Some given →
+        result.0 ≡ Status.NoMemory → (K.written out.new ≡ Some before) × (result.1 ≡ folder)
+        × (result.2 ≡ Some given.publisher)
+        ⊎ ((back : PublisherState Game) × (result.2 ≡ Some back)
+        × PrintsStopped (map string_bytes words.now) (map (λ board. tally board) boards.items)
+        bytes files before (K.written out.new) (F.faults folder) (F.faults result.1)
+        given.publisher back) }
+
     // Where nothing fails, the run is done, or memory was wanted.
     ensures complete { (bytes : List ℕ) (read : Words) → S.left script.old ≡ Some bytes →
         AreLawful (map string_bytes words.now) read → IsInGrammar bytes →
@@ -219,6 +251,11 @@ fn run_base<
         WritesPublished (beside_rules said.batch) files
         (map (λ board. C.tally board) boards.items) placed.now before (K.written out.new)
         (F.faults folder) (F.faults result.1) result.2))) }
+    ensures stopped { IfTold (F.files folder) (λ files. IfTold (K.written out.old) (λ before.
+        OnErr result.0 (said.serial ≡ true →
+        WritesPrefix (serial_rules said.batch) files (map (λ board. C.tally board) boards.items)
+        placed.now before (K.written out.new) (F.faults folder) (F.faults result.1)
+        × (result.2 ≡ publisher)))) }
     ensures sink_fault { IsErrOf result.0 Stopped.SinkFault →
         Rose (K.faults out.old) (K.faults out.new) }
     ensures opening { result.2.opening ≡ publisher.opening }

@@ -1,4 +1,4 @@
-use Rattle.std.proofs.Common.{◌≡◌, ◌∙◌, Err, Some, ap, refl, subst, sym}
+use Rattle.std.proofs.Common.{◌≡◌, ◌∙◌, inr, Err, Some, ap, refl, subst, sym}
 use Rattle.search_run.specs.Bases.{BaseState}
 use Rattle.serial_run.specs.Script.{IsBad}
 use Rattle.serial_run.proofs.ScriptLemmas.{IsScript-in_grammar, good_not_bad}
@@ -8,6 +8,14 @@ use Rattle.search_run.proofs.top_call.run.Goals as goal
 pub returns-in_default-clause-done : goal.returns-in_default-clause-done
 returns-in_default-clause-done g c = λ bytes files before told files_told written none is.
     c.run_serial-status.ensures.done bytes files before told files_told written is
+
+pub returns-in_default-clause-stopped : goal.returns-in_default-clause-stopped
+returns-in_default-clause-stopped g c = λ bytes files before told files_told written none is.
+    c.run_serial-status.ensures.stopped bytes files before told files_told written is
+
+pub returns-in_default-clause-no_memory : goal.returns-in_default-clause-no_memory
+returns-in_default-clause-no_memory g c = λ bytes files before told files_told written none is.
+    c.run_serial-status.ensures.no_memory bytes files before told files_told written is
 
 pub returns-in-Err-BadLine-clause-bad_script : goal.returns-in-Err-BadLine-clause-bad_script
 returns-in-Err-BadLine-clause-bad_script g c = λ bytes told k is.
@@ -46,5 +54,37 @@ returns-in-Ok-ran-clause-done_published g c = λ bytes files before told files_t
         spelled = c.in-Ok-read_statements.ensures.spelled bytes told;
         one_by_one = λ one. let wrote = serial one in (wrote.0, wrote.1 ∙ ap (λ (b : BaseState). b.publisher) (c.base.view_is ∙ sym same));
         published = beside;
+      },
+    )
+
+pub returns-in-Err-SinkFault-clause-stopped_with_base : goal.returns-in-Err-SinkFault-clause-stopped_with_base
+returns-in-Err-SinkFault-clause-stopped_with_base g c = λ bytes files before told files_told written given some is.
+    let both : Some given ≡ Some c.in-Some.base = sym some ∙ c.in-Some.is in
+    let same : given ≡ c.in-Some.base = cc in
+    let serial = rw (c.in-Err-SinkFault.is, c.deref.ensures.value) at (c.run_base-ran.ensures.stopped files files_told before written) in (
+      c.run_base-ran.result.2,
+      refl,
+      record {
+        read = c.in-Ok.said;
+        say = c.in-Ok.ensures.read;
+        placed = c.in-Ok-read_statements.placed.items;
+        spelled = c.in-Ok-read_statements.ensures.spelled bytes told;
+        one_by_one = λ one. let wrote = serial one in (wrote.0, wrote.1 ∙ ap (λ (b : BaseState). b.publisher) (c.base.view_is ∙ sym same));
+      },
+    )
+
+pub returns-clause-no_memory_with_base : goal.returns-clause-no_memory_with_base
+returns-clause-no_memory_with_base g c = λ bytes files before told files_told written given some is.
+    let both : Some given ≡ Some c.in-Some.base = sym some ∙ c.in-Some.is in
+    let same : given ≡ c.in-Some.base = cc in
+    let serial = rw (c.in-Err-NoMemory-ran.is, c.deref.ensures.value) at (c.run_base-ran.ensures.stopped files files_told before written) in inr (
+      c.run_base-ran.result.2,
+      refl,
+      record {
+        read = c.in-Ok.said;
+        say = c.in-Ok.ensures.read;
+        placed = c.in-Ok-read_statements.placed.items;
+        spelled = c.in-Ok-read_statements.ensures.spelled bytes told;
+        one_by_one = λ one. let wrote = serial one in (wrote.0, wrote.1 ∙ ap (λ (b : BaseState). b.publisher) (c.base.view_is ∙ sym same));
       },
     )
