@@ -1,4 +1,4 @@
-use Rattle.std.proofs.Common.{◌+◌, ◌∙◌, ap, arith, take}
+use Rattle.std.proofs.Common.{◌+◌, ap, arith}
 use Rattle.game_tree.specs.Tree.{node_count}
 use Rattle.serial_run.proofs.CountLemmas.{nodes-more, nodes-most}
 use Rattle.serial_run.proofs.counts.node_count.Goals as goal
