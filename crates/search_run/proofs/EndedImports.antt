@@ -1,9 +1,7 @@
 -- How an import by an order ends: the log, the report, and what the folder's count says of losses.
-use Rattle.std.proofs.Common.{◌≡◌, ◌⊎◌, inl, inr, ℕ, ◌≤◌, ◌+◌, List, [], ◌∷◌, ◌++◌, Option, Some, Ok, Err, length, length-append, refl, sym, ap, ◌∙◌, subst, append_assoc, arith}
+use Rattle.std.proofs.Common.{◌≡◌, ◌⊎◌, inl, inr, ℕ, ◌≤◌, ◌+◌, List, ◌++◌, Option, Some, length, length-append, refl, sym, ap, ◌∙◌, subst, append_assoc, arith}
 use Rattle.std.specs.Prelude.{IfOk, Result, string_bytes}
 use Rattle.std.proofs.lemmas.Result.{IfOk-weaker}
-use mathlib.Core.List.{IsPrefix}
-use Rattle.kb_geometry.proofs.Prefixes.{prefix_same}
 use Rattle.kb_geometry.specs.declared.memory.NoMemory.{NoMemory}
 use Rattle.kb_edges.specs.Faults.{Rose}
 use Rattle.kb_edges.specs.Files.{File, HasPath}
@@ -12,8 +10,8 @@ use Rattle.version_publisher.specs.Contents.{Opening, items_in}
 use Rattle.version_publisher.specs.declared.state.PublisherState.{PublisherState}
 use Rattle.node_position.specs.Games.{Game}
 use Rattle.import_work.specs.Batches.{games_told, line_reports}
-use Rattle.import_work.specs.Course.{IsImported, losses_of, nothing_lost, trees_in}
-use Rattle.import_work.specs.Imports.{FindsIn, GivesAll, GivesFirst, ImportState, IsListed, IsListedIn, IsOpened, lines_in}
+use Rattle.import_work.specs.Course.{IsImported, nothing_lost, trees_in}
+use Rattle.import_work.specs.Imports.{FindsIn, ImportState, IsListed, IsOpened, lines_in}
 use Rattle.import_work.specs.Log.{Segment, games_in, segments_of}
 use Rattle.import_work.specs.Outcome.{counts_of}
 use Rattle.import_work.specs.declared.report.Report.{Report}
@@ -26,7 +24,6 @@ use Rattle.import_work.proofs.RoomLemmas.{length-trees}
 use Rattle.search_run.specs.Beside.{EndsWith, EndsWithFirst, Finds, HasEnded}
 use Rattle.import_segments.specs.Publishing.{IsIdle, IsOpenedWith, IsWithinLimits, PublishesAll, PublishesFirst}
 use Rattle.serial_run.specs.Reports.{told_text}
-use Rattle.serial_run.specs.Texts.{report_text}
 use Rattle.search_run.specs.declared.importer.Order.{Order}
 use Rattle.import_work.proofs.SegmentLemmas.{games_in-append}
 use Rattle.serial_run.proofs.ImportReports.{few_left, no_lines, text_told}

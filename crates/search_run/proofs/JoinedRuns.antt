@@ -4,8 +4,7 @@ use Rattle.std.specs.Prelude.{IfOk, OnOk}
 use Rattle.std.specs.Result.{IsOk}
 use Rattle.std.proofs.Math.Seq.{take-add}
 use Rattle.std.proofs.lemmas.List.{length-drop, take_all}
-use Rattle.kb_geometry.specs.declared.memory.NoMemory.{NoMemory}
-use Rattle.kb_edges.specs.Faults.{Rose, RoseBy}
+use Rattle.kb_edges.specs.Faults.{Rose}
 use Rattle.kb_edges.specs.Files.{File}
 use Rattle.hit_collectors.specs.Tallies.{BoxTally}
 use Rattle.query_script.specs.declared.statement.Placed.{Placed}
@@ -21,8 +20,8 @@ use Rattle.import_work.specs.Outcome.{counts_of}
 use Rattle.import_work.specs.declared.report.Report.{Report}
 use Rattle.import_work.proofs.FileLemmas.{RoseBy-then}
 use Rattle.import_work.proofs.Losses.{losses_of-append}
-use Rattle.search_run.specs.Beside.{EndsWith, HasAnsweredAll, HasEnded, HasRunTo, IsJoined, IsOrdered, StandsStill}
-use Rattle.serial_run.specs.Lawful.{HasPrinted, Rules, State, waiting_text}
+use Rattle.search_run.specs.Beside.{EndsWith, HasAnsweredAll, HasRunTo, IsJoined, IsOrdered, StandsStill}
+use Rattle.serial_run.specs.Lawful.{HasPrinted, Rules, waiting_text}
 use Rattle.import_segments.specs.Publishing.{IsIdle, IsWithinLimits}
 use Rattle.search_run.specs.Run.{WritesPublished, beside_rules}
 use Rattle.serial_run.specs.Reports.{told_text}

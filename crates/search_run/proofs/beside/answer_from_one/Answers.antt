@@ -1,5 +1,4 @@
 use Rattle.std.proofs.Common.{arith, subst}
-use Rattle.kb_geometry.proofs.Prefixes.{prefix_trans}
 use Rattle.search_run.specs.Beside.{Reaches}
 use Rattle.search_run.specs.Seen.{HaveSeen}
 use Rattle.search_run.proofs.BesideLemmas.{goes-on}

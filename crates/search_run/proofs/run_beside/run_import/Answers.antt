@@ -1,4 +1,4 @@
-use Rattle.std.proofs.Common.{Ok, Result, ◌++◌, ◌∙◌, refl, subst, take}
+use Rattle.std.proofs.Common.{Result, ◌++◌, ◌∙◌, refl, subst, take}
 use Rattle.std.specs.Prelude.{IfOk}
 use Rattle.kb_geometry.specs.declared.memory.NoMemory.{NoMemory}
 use Rattle.query_script.specs.Texts.{import_text}

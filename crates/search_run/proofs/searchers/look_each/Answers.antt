@@ -1,4 +1,4 @@
-use Rattle.std.proofs.Common.{◌+◌, ◌∷◌, [], ap, arith, length, length-append}
+use Rattle.std.proofs.Common.{◌∷◌, [], ap, arith, length, length-append}
 use Rattle.std.proofs.lemmas.List.Elements.{All-nil, All-push, All-weaker}
 use Rattle.search_run.specs.Seen.{IsLookedAt}
 use Rattle.search_run.proofs.SeenLemmas.{looked-later}

@@ -1,4 +1,4 @@
-use Rattle.std.proofs.Common.{◌≡◌, ◌<◌, ◌∙◌, ap, arith, get_or, length, refl, subst, sym}
+use Rattle.std.proofs.Common.{◌≡◌, ◌<◌, ◌∙◌, arith, get_or, length, refl, subst}
 use Rattle.node_position.specs.Games.{Game}
 use Rattle.version_publisher.specs.declared.state.SearcherState.{SearcherState}
 use Rattle.std.proofs.lemmas.List.{get_or_default}
