@@ -1,6 +1,7 @@
 -- How an import by an order ends: the log, the report, and what the folder's count says of losses.
-use Rattle.std.proofs.Common.{◌≡◌, ◌⊎◌, inl, inr, ℕ, ◌≤◌, ◌+◌, List, ◌++◌, Option, Some, length, length-append, refl, sym, ap, ◌∙◌, subst, append_assoc, arith}
+use Rattle.std.proofs.Common.{◌≡◌, ◌⊎◌, inl, inr, ℕ, ◌≤◌, ◌+◌, List, [], ◌++◌, Option, Some, length, length-append, refl, sym, ap, ◌∙◌, subst, append_assoc, arith}
 use Rattle.std.specs.Prelude.{IfOk, Result, string_bytes}
+use Rattle.std.proofs.lemmas.List.{append-nil}
 use Rattle.std.proofs.lemmas.Result.{IfOk-weaker}
 use Rattle.kb_geometry.specs.declared.memory.NoMemory.{NoMemory}
 use Rattle.kb_edges.specs.Faults.{Rose}
@@ -81,7 +82,9 @@ module _ (told : Option (List File)) (order : Order) (some : 1 ≤ order.batch) 
   ends_first log_now last after h = λ files here.
       let g = h.first files here in record {
         finds = finds files here last after g.finds;
-        grown = (g.prefix.0, ap (λ l. l ++ g.prefix.0) h.grown ∙ append_assoc log h.segments g.prefix.0 ∙ ap (λ ss. log ++ ss) g.prefix.1);
+        segments = h.segments;
+        grown = h.grown;
+        first = g.prefix;
       }
 
   module _ (log_now : List Segment) (last : ℕ) (after : opened_at ≤ last) (report : Report) (h : PublishesAll told order.batch start log log_now report opened_at last) where
@@ -134,5 +137,7 @@ not_opened told order log faults now later = λ files here.
         imported = found.1;
         paid = rose_by_none faults now later;
       };
-      grown = (segments_of order.batch found.0, refl);
+      segments = [];
+      grown = sym (append-nil log);
+      first = (segments_of order.batch found.0, refl);
     }

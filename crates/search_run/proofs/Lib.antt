@@ -2,3 +2,4 @@ mod BesideLemmas
 mod EndedImports
 mod JoinedRuns
 mod SeenLemmas
+mod StoppedRuns

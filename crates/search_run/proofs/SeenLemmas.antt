@@ -38,6 +38,13 @@ seen_before own now block blocks grows same log h = record {
   block_seen = subst (HaveSeenOf log) same h.block_seen;
 }
 
+-- what they have seen is a prefix of a longer log as well
+pub seen_longer : (own : SearcherState Game) (block : List (SearcherState Game)) (log longer : List Segment) → IsPrefix log longer → HaveSeen own block log → HaveSeen own block longer
+seen_longer own block log longer more h = record {
+  own_seen = prefix_trans own.seen log longer h.own_seen more;
+  block_seen = λ k d below. prefix_trans (get_or block k d).seen log longer (h.block_seen k d below) more;
+}
+
 -- ---- searchers that look one after another
 
 -- what one of these has seen is of each log of which they have seen no more

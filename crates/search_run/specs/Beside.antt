@@ -44,7 +44,7 @@ pub record IsPrintedWith (files : List File) (rules : Rules) (start : List BoxTa
   pub boxes_are : state.boxes ≡ boxes
 
 -- An import of this path, whose report has this line, is under way. It began in this state, by this
--- course. Whatever it finds, if the log with its segments is as all that was seen of it, these
+-- course. Whatever it finds, if the log with its segments agrees with all that was seen of it, these
 -- statements, the import among them, print this text.
 abbrev pub PrintsBeside : List File → Rules → List BoxTally → State → ℕ → List ℕ →
     List ImportCourse → (List Segment → Type 0) → ℕ → List BoxTally → List Placed → List ℕ → Type 0
@@ -87,11 +87,13 @@ pub record EndsWith (files : List File) (order : Order) (log_before log_now : Li
   pub text : told_text report.line report.body report.version
       ≡ report_text order.line finds.finding (length log_now)
 
--- the log has grown by the first segments of what it found, or by all
+-- the log has grown by the first segments of what it found, or by all or none
 pub record EndsWithFirst (files : List File) (order : Order) (log_before log_now : List Segment)
     (faults_before faults_now : ℕ) : Type 0 where
   pub finds : Finds files (string_bytes order.path) log_before faults_before faults_now
-  pub grown : IsPrefix log_now (log_before ++ segments_of order.batch finds.finding)
+  pub segments : List Segment
+  pub grown : log_now ≡ log_before ++ segments
+  pub first : IsPrefix segments (segments_of order.batch finds.finding)
 
 -- How an import by this order ends, which began with this opening and this log.
 pub record HasEnded (told : Option (List File)) (faults_before : ℕ) (order : Order)
@@ -190,3 +192,21 @@ pub record HasAnsweredAll (WasSeen : List Segment → Type 0) (floor : ℕ) (box
   pub floor_seen : (log : List Segment) → IsSeen log → floor_now ≤ length log
   pub answered : (batch : ℕ) →
       HasAnswered batch WasSeen floor boxes placed IsSeen floor_now boxes_now before written
+
+-- The answers to statements stopped beside an import by batches of this size: of the text of the
+-- first of these, whatever they are, a part is written. The last of them may be one that is printed in
+-- part or not at all.
+pub record StopsBeside (batch : ℕ) (WasSeen : List Segment → Type 0) (floor : ℕ)
+    (boxes : List BoxTally) (placed : List Placed) (IsSeen : List Segment → Type 0)
+    (before : List ℕ) (written : Option (List ℕ)) : Type 0 where
+  pub first : List Placed
+  pub left : List Placed
+  pub split : placed ≡ first ++ left
+  pub text : List ℕ
+  pub floor_now : ℕ
+  pub boxes_now : List BoxTally
+  pub goes_on : GoesOnBeside (beside_rules batch) WasSeen floor boxes first text IsSeen
+      floor_now boxes_now
+  pub part : List ℕ
+  pub prefix : IsPrefix part text
+  pub written_is : written ≡ Some (before ++ part)

@@ -28,7 +28,8 @@ pub record HaveSeen (own : SearcherState Game) (block : List (SearcherState Game
   pub block_seen : HaveSeenOf log block
 
 -- A version that a searcher of a block found: it is one of a log that begins with what the session's
--- searcher has seen, and with which each log begins of which these have seen no more.
+-- searcher has seen; and with it begins each log that begins so and of which those of the block have
+-- seen no more.
 pub record IsLookedAt (own : List Segment) (block : List (SearcherState Game))
     (version : VersionState Game) : Type 0 where
   pub seen : List Segment
@@ -37,7 +38,7 @@ pub record IsLookedAt (own : List Segment) (block : List (SearcherState Game))
   pub known : (log : List Segment) → IsPrefix own log → HaveSeenOf log block → IsPrefix seen log
 
 -- The first of these searchers have met a publisher with this log: what each had seen before is a
--- prefix of it, and now it has seen the whole. The others are as before.
+-- prefix of it. The others are as before.
 pub record HaveMet (opening : Opening) (log : List Segment)
     (before now : List (SearcherState Game)) (count : ℕ) : Type 0 where
   pub same_length : length now ≡ length before

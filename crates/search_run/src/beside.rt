@@ -1,10 +1,25 @@
 // Statements that are answered beside an import.
-ghost use Rattle.std.specs.Prelude.{◌≡◌, ◌≤◌, ◌∷◌, [], List, ℕ, IfOk, IfSome, IsErrOf, None, length, map, take};
+ghost use Rattle.std.specs.Prelude.{
+  ◌≡◌,
+  ◌≤◌,
+  ◌∷◌,
+  [],
+  List,
+  ℕ,
+  IfOk,
+  IfSome,
+  IsErrOf,
+  None,
+  OnErr,
+  length,
+  map,
+  take,
+};
 ghost use mathlib.Core.List.{IsPrefix};
 ghost use Rattle.kb_edges.specs.Faults.{Rose};
 ghost use Rattle.kb_edges.specs.Told.{IfTold};
 ghost use Rattle.import_work.specs.Log.{Segment};
-ghost use Rattle.search_run.specs.Beside.{HasAnswered, HasAnsweredAll, Reaches, block_at};
+ghost use Rattle.search_run.specs.Beside.{HasAnswered, HasAnsweredAll, Reaches, StopsBeside, block_at};
 ghost use Rattle.search_run.specs.Seen.{HaveSeen, IsVersionOf};
 ghost use Rattle.session_core.specs.Stores.{view_of};
 ghost use Rattle.serial_run.specs.Steps.{AreAnsweredFrom, LeavesBase};
@@ -39,6 +54,10 @@ pub(crate) fn answer_beside<J: OpenName, R: Threads + Wait + Sync, K: Sink, C: C
         HasAnsweredAll (HaveSeen searchers.old.own searchers.old.block.items) held.number
         session.old (take count placed.now) (HaveSeen searchers.new.own searchers.new.block.items)
         session.new before (K.written out.new))) }
+    ensures stopped { IfTold (K.written out.old) (λ before. OnErr result ((batch : ℕ) →
+        StopsBeside batch (HaveSeen searchers.old.own searchers.old.block.items) held.number
+        session.old placed.now (HaveSeen searchers.new.own searchers.new.block.items) before
+        (K.written out.new))) }
     ensures few { IfOk result (λ count. count ≤ length placed.now) }
     ensures seen { (log : List Segment) → HaveSeen searchers.new.own searchers.new.block.items log →
         HaveSeen searchers.old.own searchers.old.block.items log }
@@ -76,6 +95,10 @@ fn answer_one<J: OpenName, R: Threads + Wait + Sync, K: Sink, C: Collector>(
         HasAnswered batch (HaveSeen searchers.old.own searchers.old.block.items) held.number
         session.old (placed.now ∷ []) (HaveSeen searchers.new.own searchers.new.block.items)
         version.number session.new before (K.written out.new)))) }
+    ensures stopped { IfTold (K.written out.old) (λ before. OnErr result ((batch : ℕ) →
+        StopsBeside batch (HaveSeen searchers.old.own searchers.old.block.items) held.number
+        session.old (placed.now ∷ []) (HaveSeen searchers.new.own searchers.new.block.items)
+        before (K.written out.new))) }
     ensures version { IfOk result (λ found. IfSome found (λ version.
         IsVersionOf version searchers.new.own.seen)) }
     ensures waits { IfOk result (λ found. found ≡ None →
@@ -113,6 +136,10 @@ fn answer_from_one<J: OpenName, R: Threads + Wait + Sync, K: Sink, C: Collector>
         HasAnswered batch (HaveSeen searchers.old.own searchers.old.block.items) held.number
         session.old (placed.now ∷ []) (HaveSeen searchers.new.own searchers.new.block.items)
         version.number session.new before (K.written out.new)))) }
+    ensures stopped { IfTold (K.written out.old) (λ before. OnErr result ((batch : ℕ) →
+        StopsBeside batch (HaveSeen searchers.old.own searchers.old.block.items) held.number
+        session.old (placed.now ∷ []) (HaveSeen searchers.new.own searchers.new.block.items)
+        before (K.written out.new))) }
     ensures version { IfOk result (λ found. IfSome found (λ version.
         IsVersionOf version searchers.new.own.seen)) }
     ensures waits { IfOk result (λ found. found ≡ None →
@@ -149,6 +176,10 @@ fn answer_block<J: OpenName, R: Threads + Wait + Sync, K: Sink, C: Collector>(
         (block_at line searches.now ∷ [])
         (HaveSeen searchers.new.own searchers.new.block.items) version.number session.new before
         (K.written out.new))) }
+    ensures stopped { IfTold (K.written out.old) (λ before. OnErr result ((line batch : ℕ) →
+        StopsBeside batch (HaveSeen searchers.old.own searchers.old.block.items) held.number
+        session.old (block_at line searches.now ∷ [])
+        (HaveSeen searchers.new.own searchers.new.block.items) before (K.written out.new))) }
     ensures version { IfOk result (λ version. IsVersionOf version searchers.new.own.seen) }
     ensures seen { (log : List Segment) → HaveSeen searchers.new.own searchers.new.block.items log →
         HaveSeen searchers.old.own searchers.old.block.items log }

@@ -15,6 +15,8 @@ ghost use Rattle.std.specs.Prelude.{
   ℕ,
   IfOk,
   IsErrOf,
+  MatchResult,
+  OnErr,
   OnOk,
   drop,
   length,
@@ -23,6 +25,7 @@ ghost use Rattle.std.specs.Prelude.{
   take,
 };
 ghost use Rattle.std.specs.Result.{IsOk};
+ghost use mathlib.Core.List.{IsPrefix};
 ghost use Rattle.hit_collectors.specs.Tallies.{BoxTally};
 ghost use Rattle.kb_edges.specs.Faults.{Rose};
 ghost use Rattle.kb_edges.specs.Told.{IfTold};
@@ -40,11 +43,20 @@ ghost use Rattle.search_run.specs.Beside.{
   IsOrdered,
   MayBegin,
   StandsStill,
+  StopsBeside,
 };
 ghost use Rattle.import_segments.specs.Publishing.{IsIdle, IsWithinLimits};
 ghost use Rattle.search_run.specs.Run.{WritesPublished, beside_rules};
 ghost use Rattle.search_run.specs.Seen.{HaveSeen, IsVersionOf};
-ghost use Rattle.serial_run.specs.Steps.{IsNoImport, PassesText, import_at, kept_report};
+ghost use Rattle.search_run.specs.Stopped.{WritesPublishedPrefix};
+ghost use Rattle.serial_run.specs.Lawful.{Rules};
+ghost use Rattle.serial_run.specs.Steps.{
+  IsNoImport,
+  PassesText,
+  StopsInStatement,
+  import_at,
+  kept_report,
+};
 
 use crate::beside::answer_beside;
 use crate::carried::Carried;
@@ -113,6 +125,11 @@ pub(crate) fn run_beside<
         (WritesPublished (beside_rules batch) files (map (λ board. C.tally board) boards.items)
         placed.now before (K.written out.new) (F.faults tools.folder) (F.faults result.1.folder)
         result.1.carried.publisher))) }
+    ensures stopped { IfTold (F.files tools.folder)
+        (λ files. IfTold (K.written out.old) (λ before. OnErr result.0
+        (WritesPublishedPrefix (beside_rules batch) files
+        (map (λ board. C.tally board) boards.items) placed.now before (K.written out.new)
+        (F.faults tools.folder) (F.faults result.1.folder) result.1.carried.publisher.log))) }
     ensures sink_fault { IsErrOf result.0 Stopped.SinkFault →
         Rose (K.faults out.old) (K.faults out.new) }
     ensures opening { result.1.carried.publisher.opening ≡ tools.carried.publisher.opening }
@@ -143,6 +160,10 @@ fn close<K: Sink>(outcome: Result<(Standing, usize), Stopped>, out: &mut K) -> R
     ensures whole { IfTold (K.written out.old) (λ before. OnOk result (IfOk outcome (λ r.
         K.written out.new ≡ Some (before ++ kept_report r.0)))) }
     ensures ran { OnOk result (IsOk outcome) }
+    ensures part { IfTold (K.written out.old) (λ before. OnErr result (MatchResult outcome
+        (λ r. (more : List ℕ) × IsPrefix more (kept_report r.0)
+        × (K.written out.new ≡ Some (before ++ more)))
+        (λ _. K.written out.new ≡ K.written out.old))) }
     ensures sink_fault { IsErrOf result Stopped.SinkFault →
         IsErrOf outcome Stopped.SinkFault ⊎ Rose (K.faults out.old) (K.faults out.new) }
     ensures sink_later { K.faults out.old ≤ K.faults out.new }
@@ -180,6 +201,10 @@ fn run_all<
         IfOk result.outcome (λ r. HasRunTo (beside_rules batch) files session.old placed.now r.0
         session.new result.tools.carried.publisher.log before (K.written out.new)
         (F.faults tools.folder) (F.faults result.tools.folder)))) }
+    ensures stopped { IfTold (F.files tools.folder) (λ files. IfTold (K.written out.old) (λ before.
+        OnErr result.outcome (WritesPublishedPrefix (beside_rules batch) files session.old
+        placed.now before (K.written out.new) (F.faults tools.folder)
+        (F.faults result.tools.folder) result.tools.carried.publisher.log))) }
     ensures idle { IfOk result.outcome (λ r. IsIdle result.tools.carried.publisher) }
     ensures sink_fault { IsErrOf result.outcome Stopped.SinkFault →
         Rose (K.faults out.old) (K.faults out.new) }
@@ -262,6 +287,13 @@ fn run_next<
         HasRunTo (beside_rules batch) files start (done ++ placed.now ∷ take r.1 rest.now) r.0
         session.new result.tools.carried.publisher.log before (K.written out.new) first
         (F.faults result.tools.folder))) }
+    ensures stopped { IfTold (F.files tools.folder) (λ files. OnErr result.outcome (
+        (start : List BoxTally) (done : List Placed) (before : List ℕ) (first : ℕ) →
+        HasRunTo (beside_rules batch) files start done standing session.old
+        tools.carried.publisher.log before (K.written out.old) first (F.faults tools.folder) →
+        WritesPublishedPrefix (beside_rules batch) files start (done ++ placed.now ∷ rest.now)
+        before (K.written out.new) first (F.faults result.tools.folder)
+        result.tools.carried.publisher.log)) }
     ensures stands { IfOk result.outcome (λ r.
         StandsStill J.opening result.tools.carried.publisher searchers.new.own r.0) }
     ensures count { IfOk result.outcome (λ r. r.1 ≤ length rest.now) }
@@ -307,6 +339,8 @@ fn answer_still<R: Threads + Sync, K: Sink, C: Collector>(
     requires { IsNoImport placed.now.statement }
     ensures passed { IfTold (K.written out.old) (λ before. IfOk result (λ r.
         PassesText standing session.old placed.now r.0 session.new before (K.written out.new))) }
+    ensures stopped { IfTold (K.written out.old) (λ before. OnErr result ((rules : Rules) →
+        StopsInStatement rules standing session.old placed.now before (K.written out.new))) }
     ensures version { IfOk result (λ r. r.0.version ≡ standing.version) }
     ensures games { IfOk result (λ r. r.0.games ≡ standing.games) }
     ensures alone { IfOk result (λ r. r.1 ≡ 0) }
@@ -351,6 +385,13 @@ fn run_import<
         (done ++ import_at line path.now ∷ take r.1 rest.now) r.0 session.new
         result.tools.carried.publisher.log before (K.written out.new) first
         (F.faults result.tools.folder))) }
+    ensures stopped { IfTold (F.files tools.folder) (λ files. OnErr result.outcome (
+        (start : List BoxTally) (done : List Placed) (before : List ℕ) (first : ℕ) →
+        HasRunTo (beside_rules batch) files start done standing session.old
+        tools.carried.publisher.log before (K.written out.old) first (F.faults tools.folder) →
+        WritesPublishedPrefix (beside_rules batch) files start
+        (done ++ import_at line path.now ∷ rest.now) before (K.written out.new) first
+        (F.faults result.tools.folder) result.tools.carried.publisher.log)) }
     ensures stands { IfOk result.outcome (λ r.
         StandsStill J.opening result.tools.carried.publisher searchers.new.own r.0) }
     ensures count { IfOk result.outcome (λ r. r.1 ≤ length rest.now) }
@@ -396,6 +437,9 @@ fn begin<J: OpenName, K: Sink>(
     ensures order { IfOk result (λ t. IsOrdered t.0 batch line path.now standing.now) }
     ensures written { IfTold (K.written out.old) (λ before. OnOk result (K.written out.new
         ≡ Some (before ++ (kept_report standing.now ++ import_text line path.now)))) }
+    ensures part { IfTold (K.written out.old) (λ before. OnErr result ((more : List ℕ)
+        × IsPrefix more (kept_report standing.now ++ import_text line path.now)
+        × (K.written out.new ≡ Some (before ++ more)))) }
     ensures sink_fault { IsErrOf result Stopped.SinkFault →
         Rose (K.faults out.old) (K.faults out.new) }
     ensures sink_later { K.faults out.old ≤ K.faults out.new }
@@ -448,6 +492,10 @@ fn import_beside<
         HasAnsweredAll (HaveSeen searchers.old.own searchers.old.block.items) held.number
         session.old (take count rest.now) (HaveSeen searchers.new.own searchers.new.block.items)
         session.new before (K.written out.new))) }
+    ensures stopped { IfTold (K.written out.old) (λ before. OnErr result.answered ((batch : ℕ) →
+        StopsBeside batch (HaveSeen searchers.old.own searchers.old.block.items) held.number
+        session.old rest.now (HaveSeen searchers.new.own searchers.new.block.items) before
+        (K.written out.new))) }
     ensures count { IfOk result.answered (λ count. count ≤ length rest.now) }
     ensures sink_fault { IsErrOf result.answered Stopped.SinkFault →
         Rose (K.faults out.old) (K.faults out.new) }

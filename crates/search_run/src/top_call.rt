@@ -28,7 +28,7 @@ ghost use Rattle.query_script.specs.declared.command_words.Words.{Words};
 ghost use Rattle.version_publisher.specs.declared.state.PublisherState.{PublisherState};
 ghost use Rattle.search_run.specs.Bases.{BaseState, IsNewBase};
 ghost use Rattle.search_run.specs.Run.{PrintsPublished, WritesPublished, beside_rules};
-ghost use Rattle.search_run.specs.Stopped.{PrintsStopped};
+ghost use Rattle.search_run.specs.Stopped.{PrintsStopped, WritesPublishedPrefix};
 ghost use Rattle.serial_run.specs.Run.{WritesLawful, WritesPrefix, serial_rules};
 ghost use Rattle.serial_run.specs.Script.{IsBad, IsInGrammar};
 ghost use Rattle.serial_run.specs.Serial.{IsEarly, Prints, PrintsPrefix};
@@ -40,7 +40,7 @@ use crate::importer::Tools;
 use crate::run_beside::run_beside;
 use hit_collectors::Collector;
 use kb_edges::{Folder, Gate, Sink, Source};
-use query_script::{Placed, Words, WordsError, read_words};
+use query_script::{Placed, Words, WordsError, lawful_words_say_one_thing, read_words};
 use segment_store::Segment;
 use serial_run::{NoStatements, Status, Stopped, read_statements, run_serial, run_statements};
 use std::alloc::Global;
@@ -129,7 +129,7 @@ pub fn run<
         bytes files before (K.written out.new) (F.faults folder) (F.faults result.1)
         given.publisher back }
 
-    // The same where the run stopped. With a base this tells of runs with `--serial` alone.
+    // The same where the run stopped.
     ensures stopped { (bytes : List ℕ) (files : List File) (before : List ℕ) →
         S.left script.old ≡ Some bytes → F.files folder ≡ Some files →
         K.written out.old ≡ Some before → base ≡ None →
@@ -167,11 +167,16 @@ pub fn run<
         ⊎ (result.0 ≡ Status.NoMemory) }
 
     // The publisher of a base comes back, and as it was where the run ended before the first
-    // statement.
+    // statement and not for want of memory, where the words aren't lawful, and with `--serial`.
     ensures without_base { base ≡ None → result.2 ≡ None }
     ensures given_back { (given : BaseState) → base ≡ Some given → (back : PublisherState Game)
         × (result.2 ≡ Some back) × (back.opening ≡ given.publisher.opening) }
     ensures as_it_was { (given : BaseState) → base ≡ Some given → IsEarly result.0 →
+        result.2 ≡ Some given.publisher }
+    ensures unlawful_back { ((read : Words) → ¬ AreLawful (map string_bytes words.now) read) →
+        (given : BaseState) → base ≡ Some given → result.2 ≡ Some given.publisher }
+    ensures serial_back { (read : Words) → AreLawful (map string_bytes words.now) read →
+        read.serial ≡ true → (given : BaseState) → base ≡ Some given →
         result.2 ≡ Some given.publisher }
 
     // The folder's files stay, and no count of faults falls.
@@ -180,7 +185,8 @@ pub fn run<
     ensures script_later { S.faults script.old ≤ S.faults script.new }
     ensures sink_later { K.faults out.old ≤ K.faults out.new }
 
-    // Before the first statement nothing is written, and the folder isn't asked.
+    // Before the first statement nothing is written, and the folder isn't asked, where the run didn't
+    // end for want of memory.
     ensures nothing_written { IsEarly result.0 → K.written out.new ≡ K.written out.old }
     ensures nothing_asked { IsEarly result.0 → result.1 ≡ folder }
 {
@@ -205,6 +211,8 @@ pub fn run<
         }
         Err(NoStatements::NoMemory) => return (Status::NoMemory, folder, Some(publisher)),
     };
+    // Whatever the words were read as, they say this and nothing else.
+    lawful_words_say_one_thing();
     let (ran, folder, publisher) = run_base(
         rt, alloc, said, &placed, folder, out, gate, boards, publisher, searchers,
     );
@@ -256,8 +264,14 @@ fn run_base<
         WritesPrefix (serial_rules said.batch) files (map (λ board. C.tally board) boards.items)
         placed.now before (K.written out.new) (F.faults folder) (F.faults result.1)
         × (result.2 ≡ publisher)))) }
+    ensures stopped_beside { IfTold (F.files folder)
+        (λ files. IfTold (K.written out.old) (λ before. OnErr result.0 (said.serial ≡ false →
+        WritesPublishedPrefix (beside_rules said.batch) files
+        (map (λ board. C.tally board) boards.items) placed.now before (K.written out.new)
+        (F.faults folder) (F.faults result.1) result.2.log))) }
     ensures sink_fault { IsErrOf result.0 Stopped.SinkFault →
         Rose (K.faults out.old) (K.faults out.new) }
+    ensures serial_back { said.serial ≡ true → result.2 ≡ publisher }
     ensures opening { result.2.opening ≡ publisher.opening }
     ensures same { F.files result.1 ≡ F.files folder }
     ensures later { F.faults folder ≤ F.faults result.1 }

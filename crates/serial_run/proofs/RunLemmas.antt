@@ -11,7 +11,7 @@ use Rattle.query_script.specs.CommandWords.{AreLawful}
 use Rattle.query_script.specs.declared.command_words.Words.{Words}
 use Rattle.query_script.specs.declared.statement.Placed.{Placed}
 use Rattle.import_work.specs.Course.{losses_of}
-use Rattle.serial_run.specs.Lawful.{IsNextPrefix, Rules, State, at_start, nothing, one_more, waiting_text}
+use Rattle.serial_run.specs.Lawful.{IsBegun, IsNextPrefix, Rules, State, at_start, nothing, one_more, waiting_text}
 use Rattle.serial_run.specs.Run.{WritesLawful, WritesPrefix, serial_rules}
 use Rattle.serial_run.specs.Script.{IsScript}
 use Rattle.serial_run.specs.Serial.{PrintsAll}
@@ -19,7 +19,7 @@ use Rattle.serial_run.specs.Steps.{HasRun, IsKept, IsTextByKept, Kept, PassesSta
 use Rattle.import_work.proofs.FileLemmas.{RoseBy-then, rose_by_none}
 use Rattle.import_work.proofs.Losses.{losses_of-append}
 use Rattle.serial_run.proofs.StatementLemmas.{text-told, waiting_is}
-use Rattle.serial_run.proofs.WholeOutputs.{begun-completed}
+use Rattle.serial_run.proofs.WholeOutputs.{begun-completed, lawful-whole}
 
 -- nothing is run yet
 unfoldable pub HasRun-start : (rules : Rules) (files : List File) (boxes told : List BoxTally) (before : List ℕ) (written : Option (List ℕ)) (count : ℕ) → told ≡ boxes → written ≡ Some before → HasRun rules files boxes [] nothing_kept told before written count count
@@ -66,10 +66,11 @@ rose_later n before between now rose later = omega arith
 pub WritesPrefix-stopped : (rules : Rules) (files : List File) (start boxes : List BoxTally) (placed passed left : List Placed) (kept : Kept) (before more : List ℕ) (between written : Option (List ℕ)) (first second third : ℕ) (h : HasRun rules files start passed kept boxes before between first second)
     → placed ≡ passed ++ left → IsNextPrefix files rules h.state left more → written ≡ Some ((before ++ h.text) ++ more) → second ≤ third → WritesPrefix rules files start placed before written first third
 WritesPrefix-stopped rules files start boxes placed passed left kept before more between written first second third h split prefix is later =
-    let whole = begun-completed files rules start h.course placed (h.text ++ more) (record { passed = passed; left = left; state = h.state; text = h.text; more = more; split = split; printed = h.printed; prefix = prefix; out_is = refl }) in record {
+    let begun : IsBegun files rules start h.course placed (h.text ++ more) = record { passed = passed; left = left; state = h.state; text = h.text; more = more; split = split; printed = h.printed; prefix = prefix; out_is = refl } in
+    let whole = begun-completed files rules start h.course placed (h.text ++ more) begun in record {
       course = whole.whole_course;
-      whole = whole.whole;
-      lawful = whole.lawful;
+      whole = whole.whole ++ waiting_text whole.state;
+      lawful = lawful-whole files rules start h.course placed h.state.log (h.text ++ more) whole;
       text = h.text ++ more;
       prefix = whole.prefix;
       written_is = is ∙ ap Some (append_assoc before h.text more);

@@ -5,6 +5,7 @@ use Rattle.std.specs.Option.{option_map_or}
 use Rattle.std.proofs.Math.Nat.{max-le}
 use Rattle.std.proofs.lemmas.Grind.{flat_map-append}
 use Rattle.std.proofs.lemmas.List.{append-nil, take_all}
+use mathlib.Core.List.{IsPrefix}
 use Rattle.kb_edges.specs.Faults.{RoseBy}
 use Rattle.kb_edges.specs.Files.{File}
 use Rattle.query_script.specs.declared.statement.PlacedSearch.{PlacedSearch}
@@ -16,7 +17,7 @@ use Rattle.session_core.specs.Answers.{IsAnswer, IsSearched, View, boxes_text}
 use Rattle.node_position.specs.Games.{Game}
 use Rattle.import_work.specs.Course.{Finding, ImportCourse, IsImported, losses_of, trees_in}
 use Rattle.serial_run.specs.Lawful.{AreSearched, IsNamed, IsPassed, IsStatementText, Rules, State, after_import, report_printed, last_of, view_at, waiting_text, with_boxes, with_floor}
-use Rattle.import_work.specs.Log.{games_in, segments_of}
+use Rattle.import_work.specs.Log.{Segment, games_in, segments_of}
 use Rattle.import_work.specs.Outcome.{counts_of}
 use Rattle.serial_run.specs.Steps.{AreAnswered, AreAnsweredFrom, IsKept, IsNoImport, IsTextTo, Kept, LeadsOn, LeavesBase, kept_report, view_of}
 use Rattle.serial_run.specs.Texts.{report_text}
@@ -208,6 +209,25 @@ log_kept rules files s next line statement.Doubles used text not of = ap (λ (t 
 log_kept rules files s next line (statement.Game number) used text not of = ap (λ (t : State). t.log) of.5
 log_kept rules files s next line statement.Report used text not of = ap (λ (t : State). t.log) of.2
 log_kept rules files s next line (statement.Retire name) used text not of = ap (λ (t : State). t.log) of.3
+
+-- it is the same, so one begins with the other
+pub same_begins : (log now : List Segment) → now ≡ log → IsPrefix log now
+same_begins log now same = ([], append-nil log ∙ sym same)
+
+-- the log behind a statement begins with the one before it
+pub log_grows : (rules : Rules) (files : List File) (s next : State) (line : ℕ) (own : Statement) (used : List ImportCourse) (text : List ℕ) → IsPassed files rules s line own used text next → IsPrefix s.log next.log
+log_grows rules files s next line (statement.Import path) used text of = (segments_of rules.batch of.1, sym (ap (λ (t : State). t.log) of.5))
+log_grows rules files s next line statement.Wait used text of = same_begins s.log next.log (log_kept rules files s next line statement.Wait used text tt of)
+log_grows rules files s next line (statement.Until number) used text of = same_begins s.log next.log (log_kept rules files s next line (statement.Until number) used text tt of)
+log_grows rules files s next line (statement.Together searches) used text of = same_begins s.log next.log (log_kept rules files s next line (statement.Together searches) used text tt of)
+log_grows rules files s next line (statement.Search query filter) used text of = same_begins s.log next.log (log_kept rules files s next line (statement.Search query filter) used text tt of)
+log_grows rules files s next line (statement.Kept query) used text of = same_begins s.log next.log (log_kept rules files s next line (statement.Kept query) used text tt of)
+log_grows rules files s next line (statement.Signature pattern) used text of = same_begins s.log next.log (log_kept rules files s next line (statement.Signature pattern) used text tt of)
+log_grows rules files s next line statement.Players used text of = same_begins s.log next.log (log_kept rules files s next line statement.Players used text tt of)
+log_grows rules files s next line statement.Doubles used text of = same_begins s.log next.log (log_kept rules files s next line statement.Doubles used text tt of)
+log_grows rules files s next line (statement.Game number) used text of = same_begins s.log next.log (log_kept rules files s next line (statement.Game number) used text tt of)
+log_grows rules files s next line statement.Report used text of = same_begins s.log next.log (log_kept rules files s next line statement.Report used text tt of)
+log_grows rules files s next line (statement.Retire name) used text of = same_begins s.log next.log (log_kept rules files s next line (statement.Retire name) used text tt of)
 
 module _ (rules : Rules) (files : List File) (kept : Kept) (line : ℕ) (text : List ℕ) (before now : ℕ) (later : before ≤ now) where
   -- no import was made, and the same is kept, whatever the boxes tell

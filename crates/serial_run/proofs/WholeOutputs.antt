@@ -23,11 +23,11 @@ use Rattle.import_work.specs.Log.{Segment, games_at, games_in, segments_of}
 use Rattle.import_work.specs.Outcome.{counts_of}
 use Rattle.import_work.proofs.Losses.{losses_of-append}
 use Rattle.import_work.proofs.ImportsExist.{HasTree, import-found, imported-trees}
-use Rattle.serial_run.proofs.StatementLemmas.{floor-joined, floor-named, greatest-le, last_named}
+use Rattle.serial_run.proofs.StatementLemmas.{floor-joined, floor-named, greatest-le, last_named, log_grows}
 
 -- ---- prefixes
 
-prefix_behind : (text more whole : List ℕ) → IsPrefix more whole → IsPrefix (text ++ more) (text ++ whole)
+pub prefix_behind : (text more whole : List ℕ) → IsPrefix more whole → IsPrefix (text ++ more) (text ++ whole)
 prefix_behind text more whole p = (p.0, append_assoc text more p.0 ∙ ap (λ t. text ++ t) p.1)
 
 -- ---- states
@@ -141,91 +141,106 @@ module _ (files : List File) (rules : Rules) where
 
   -- where the boxes tell this at the start
   module _ (start : List BoxTally) where
-    -- a lawful output that begins with this text, by a course that loses no more
-    pub record IsCompleted (course : List ImportCourse) (placed : List Placed) (text : List ℕ) : Type 0 where
+    -- a lawful output that begins with this text, by a course that loses no more and whose log begins
+    -- with this one
+    pub record IsCompleted (course : List ImportCourse) (placed : List Placed) (log : List Segment) (text : List ℕ) : Type 0 where
       pub whole_course : List ImportCourse
+      pub state : State
       pub whole : List ℕ
-      pub lawful : IsLawful files rules start whole_course placed whole
-      pub prefix : IsPrefix text whole
+      pub printed : HasPrinted files rules start whole_course placed state whole
+      pub prefix : IsPrefix text (whole ++ waiting_text state)
       pub losses : losses_of whole_course ≡ losses_of course
+      pub grows : IsPrefix log state.log
 
-    -- a course by which nothing more was lost
-    earlier : (course more : List ImportCourse) (placed : List Placed) (text : List ℕ) → losses_of more ≡ 0 → IsCompleted (course ++ more) placed text → IsCompleted course placed text
-    earlier course more placed text none h = record {
+    -- the output
+    pub lawful-whole : (course : List ImportCourse) (placed : List Placed) (log : List Segment) (text : List ℕ) (h : IsCompleted course placed log text) → IsLawful files rules start h.whole_course placed (h.whole ++ waiting_text h.state)
+    lawful-whole course placed log text h = (h.state, h.whole, h.printed, refl)
+
+    -- a course by which nothing more was lost, and a log that has grown
+    earlier : (course more : List ImportCourse) (placed : List Placed) (log now : List Segment) (text : List ℕ) → losses_of more ≡ 0 → IsPrefix log now → IsCompleted (course ++ more) placed now text → IsCompleted course placed log text
+    earlier course more placed log now text none longer h = record {
       whole_course = h.whole_course;
+      state = h.state;
       whole = h.whole;
-      lawful = h.lawful;
+      printed = h.printed;
       prefix = h.prefix;
       losses = omega (arith, h.losses, losses_of-append course more, none);
+      grows = prefix_trans log now h.state.log longer h.grows;
     }
 
     -- a prefix of such a text
-    cut : (course : List ImportCourse) (placed : List Placed) (text whole : List ℕ) → IsPrefix text whole → IsCompleted course placed whole → IsCompleted course placed text
-    cut course placed text whole prefix h = record {
+    pub cut : (course : List ImportCourse) (placed : List Placed) (log : List Segment) (text whole : List ℕ) → IsPrefix text whole → IsCompleted course placed log whole → IsCompleted course placed log text
+    cut course placed log text whole prefix h = record {
       whole_course = h.whole_course;
+      state = h.state;
       whole = h.whole;
-      lawful = h.lawful;
-      prefix = prefix_trans text whole h.whole prefix h.prefix;
+      printed = h.printed;
+      prefix = prefix_trans text whole (h.whole ++ waiting_text h.state) prefix h.prefix;
       losses = h.losses;
+      grows = h.grows;
     }
 
     -- the closing report is written
-    closed : (course : List ImportCourse) (placed : List Placed) (s : State) (text : List ℕ) → HasPrinted files rules start course placed s text → IsCompleted course placed (text ++ waiting_text s)
+    closed : (course : List ImportCourse) (placed : List Placed) (s : State) (text : List ℕ) → HasPrinted files rules start course placed s text → IsCompleted course placed s.log (text ++ waiting_text s)
     closed course placed s text printed = record {
       whole_course = course;
-      whole = text ++ waiting_text s;
-      lawful = (s, text, printed, refl);
+      state = s;
+      whole = text;
+      printed = printed;
       prefix = prefix_same (text ++ waiting_text s);
       losses = refl;
+      grows = prefix_same s.log;
     }
 
     -- a statement is passed with this text, and then the rest
-    one-passed : (p : Placed) (left : List Placed) (course used : List ImportCourse) (placed : List Placed) (text : List ℕ) → losses_of used ≡ 0 → IsCompleted (course ++ used) ((placed ++ p ∷ []) ++ left) text → IsCompleted course (placed ++ p ∷ left) text
-    one-passed p left course used placed text none h =
-        earlier course used (placed ++ p ∷ left) text none
-        (subst (λ ps. IsCompleted (course ++ used) ps text) (append_assoc placed (p ∷ []) left) h)
+    one-passed : (p : Placed) (left : List Placed) (course used : List ImportCourse) (placed : List Placed) (s next : State) (before text : List ℕ) → IsPassed files rules s p.line p.statement used before next → losses_of used ≡ 0 → IsCompleted (course ++ used) ((placed ++ p ∷ []) ++ left) next.log text → IsCompleted course (placed ++ p ∷ left) s.log text
+    one-passed p left course used placed s next before text is none h =
+        earlier course used (placed ++ p ∷ left) s.log next.log text none (log_grows rules files s next p.line p.statement used before is)
+        (subst (λ ps. IsCompleted (course ++ used) ps next.log text) (append_assoc placed (p ∷ []) left) h)
 
     -- the statements that are left are passed, and the closing report is written
-    completed : (left : List Placed) (course : List ImportCourse) (placed : List Placed) (s : State) (text : List ℕ) → IsReached s → HasPrinted files rules start course placed s text → IsCompleted course (placed ++ left) text
-    completed [] course placed s text h printed =
-        subst (λ ps. IsCompleted course ps text) (sym (append-nil placed))
-        (cut course placed text (text ++ waiting_text s) (waiting_text s, refl) (closed course placed s text printed))
-    completed (p ∷ left) course placed s text h printed =
+    completed-from : (left : List Placed) (course : List ImportCourse) (placed : List Placed) (s : State) (text : List ℕ) → IsReached s → HasPrinted files rules start course placed s text → IsCompleted course (placed ++ left) s.log text
+    completed-from [] course placed s text h printed =
+        subst (λ ps. IsCompleted course ps s.log text) (sym (append-nil placed))
+        (cut course placed s.log text (text ++ waiting_text s) (waiting_text s, refl) (closed course placed s text printed))
+    completed-from (p ∷ left) course placed s text h printed =
         let (more, passes) = statement-passes s p.line p.statement h in
         let (used, next, is, none) = passes in
-        cut course (placed ++ p ∷ left) text (text ++ more) (more, refl)
-        (one-passed p left course used placed (text ++ more) none
-        (completed left (course ++ used) (placed ++ p ∷ []) next (text ++ more)
+        cut course (placed ++ p ∷ left) s.log text (text ++ more) (more, refl)
+        (one-passed p left course used placed s next more (text ++ more) is none
+        (completed-from left (course ++ used) (placed ++ p ∷ []) next (text ++ more)
         (passed-on s next p.line p.statement used more h is)
         (HasPrinted.one_more used p next more printed is)))
 
+    pub completed : (left : List Placed) (course : List ImportCourse) (placed : List Placed) (s : State) (text : List ℕ) → HasPrinted files rules start course placed s text → IsCompleted course (placed ++ left) s.log text
+    completed left course placed s text printed = completed-from left course placed s text (reached start course placed s text printed) printed
+
     -- statements have a lawful output by which nothing is lost
-    whole-output : (placed : List Placed) → IsCompleted [] placed []
-    whole-output placed = completed placed [] [] (at_start start) [] (reached start [] [] (at_start start) [] HasPrinted.nothing) HasPrinted.nothing
+    pub whole-output : (placed : List Placed) → IsCompleted [] placed [] []
+    whole-output placed = completed placed [] [] (at_start start) [] HasPrinted.nothing
 
     -- what is written next is a prefix
-    begun-next : (left : List Placed) (course : List ImportCourse) (placed : List Placed) (s : State) (text more : List ℕ) → HasPrinted files rules start course placed s text → IsNextPrefix files rules s left more → IsCompleted course (placed ++ left) (text ++ more)
+    pub begun-next : (left : List Placed) (course : List ImportCourse) (placed : List Placed) (s : State) (text more : List ℕ) → HasPrinted files rules start course placed s text → IsNextPrefix files rules s left more → IsCompleted course (placed ++ left) s.log (text ++ more)
     begun-next [] course placed s text more printed prefix =
-        subst (λ ps. IsCompleted course ps (text ++ more)) (sym (append-nil placed))
-        (cut course placed (text ++ more) (text ++ waiting_text s) (prefix_behind text more (waiting_text s) prefix) (closed course placed s text printed))
+        subst (λ ps. IsCompleted course ps s.log (text ++ more)) (sym (append-nil placed))
+        (cut course placed s.log (text ++ more) (text ++ waiting_text s) (prefix_behind text more (waiting_text s) prefix) (closed course placed s text printed))
     begun-next (p ∷ left) course placed s text more printed (inl none) =
-        subst (IsCompleted course (placed ++ p ∷ left)) (sym (ap (λ t. text ++ t) none ∙ append-nil text))
-        (completed (p ∷ left) course placed s text (reached start course placed s text printed) printed)
+        subst (IsCompleted course (placed ++ p ∷ left) s.log) (sym (ap (λ t. text ++ t) none ∙ append-nil text))
+        (completed (p ∷ left) course placed s text printed)
     begun-next (p ∷ left) course placed s text more printed (inr (whole, of, prefix)) =
         let (used, next, is, none) = text-passes s p.line p.statement whole of in
-        cut course (placed ++ p ∷ left) (text ++ more) (text ++ whole) (prefix_behind text more whole prefix)
-        (one-passed p left course used placed (text ++ whole) none
+        cut course (placed ++ p ∷ left) s.log (text ++ more) (text ++ whole) (prefix_behind text more whole prefix)
+        (one-passed p left course used placed s next whole (text ++ whole) is none
         (completed left (course ++ used) (placed ++ p ∷ []) next (text ++ whole)
-        (passed-on s next p.line p.statement used whole (reached start course placed s text printed) is)
         (HasPrinted.one_more used p next whole printed is)))
 
     -- a begun text is a prefix of a lawful output
-    pub begun-completed : (course : List ImportCourse) (placed : List Placed) (out : List ℕ) → IsBegun files rules start course placed out → IsCompleted course placed out
+    pub begun-completed : (course : List ImportCourse) (placed : List Placed) (out : List ℕ) (b : IsBegun files rules start course placed out) → IsCompleted course placed b.state.log out
     begun-completed course placed out b =
-        subst (λ ps. IsCompleted course ps out) (sym b.split)
-        (subst (IsCompleted course (b.passed ++ b.left)) (sym b.out_is)
+        subst (λ ps. IsCompleted course ps b.state.log out) (sym b.split)
+        (subst (IsCompleted course (b.passed ++ b.left) b.state.log) (sym b.out_is)
         (begun-next b.left course b.passed b.state b.text b.more b.printed b.prefix))
 
 pub output-found : (files : List File) (rules : Rules) (boxes : List BoxTally) (placed : List Placed) → (course : List ImportCourse) × (out : List ℕ) × IsLawful files rules boxes course placed out × (losses_of course ≡ 0)
 output-found files rules boxes placed =
-    let h = whole-output files rules boxes placed in (h.whole_course, h.whole, h.lawful, h.losses)
+    let h = whole-output files rules boxes placed in (h.whole_course, h.whole ++ waiting_text h.state, lawful-whole files rules boxes [] placed [] [] h, h.losses)

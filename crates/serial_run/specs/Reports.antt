@@ -1,4 +1,4 @@
--- The text of a report, by what it tells: words of the private functions.
+-- The text of a report, by what it tells.
 use Rattle.std.specs.Prelude.{ℕ, List}
 use Rattle.import_work.specs.Batches.{games_told, line_reports}
 use Rattle.import_work.specs.declared.report.ReportBody.{ReportBody}

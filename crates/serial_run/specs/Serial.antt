@@ -52,7 +52,7 @@ pub record PrintsPrefix (words : List (List ℕ)) (boxes : List BoxTally) (scrip
   pub prefix :
       WritesPrefix (serial_rules read.batch) files boxes placed before written faults_before faults_now
 
--- the run ended before the first statement
+-- the run ended before the first statement, and not for want of memory
 abbrev pub IsEarly : Status → Type 0
 IsEarly status.BadWords = Unit {0}
 IsEarly status.ScriptUnread = Unit {0}

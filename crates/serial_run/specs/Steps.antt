@@ -1,4 +1,4 @@
--- A run so far, and one statement of it: words of the private functions.
+-- What is kept of a state, the text of one statement by it and where it leads, and a run so far.
 use Rattle.std.specs.Prelude.{◌≡◌, ◌⊎◌, ℕ, ◌≤◌, List, [], ◌∷◌, ◌++◌, map, Option, Some, None}
 use Rattle.std.specs.Option.{option_map_or}
 use mathlib.Core.List.{IsPrefix}

@@ -3,9 +3,9 @@
 //!
 //! Stands on session_core, hit_collectors, import_segments, import_work, search_engine, query_script,
 //! segment_store, version_publisher, node_position, sgf_reader, kb_edges, kb_geometry and the library
-//! bstr. In `specs/` are the script that is too long, the printed report of an import, and the lawful
-//! outputs; what becomes of the files of an import, and the course of imports, are words of
-//! import_work. The layer above uses that [`run_serial`] writes a lawful output where it is done and a
+//! bstr. In `specs/` are the script that is too long, the printed report of an import, the lawful
+//! outputs, and one statement of a run by what is kept of it; what becomes of the files of an import,
+//! and the course of imports, are words of import_work. The layer above uses that [`run_serial`] writes a lawful output where it is done and a
 //! prefix of one where it stops, and that [`Standing`] tells the text of each statement.
 #![tactic(auto)]
 

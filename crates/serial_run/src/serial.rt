@@ -1,4 +1,4 @@
-// The top call, which runs one statement after another.
+// A whole run, one statement after another.
 ghost use Rattle.std.specs.Prelude.{
   ◌≡◌,
   ◌≢◌,
@@ -121,7 +121,8 @@ pub fn run_serial<R: Threads + Sync, F: Folder, S: Source, K: Sink>(
     ensures script_later { S.faults script.old ≤ S.faults script.new }
     ensures sink_later { K.faults out.old ≤ K.faults out.new }
 
-    // Before the first statement nothing is written, and the folder isn't asked.
+    // Before the first statement nothing is written, and the folder isn't asked, where the run didn't
+    // end for want of memory.
     ensures nothing_written { IsEarly result.0 → K.written out.new ≡ K.written out.old }
     ensures nothing_asked { IsEarly result.0 → result.1 ≡ folder }
 {

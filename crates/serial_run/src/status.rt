@@ -15,10 +15,8 @@ pub enum Status {
     BadWords,
     /// The script could not be read. Nothing was imported or written.
     ScriptUnread,
-    /// The output could not be written. Of [`run_serial`](crate::run_serial) a contract says that what
-    /// was written is a prefix of a lawful output.
+    /// The output could not be written. What was written is a prefix of a lawful output.
     SinkFault,
-    /// Want of memory. Of [`run_serial`](crate::run_serial) a contract says that what was written is a
-    /// prefix of a lawful output, or nothing was written.
+    /// Want of memory. What was written is a prefix of a lawful output, or nothing was written.
     NoMemory,
 }

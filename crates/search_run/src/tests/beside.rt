@@ -10,14 +10,15 @@ use std::sync::Wait;
 use std::test::Fail;
 use std::thread::Threads;
 
-// A run with a base: how it ended, and the number of the publisher that came back.
-fn run_base<R: Threads + Wait + Abort + Clone + Drop + Send + Sync + 'static>(
+// A run with a base and these boxes: how it ended, and the number of the publisher that came back.
+pub(super) fn run_boards<R: Threads + Wait + Abort + Clone + Drop + Send + Sync + 'static>(
     rt: &R,
     alloc: Global,
     words: &str,
     files: Vec<FileEntry>,
     script: &str,
     faults: Faults<'_>,
+    boards: Vec<Box<dyn Collector>>,
 ) -> Result<(Ended, u64), Fail> {
     let words = words_in(alloc, words)?;
     let folder = MemoryFolder::new(files, faults.folder.to_vec(alloc)?);
@@ -26,7 +27,6 @@ fn run_base<R: Threads + Wait + Abort + Clone + Drop + Send + Sync + 'static>(
         faults.source.to_vec(alloc)?,
     );
     let mut sink = MemorySink::new(Vec::new(alloc), faults.sink.to_vec(alloc)?);
-    let boards: Vec<Box<dyn Collector>> = Vec::new(alloc);
     let base = Base::open(rt, alloc)?;
     let (status, folder, publisher) = run(
         rt,
@@ -54,6 +54,18 @@ fn run_base<R: Threads + Wait + Abort + Clone + Drop + Send + Sync + 'static>(
         files: folder.files().len(),
     };
     Ok((ended, number))
+}
+
+// A run without boxes.
+fn run_base<R: Threads + Wait + Abort + Clone + Drop + Send + Sync + 'static>(
+    rt: &R,
+    alloc: Global,
+    words: &str,
+    files: Vec<FileEntry>,
+    script: &str,
+    faults: Faults<'_>,
+) -> Result<(Ended, u64), Fail> {
+    run_boards(rt, alloc, words, files, script, faults, Vec::new(alloc))
 }
 
 // Each script over its files, with what is written and the number of the publisher that comes back.

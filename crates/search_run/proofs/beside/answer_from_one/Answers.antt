@@ -1,8 +1,10 @@
-use Rattle.std.proofs.Common.{arith, subst}
-use Rattle.search_run.specs.Beside.{Reaches}
+use Rattle.std.proofs.Common.{[], ℕ, ◌∷◌, arith, subst}
+use Rattle.search_run.specs.Beside.{Reaches, StopsBeside}
 use Rattle.search_run.specs.Seen.{HaveSeen}
 use Rattle.search_run.proofs.BesideLemmas.{goes-on}
 use Rattle.search_run.proofs.SeenLemmas.{prefix_length, seen_before}
+use Rattle.serial_run.proofs.RunLemmas.{after_error}
+use Rattle.search_run.proofs.StoppedRuns.{stops-none, stops-one}
 use Rattle.search_run.proofs.beside.answer_from_one.Goals as goal
 
 pub returns-in_err-version-clause-seen : goal.returns-in_err-version-clause-seen
@@ -36,3 +38,31 @@ returns-clause-answered g c = λ before written. λ batch.
           (subst (Reaches c.args.placed.now.statement) of.number reaches) c.in_ok-text.ensures;
       written_is = rw c.deref.ensures.value at (c.in_ok-write_all.ensures.whole before written);
     }
+
+pub returns-in_err-version-clause-stopped : goal.returns-in_err-version-clause-stopped
+returns-in_err-version-clause-stopped g c = λ before written.
+    let stops : (batch : ℕ) → StopsBeside batch (HaveSeen c.args.searchers.now.own c.args.searchers.now.block.items) c.args.held.number c.args.session.now (c.args.placed.now ∷ []) (HaveSeen c.version_for.new.searchers.own c.version_for.new.searchers.block.items) before (g.K.Sink.written c.args.out.now) = λ batch. stops-none batch _ _ _ _ _ before _ (seen_before _ _ _ _ c.version_for.ensures.grows c.version_for.ensures.block) written in
+    after_error _ _ stops
+
+pub returns-in_err-text-clause-stopped : goal.returns-in_err-text-clause-stopped
+returns-in_err-text-clause-stopped g c = λ before written.
+    let stops : (batch : ℕ) → StopsBeside batch (HaveSeen c.args.searchers.now.own c.args.searchers.now.block.items) c.args.held.number c.args.session.now (c.args.placed.now ∷ []) (HaveSeen c.version_for.new.searchers.own c.version_for.new.searchers.block.items) before (g.K.Sink.written c.args.out.now) = λ batch. stops-none batch _ _ _ _ _ before _ (seen_before _ _ _ _ c.version_for.ensures.grows c.version_for.ensures.block) written in
+    after_error _ _ stops
+
+pub returns-in_err-write_all-clause-stopped : goal.returns-in_err-write_all-clause-stopped
+returns-in_err-write_all-clause-stopped g c = λ before written.
+    let own = c.args.searchers.now.own in
+    let block = c.args.searchers.now.block.items in
+    let own_now = c.version_for.new.searchers.own in
+    let block_now = c.version_for.new.searchers.block.items in
+    let of = rw c.in-Some.is at c.in_ok-version.ensures.version in
+    let reaches = rw c.in-Some.is at c.in_ok-version.ensures.reaches in
+    let grows = c.version_for.ensures.grows in
+    let longer = prefix_length own.seen own_now.seen grows in
+    let text = c.in_ok-text.text.items in
+    let part = rw c.deref.ensures.value at (c.in_err-write_all.ensures.part before written) in
+    let stops : (batch : ℕ) → StopsBeside batch (HaveSeen own block) c.args.held.number c.args.session.now (c.args.placed.now ∷ []) (HaveSeen own_now block_now) before (g.K.Sink.written c.write_all.new.out) = λ batch. stops-one batch (HaveSeen own block) (HaveSeen own_now block_now) c.args.held.number c.in-Some.version.number c.args.session.now c.version_text.new.session c.args.placed.now text part.0 before _
+    (goes-on batch (HaveSeen own block) (HaveSeen own_now block_now) c.args.held.number c.args.session.now c.version_text.new.session c.args.placed.now text c.in-Some.version own_now.seen
+    (seen_before own own_now block block_now grows c.version_for.ensures.block) (λ log seen. seen.own_seen) of (omega (arith, c.requires.held.number, longer)) (rw c.in-Some.is at c.in_ok-version.ensures.leaves)
+    (subst (Reaches c.args.placed.now.statement) of.number reaches) c.in_ok-text.ensures) part.1 part.2 in
+    after_error _ _ stops

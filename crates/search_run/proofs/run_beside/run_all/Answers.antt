@@ -1,6 +1,8 @@
-use Rattle.std.proofs.Common.{◌+◌, ◌∙◌, arith, refl, take}
+use Rattle.std.proofs.Common.{◌+◌, ◌∙◌, arith, refl, subst, take}
 use Rattle.std.proofs.lemmas.List.{length-drop, take_all}
 use Rattle.search_run.specs.Run.{beside_rules}
+use Rattle.search_run.specs.Stopped.{WritesPublishedPrefix}
+use Rattle.search_run.proofs.StoppedRuns.{taken_apart}
 use Rattle.search_run.proofs.JoinedRuns.{rose_since, stands-first, starts-run, taken_with}
 use Rattle.search_run.proofs.run_beside.run_all.Goals as goal
 
@@ -41,3 +43,15 @@ returns-in-Err-clause-sink_fault g c = λ is.
 
 pub returns-clause-ran : goal.returns-clause-ran
 returns-clause-ran g c = λ files told before written. rw (← take_all c.loop-next.next c.args.placed.now (omega (arith, c.loop-next-test.false))) (c.loop-next.invariant.ran files told before written)
+
+pub returns-in-Err-clause-stopped : goal.returns-in-Err-clause-stopped
+returns-in-Err-clause-stopped g c = λ files told before written.
+    let h = c.loop-next.invariant in
+    let placed = c.args.placed.now in
+    let i = c.loop-next.next in
+    let p = c.index-placed-next.result in
+    let back = c.run_next-passed.result.tools in
+    let stop = rw c.in-Err.is at (c.run_next-passed.ensures.stopped files (h.same ∙ told)) in
+    subst (λ ps. WritesPublishedPrefix (beside_rules c.args.batch) files c.args.session.now ps before (g.K.Sink.written c.run_next-passed.new.out) (g.F.Folder.faults c.args.tools.folder) (g.F.Folder.faults back.folder) back.carried.publisher.log)
+    (taken_apart placed i p c.loop-next-test.true c.index-placed-next.is)
+    (stop c.args.session.now (take i placed) before (g.F.Folder.faults c.args.tools.folder) (h.ran files told before written))

@@ -7,7 +7,11 @@ use Rattle.search_run.specs.Beside.{EndsWith, HasAnsweredAll}
 use Rattle.import_segments.specs.Publishing.{IsIdle}
 use Rattle.search_run.specs.Seen.{HaveSeen}
 use Rattle.serial_run.specs.Steps.{kept_report}
+use Rattle.search_run.specs.Run.{beside_rules}
+use Rattle.serial_run.proofs.RunLemmas.{after_error}
 use Rattle.search_run.proofs.JoinedRuns.{joined-run, ok_both}
+use Rattle.search_run.proofs.SeenLemmas.{seen_longer}
+use Rattle.search_run.proofs.StoppedRuns.{import-stopped, joined-stopped, stops-either}
 use Rattle.search_run.proofs.run_beside.run_import.Goals as goal
 
 pub returns-clause-ran : goal.returns-clause-ran
@@ -36,3 +40,22 @@ returns-clause-stands g c =
       version = j.version;
       games = j.games;
     })
+
+pub returns-in-Err-clause-stopped : goal.returns-in-Err-clause-stopped
+returns-in-Err-clause-stopped g c = λ files told. λ start done before first h.
+    let part = c.in-Err.ensures.part (before ++ h.run.text) h.run.written_is in
+    import-stopped (beside_rules c.args.batch) files start c.args.session.now done c.args.standing c.args.tools.carried.publisher.log before _ _ first _ h c.args.line c.args.path.now c.args.rest.now part.0 part.1 part.2
+
+pub returns-clause-stopped : goal.returns-clause-stopped
+returns-clause-stopped g c = λ files told.
+    after_error c.join-outcome.result _ (λ start done before first h.
+    let at = c.args.searchers.now in
+    let now = c.import_beside-joined.new.searchers in
+    let ended = c.import_beside-joined.result.ended in
+    let publisher = ended.tools.carried.publisher in
+    let written = (before ++ h.run.text) ++ (kept_report c.args.standing ++ import_text c.args.line c.args.path.now) in
+    let wrote = c.in-Ok.ensures.written (before ++ h.run.text) h.run.written_is in
+    let stop = stops-either c.import_beside-joined.result.answered c.args.batch (HaveSeen at.own at.block.items) (HaveSeen now.own now.block.items) c.into_version-held.result.number c.args.session.now c.import_beside-joined.new.session c.args.rest.now written _
+    (c.import_beside-joined.ensures.answered written wrote) (c.import_beside-joined.ensures.stopped written wrote) in
+    joined-stopped files c.args.batch c.args.line c.args.path.now c.in-Ok.begun.0 c.args.standing c.args.tools.carried.publisher.log publisher.log first (g.F.Folder.faults c.args.tools.folder) (g.F.Folder.faults ended.tools.folder) c.in-Ok.ensures.order (c.import_beside-joined.ensures.ended.first files told) start done c.args.rest.now c.args.session.now before _ _ (HaveSeen at.own at.block.items) (HaveSeen now.own now.block.items) c.into_version-held.result.number h
+    (c.into_version-held.ensures.number ∙ c.requires.stands.version) stop (λ whole longer. seen_longer now.own now.block.items publisher.log whole longer c.join-outcome.ensures.seen))

@@ -1,9 +1,11 @@
 use Rattle.std.proofs.Common.{◌++◌, ◌∷◌, subst, take}
-use Rattle.std.proofs.lemmas.Result.{IfOk-weaker}
+use Rattle.std.proofs.lemmas.Result.{IfOk-weaker, on_err_weaker}
 use Rattle.query_script.specs.declared.statement.Placed.{Placed}
 use Rattle.search_run.specs.Beside.{HasRunTo}
 use Rattle.search_run.specs.Run.{beside_rules}
+use Rattle.search_run.specs.Stopped.{WritesPublishedPrefix}
 use Rattle.search_run.proofs.JoinedRuns.{placed_as, still-ran}
+use Rattle.search_run.proofs.StoppedRuns.{still-stops}
 use Rattle.serial_run.proofs.StatementLemmas.{no-import}
 use Rattle.search_run.proofs.run_beside.run_next.Goals as goal
 
@@ -20,3 +22,16 @@ pub returns-in_default-clause-ran : goal.returns-in_default-clause-ran
 returns-in_default-clause-ran g c = λ files told.
     still-ran (beside_rules c.args.batch) files c.args.session.now c.answer_still-outcome.new.session c.args.placed.now c.args.rest.now c.args.standing c.args.tools.carried.publisher.log _ _ _ c.answer_still-outcome.result
     (no-import c.args.placed.now.statement c.in_default.not-Import) c.answer_still-outcome.ensures.passed c.answer_still-outcome.ensures.alone
+
+pub returns-in-Import-clause-stopped : goal.returns-in-Import-clause-stopped
+returns-in-Import-clause-stopped g c = λ files told.
+    let now = c.run_import.result in
+    on_err_weaker now.outcome (λ stopped. λ start done before first h.
+    subst (λ (p : Placed). WritesPublishedPrefix (beside_rules c.args.batch) files start (done ++ p ∷ c.args.rest.now) before (g.K.Sink.written c.run_import.new.out) first (g.F.Folder.faults now.tools.folder) now.tools.carried.publisher.log)
+    (placed_as c.args.placed.now c.in-Import.path c.in-Import.is)
+    ((rw c.as_str.ensures at stopped) start done before first h))
+    (c.run_import.ensures.stopped files told)
+
+pub returns-in_default-clause-stopped : goal.returns-in_default-clause-stopped
+returns-in_default-clause-stopped g c = λ files told.
+    still-stops (beside_rules c.args.batch) files c.args.session.now c.args.placed.now c.args.rest.now c.args.standing c.args.tools.carried.publisher.log _ _ _ c.answer_still-outcome.result c.answer_still-outcome.ensures.stopped

@@ -61,7 +61,8 @@ pub returns-in-Err-SinkFault-clause-stopped_with_base : goal.returns-in-Err-Sink
 returns-in-Err-SinkFault-clause-stopped_with_base g c = λ bytes files before told files_told written given some is.
     let both : Some given ≡ Some c.in-Some.base = sym some ∙ c.in-Some.is in
     let same : given ≡ c.in-Some.base = cc in
-    let serial = rw (c.in-Err-SinkFault.is, c.deref.ensures.value) at (c.run_base-ran.ensures.stopped files files_told before written) in (
+    let serial = rw (c.in-Err-SinkFault.is, c.deref.ensures.value) at (c.run_base-ran.ensures.stopped files files_told before written) in
+    let beside = rw (c.in-Err-SinkFault.is, c.deref.ensures.value) at (c.run_base-ran.ensures.stopped_beside files files_told before written) in (
       c.run_base-ran.result.2,
       refl,
       record {
@@ -70,6 +71,7 @@ returns-in-Err-SinkFault-clause-stopped_with_base g c = λ bytes files before to
         placed = c.in-Ok-read_statements.placed.items;
         spelled = c.in-Ok-read_statements.ensures.spelled bytes told;
         one_by_one = λ one. let wrote = serial one in (wrote.0, wrote.1 ∙ ap (λ (b : BaseState). b.publisher) (c.base.view_is ∙ sym same));
+        published = beside;
       },
     )
 
@@ -77,7 +79,8 @@ pub returns-clause-no_memory_with_base : goal.returns-clause-no_memory_with_base
 returns-clause-no_memory_with_base g c = λ bytes files before told files_told written given some is.
     let both : Some given ≡ Some c.in-Some.base = sym some ∙ c.in-Some.is in
     let same : given ≡ c.in-Some.base = cc in
-    let serial = rw (c.in-Err-NoMemory-ran.is, c.deref.ensures.value) at (c.run_base-ran.ensures.stopped files files_told before written) in inr (
+    let serial = rw (c.in-Err-NoMemory-ran.is, c.deref.ensures.value) at (c.run_base-ran.ensures.stopped files files_told before written) in
+    let beside = rw (c.in-Err-NoMemory-ran.is, c.deref.ensures.value) at (c.run_base-ran.ensures.stopped_beside files files_told before written) in inr (
       c.run_base-ran.result.2,
       refl,
       record {
@@ -86,5 +89,6 @@ returns-clause-no_memory_with_base g c = λ bytes files before told files_told w
         placed = c.in-Ok-read_statements.placed.items;
         spelled = c.in-Ok-read_statements.ensures.spelled bytes told;
         one_by_one = λ one. let wrote = serial one in (wrote.0, wrote.1 ∙ ap (λ (b : BaseState). b.publisher) (c.base.view_is ∙ sym same));
+        published = beside;
       },
     )
