@@ -1,2 +1,3 @@
+mod MergedParts
 mod PublishedSegments
 pub mod PushedSegments

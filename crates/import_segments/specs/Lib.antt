@@ -1,4 +1,5 @@
 -- Words that contracts of public functions rest on.
+pub mod Merged
 pub mod Publishing
 pub mod Stores
 -- Words of private functions.

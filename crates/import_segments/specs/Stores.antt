@@ -1,4 +1,4 @@
--- Segments that an import gives to a version: words of the private functions.
+-- Segments that an import gives to a version.
 use Rattle.std.specs.Prelude.{◌≡◌, ℕ, ◌+◌, ◌≤◌, ◌++◌, length, List}
 use Rattle.std.specs.declared.option.Option.{Option}
 use Rattle.kb_edges.specs.Files.{File}

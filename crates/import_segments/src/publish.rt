@@ -18,6 +18,7 @@ ghost use Rattle.version_publisher.specs.Contents.{items_in};
 ghost use Rattle.import_work.specs.Course.{trees_in};
 ghost use Rattle.import_work.specs.Imports.{IsListedIn};
 ghost use Rattle.import_work.specs.Outcome.{counts_of};
+ghost use Rattle.import_segments.specs.Merged.{AreMerged, MergesEach};
 ghost use Rattle.import_segments.specs.Publishing.{
   IsIdle,
   IsOpenedWith,
@@ -28,6 +29,7 @@ ghost use Rattle.import_segments.specs.Publishing.{
 ghost use Rattle.import_segments.specs.Published.{HasPublished, HasPublishedAll};
 ghost use Rattle.import_segments.specs.Stores.{HasFewGames};
 
+use crate::merging::merge_parts;
 use crate::receipts::{OpenName, Receipts};
 use import_work::{Import, Report};
 use kb_edges::{Folder, Gate};
@@ -40,11 +42,14 @@ use version_publisher::Publisher;
 
 /// Takes the segments of an import one after another, each of so many files, and publishes each as
 /// a version of its own. Before each the gate is asked, and behind each its receipt is left for the
-/// searches beside it. It may wait.
+/// searches beside it. Then the last two published parts are merged as long as the last has at
+/// least as many games as the one before it. Each merge is published, under the same number, and
+/// the gate isn't asked. It may wait.
 ///
 /// The import was opened with the number and with the games and nodes of the publisher's log, at
 /// which nothing may be pending, and has given no segment. The only error is `NoMemory`: then the
-/// log may have grown by the first of the import's segments, and one may be pending.
+/// log may have grown by the first of the import's segments, and a segment or a merge may be
+/// pending.
 pub fn publish_import<J: OpenName + Send + Sync, R: Threads + Wait + Sync, F: Folder, G: Gate>(
     rt: &R,
     alloc: Global,
@@ -66,6 +71,14 @@ pub fn publish_import<J: OpenName + Send + Sync, R: Threads + Wait + Sync, F: Fo
     ensures all { IfOk result (λ report. IsIdle publisher.new
         × PublishesAll (F.files folder.old) batch import publisher.old.log publisher.new.log report
         (F.faults folder.old) (F.faults folder.new)) }
+    ensures merged { IfOk result (λ _. length publisher.old.log < length publisher.new.log →
+        AreMerged publisher.new.parts) }
+    ensures as_before { publisher.new.log ≡ publisher.old.log →
+        publisher.new.parts ≡ publisher.old.parts }
+    ensures stays_merged { IfOk result (λ _. AreMerged publisher.old.parts →
+        AreMerged publisher.new.parts) }
+    ensures parts { IfOk result (λ _. MergesEach publisher.old.log publisher.new.log
+        publisher.old.parts publisher.new.parts) }
     ensures limits { IsWithinLimits publisher.old.log → IsWithinLimits publisher.new.log }
     ensures few { length publisher.new.log ≤ length publisher.old.log + length import.left }
     ensures opening { publisher.new.opening ≡ publisher.old.opening }
@@ -88,7 +101,7 @@ pub fn publish_import<J: OpenName + Send + Sync, R: Threads + Wait + Sync, F: Fo
     Ok(import.finish())
 }
 
-// Publishes the segments of an import, until none is left.
+// Publishes the segments of an import, until none is left, and merges parts behind each.
 fn publish_segments<J: OpenName + Send + Sync, R: Threads + Wait + Sync, F: Folder, G: Gate>(
     rt: &R,
     alloc: Global,
@@ -109,6 +122,10 @@ fn publish_segments<J: OpenName + Send + Sync, R: Threads + Wait + Sync, F: Fold
         publisher.new.log (F.faults folder.old) (F.faults folder.new) }
     ensures all { OnOk result (HasPublishedAll (F.files folder.old) batch import.old import.new
         publisher.old.log publisher.new.log (F.faults folder.old) (F.faults folder.new)) }
+    ensures parts { OnOk result (MergesEach publisher.old.log publisher.new.log
+        publisher.old.parts publisher.new.parts) }
+    ensures as_before { publisher.new.log ≡ publisher.old.log →
+        publisher.new.parts ≡ publisher.old.parts }
     ensures idle { OnOk result (IsIdle publisher.new) }
     ensures opening { publisher.new.opening ≡ publisher.old.opening }
     ensures same { F.files folder.new ≡ F.files folder.old }
@@ -116,6 +133,7 @@ fn publish_segments<J: OpenName + Send + Sync, R: Threads + Wait + Sync, F: Fold
 {
     while let Some(segment) = import.step(rt, alloc, folder, batch)? {
         publish_segment(rt, alloc, publisher, gate, receipts, segment)?;
+        merge_parts(rt, alloc, publisher)?;
     }
     Ok(())
 }
@@ -135,10 +153,14 @@ fn publish_segment<J: OpenName, R: Wait, G: Gate>(
     requires number { length publisher.old.log + 1 < 2 ^ 64 }
     requires room { length (items_in publisher.old.log) + length segment ≤ 400000 }
     ensures ok { OnOk result (IsIdle publisher.new
-        × (publisher.new.log ≡ publisher.old.log ++ segment ∷ [])) }
-    ensures refused { OnErr result (publisher.new.log ≡ publisher.old.log) }
+        × (publisher.new.log ≡ publisher.old.log ++ segment ∷ [])
+        × (publisher.new.parts ≡ publisher.old.parts ++ segment ∷ [])) }
+    ensures refused { OnErr result ((publisher.new.log ≡ publisher.old.log)
+        × (publisher.new.parts ≡ publisher.old.parts)) }
     ensures opening { publisher.new.opening ≡ publisher.old.opening }
 {
+    // What this tells besides is that the next publish shows the parts that are published now.
+    let _pending = publisher.has_pending();
     gate.hold(publisher.number() + 1);
     let part = Arc::new(alloc, segment)?;
     if let Err((_part, error)) = publisher.append(part) {

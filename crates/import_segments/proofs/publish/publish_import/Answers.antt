@@ -1,4 +1,5 @@
 use Rattle.std.proofs.Common.{ap}
+use Rattle.import_segments.proofs.MergedParts.{merged_after, merged_still}
 use Rattle.import_segments.proofs.PublishedSegments.{few_published, limits_kept, publishes_all, publishes_first}
 use Rattle.import_segments.proofs.publish.publish_import.Goals as goal
 
@@ -32,3 +33,9 @@ returns-clause-limits g c =
 pub returns-clause-few : goal.returns-clause-few
 returns-clause-few g c =
     few_published _ c.args.batch c.requires.batch.0 c.args.import _ _ _ _ c.requires.opened c.in_ok-publish_segments.ensures.published
+
+pub returns-clause-merged : goal.returns-clause-merged
+returns-clause-merged g c = merged_after _ _ _ _ c.in_ok-publish_segments.ensures.parts
+
+pub returns-clause-stays_merged : goal.returns-clause-stays_merged
+returns-clause-stays_merged g c = merged_still _ _ _ _ c.in_ok-publish_segments.ensures.parts
