@@ -12,6 +12,7 @@ use kb_edges::{OpenGate, RealFolder, RealSink, RealSource};
 use kb_geometry::NoMemory;
 use search_run::{Base, Status, run};
 use std::env;
+use std::io::ErrorKind;
 use std::process::ExitCode;
 use std::sync::Wait;
 use std::thread::Threads;
@@ -55,7 +56,10 @@ fn complain(rt: &impl Eprint, status: Status) {
 
 // The words of the command line without the program's name. Words that are no text are not lawful.
 fn words_of(rt: &HostRuntime) -> Result<Vec<String>, Status> {
-    let words = env::args(rt).map_err(|_| Status::BadWords)?;
+    let words = env::args(rt).map_err(|error| match error.kind() {
+        ErrorKind::OutOfMemory => Status::NoMemory,
+        _ => Status::BadWords,
+    })?;
     words
         .skip(1)
         .collect(rt.alloc())

@@ -23,6 +23,7 @@ use Rattle.import_work.proofs.GivenSegments.{adds_up}
 use Rattle.import_work.proofs.Losses.{loses}
 use Rattle.import_work.proofs.RoomLemmas.{length-trees}
 use Rattle.search_run.specs.Beside.{EndsWith, EndsWithFirst, Finds, HasEnded}
+use Rattle.import_segments.specs.Merged.{AreMerged}
 use Rattle.import_segments.specs.Publishing.{IsIdle, IsOpenedWith, IsWithinLimits, PublishesAll, PublishesFirst}
 use Rattle.serial_run.specs.Reports.{told_text}
 use Rattle.search_run.specs.declared.importer.Order.{Order}
@@ -114,14 +115,15 @@ module _ (told : Option (List File)) (order : Order) (some : 1 ≤ order.batch) 
 
   -- how it ends
   pub ended : (opening : Opening) (told_now : Option (List File)) (last : ℕ) (publisher : PublisherState Game) (result : Result Report NoMemory) → publisher.opening ≡ opening → length publisher.log ≤ length log + length start.left → IsWithinLimits publisher.log → told_now ≡ told → opened_at ≤ last →
-      PublishesFirst told order.batch start log publisher.log opened_at last → IfOk result (λ r. IsIdle publisher × PublishesAll told order.batch start log publisher.log r opened_at last) → HasEnded told first order opening log told_now last publisher result
-  ended opening told_now last publisher result opened few limits same after first_of all = record {
+      PublishesFirst told order.batch start log publisher.log opened_at last → IfOk result (λ r. IsIdle publisher × PublishesAll told order.batch start log publisher.log r opened_at last) → IfOk result (λ r. AreMerged publisher.parts) → HasEnded told first order opening log told_now last publisher result
+  ended opening told_now last publisher result opened few limits same after first_of all merged = record {
     opened = opened;
     few = omega (arith, few, few_left start.body start.left was.listed);
     limits = limits;
     same = same;
     later = omega (arith, was.later, after);
     idle = IfOk-weaker result _ _ (λ r h. h.0) all;
+    merged = merged;
     few_told = IfOk-weaker result _ _ (λ r h. few_games publisher.log last after r h.1 limits) all;
     ends = λ files here. IfOk-weaker result _ _ (λ r h. ends_all publisher.log last after r h.1 files here) all;
     first = ends_first publisher.log last after first_of;

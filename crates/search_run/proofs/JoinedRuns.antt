@@ -22,6 +22,7 @@ use Rattle.import_work.proofs.FileLemmas.{RoseBy-then}
 use Rattle.import_work.proofs.Losses.{losses_of-append}
 use Rattle.search_run.specs.Beside.{EndsWith, HasAnsweredAll, HasRunTo, IsJoined, IsOrdered, StandsStill}
 use Rattle.serial_run.specs.Lawful.{HasPrinted, Rules, waiting_text}
+use Rattle.import_segments.specs.Merged.{AreMerged}
 use Rattle.import_segments.specs.Publishing.{IsIdle, IsWithinLimits}
 use Rattle.search_run.specs.Run.{WritesPublished, beside_rules}
 use Rattle.serial_run.specs.Reports.{told_text}
@@ -108,8 +109,8 @@ pub placed_as : (p : Placed) (path : List ℕ) → p.statement ≡ statement.Imp
 placed_as p path is = λ i. record { line = p.line; statement = (sym is) i }
 
 -- the closing report is written
-pub WritesPublished-end : (rules : Rules) (files : List File) (start boxes : List BoxTally) (placed : List Placed) (kept : Kept) (publisher : PublisherState Game) (before : List ℕ) (between written : Option (List ℕ)) (first second : ℕ) (h : HasRunTo rules files start placed kept boxes publisher.log before between first second) → IsIdle publisher → written ≡ Some ((before ++ h.run.text) ++ kept_report kept) → WritesPublished rules files start placed before written first second publisher
-WritesPublished-end rules files start boxes placed kept publisher before between written first second h idle closed = record {
+pub WritesPublished-end : (rules : Rules) (files : List File) (start boxes : List BoxTally) (placed : List Placed) (kept : Kept) (publisher : PublisherState Game) (before : List ℕ) (between written : Option (List ℕ)) (first second : ℕ) (h : HasRunTo rules files start placed kept boxes publisher.log before between first second) → IsIdle publisher → AreMerged publisher.parts → written ≡ Some ((before ++ h.run.text) ++ kept_report kept) → WritesPublished rules files start placed before written first second publisher
+WritesPublished-end rules files start boxes placed kept publisher before between written first second h idle merged closed = record {
   course = h.run.course;
   text = h.run.text;
   state = h.run.state;
@@ -119,15 +120,17 @@ WritesPublished-end rules files start boxes placed kept publisher before between
   nothing_lost = no_loss (losses_of h.run.course) first second h.run.paid;
   log = sym h.log_is;
   idle = idle;
+  merged = merged;
 }
 
 -- ---- a run from its start
 
 -- the run stands still where nothing is published yet
-pub stands-first : (opening : Opening) (publisher : PublisherState Game) (own : SearcherState Game) → publisher.opening ≡ opening → IsIdle publisher → publisher.log ≡ [] → own.seen ≡ [] → StandsStill opening publisher own nothing_kept
-stands-first opening publisher own opened idle empty seen = record {
+pub stands-first : (opening : Opening) (publisher : PublisherState Game) (own : SearcherState Game) → publisher.opening ≡ opening → IsIdle publisher → AreMerged publisher.parts → publisher.log ≡ [] → own.seen ≡ [] → StandsStill opening publisher own nothing_kept
+stands-first opening publisher own opened idle merged empty seen = record {
   opened = opened;
   idle = idle;
+  merged = merged;
   limits = subst IsWithinLimits (sym empty) (omega arith, omega arith);
   own_seen = seen ∙ sym empty;
   version = sym (ap length empty);
@@ -168,10 +171,10 @@ on_ok (Ok x) P Q p f = f p
 on_ok (Err e) P Q p f = tt
 
 -- all statements were run, and the closing report is written
-pub closed-run : {T E : Type 0} (outcome : Result (Kept × ℕ) E) (result : Result T E) (rules : Rules) (files : List File) (start boxes : List BoxTally) (placed : List Placed) (publisher : PublisherState Game) (before : List ℕ) (was written : Option (List ℕ)) (first second : ℕ) → IfOk outcome (λ r. HasRunTo rules files start placed r.0 boxes publisher.log before was first second) → IfOk outcome (λ r. IsIdle publisher) →
+pub closed-run : {T E : Type 0} (outcome : Result (Kept × ℕ) E) (result : Result T E) (rules : Rules) (files : List File) (start boxes : List BoxTally) (placed : List Placed) (publisher : PublisherState Game) (before : List ℕ) (was written : Option (List ℕ)) (first second : ℕ) → IfOk outcome (λ r. HasRunTo rules files start placed r.0 boxes publisher.log before was first second) → IfOk outcome (λ r. IsIdle publisher) → IfOk outcome (λ r. AreMerged publisher.parts) →
     ((value : List ℕ) → was ≡ Some value → OnOk result (IfOk outcome (λ r. written ≡ Some (value ++ kept_report r.0)))) → OnOk result (IsOk outcome) → OnOk result (WritesPublished rules files start placed before written first second publisher)
-closed-run (Ok r) result rules files start boxes placed publisher before was written first second h idle whole ok =
+closed-run (Ok r) result rules files start boxes placed publisher before was written first second h idle merged whole ok =
     on_ok result (written ≡ Some ((before ++ h.run.text) ++ kept_report r.0)) (WritesPublished rules files start placed before written first second publisher) (whole (before ++ h.run.text) h.run.written_is)
-    (λ closed. WritesPublished-end rules files start boxes placed r.0 publisher before was written first second h idle closed)
-closed-run (Err e) (Ok x) rules files start boxes placed publisher before was written first second h idle whole ok = absurd (cc ok)
-closed-run (Err e) (Err f) rules files start boxes placed publisher before was written first second h idle whole ok = tt
+    (λ closed. WritesPublished-end rules files start boxes placed r.0 publisher before was written first second h idle merged closed)
+closed-run (Err e) (Ok x) rules files start boxes placed publisher before was written first second h idle merged whole ok = absurd (cc ok)
+closed-run (Err e) (Err f) rules files start boxes placed publisher before was written first second h idle merged whole ok = tt

@@ -22,6 +22,7 @@ use Rattle.import_work.specs.Log.{Segment, games_in, segments_of}
 use Rattle.import_work.specs.Outcome.{counts_of}
 use Rattle.import_work.specs.declared.report.Report.{Report}
 use Rattle.serial_run.specs.Lawful.{HasPrinted, Rules, State}
+use Rattle.import_segments.specs.Merged.{AreMerged}
 use Rattle.import_segments.specs.Publishing.{IsIdle, IsWithinLimits}
 use Rattle.serial_run.specs.Reports.{told_text}
 use Rattle.search_run.specs.Run.{beside_rules}
@@ -105,6 +106,7 @@ pub record HasEnded (told : Option (List File)) (faults_before : ℕ) (order : O
   pub same : told_now ≡ told
   pub later : faults_before ≤ faults_now
   pub idle : IfOk report (λ r. IsIdle publisher)
+  pub merged : IfOk report (λ r. AreMerged publisher.parts)
   pub few_told : IfOk report (λ r. games_told (line_reports (lines_in r.body)) ≤ 400000)
   pub ends : IfTold told (λ files. IfOk report
       (EndsWith files order log publisher.log faults_before faults_now))
@@ -120,12 +122,13 @@ pub record HasRunTo (rules : Rules) (files : List File) (start : List BoxTally)
   pub run : HasRun rules files start placed kept boxes before written faults_before faults_now
   pub log_is : run.state.log ≡ log
 
--- Where a run stands while no import is under way: the publisher has this opening and nothing
--- pending, the session's searcher has seen its whole log, and the last version is kept.
+-- Where a run stands while no import is under way: the publisher has this opening, nothing pending
+-- and its parts merged, the session's searcher has seen its whole log, and the last version is kept.
 pub record StandsStill (opening : Opening) (publisher : PublisherState Game)
     (own : SearcherState Game) (kept : Kept) : Type 0 where
   pub opened : publisher.opening ≡ opening
   pub idle : IsIdle publisher
+  pub merged : AreMerged publisher.parts
   pub limits : IsWithinLimits publisher.log
   pub own_seen : own.seen ≡ publisher.log
   pub version : kept.version ≡ length publisher.log
@@ -137,6 +140,7 @@ pub record MayBegin (opening : Opening) (publisher : PublisherState Game) (order
     : Type 0 where
   pub opened : publisher.opening ≡ opening
   pub idle : IsIdle publisher
+  pub merged : AreMerged publisher.parts
   pub limits : IsWithinLimits publisher.log
   pub some : 1 ≤ order.batch
   pub at_most : order.batch ≤ 4096

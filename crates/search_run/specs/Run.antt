@@ -10,6 +10,7 @@ use Rattle.query_script.specs.declared.statement.Placed.{Placed}
 use Rattle.node_position.specs.Games.{Game}
 use Rattle.version_publisher.specs.declared.state.PublisherState.{PublisherState}
 use Rattle.import_work.specs.Course.{ImportCourse, losses_of}
+use Rattle.import_segments.specs.Merged.{AreMerged}
 use Rattle.import_segments.specs.Publishing.{IsIdle}
 use Rattle.serial_run.specs.Lawful.{HasPrinted, Rules, State, waiting_text}
 use Rattle.serial_run.specs.Run.{WritesLawful, serial_rules}
@@ -20,7 +21,8 @@ abbrev pub beside_rules : ℕ → Rules
 beside_rules batch = record { batch = batch; serial = false }
 
 -- A lawful output of these statements was written, and the publisher's log is that of the same
--- course, with nothing pending. The losses of the course are at most the rise of the folder's count,
+-- course, with nothing pending. Of its published parts the last has fewer games than the one before
+-- it, where there are two. The losses of the course are at most the rise of the folder's count,
 -- so that without a rise nothing is lost.
 pub record WritesPublished (rules : Rules) (files : List File) (boxes : List BoxTally)
     (placed : List Placed) (before : List ℕ) (written : Option (List ℕ))
@@ -34,6 +36,7 @@ pub record WritesPublished (rules : Rules) (files : List File) (boxes : List Box
   pub nothing_lost : ¬ Rose faults_before faults_now → losses_of course ≡ 0
   pub log : publisher.log ≡ state.log
   pub idle : IsIdle publisher
+  pub merged : AreMerged publisher.parts
 
 -- The words are lawful, and a lawful output for the script's statements was written, as Prints
 -- tells. With the word `--serial` it is one in which each statement was done before the next began,

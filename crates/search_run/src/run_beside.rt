@@ -45,6 +45,7 @@ ghost use Rattle.search_run.specs.Beside.{
   StandsStill,
   StopsBeside,
 };
+ghost use Rattle.import_segments.specs.Merged.{AreMerged};
 ghost use Rattle.import_segments.specs.Publishing.{IsIdle, IsWithinLimits};
 ghost use Rattle.search_run.specs.Run.{WritesPublished, beside_rules};
 ghost use Rattle.search_run.specs.Seen.{HaveSeen, IsVersionOf};
@@ -118,6 +119,7 @@ pub(crate) fn run_beside<
     requires opening { tools.carried.publisher.opening ≡ J.opening }
     requires empty { tools.carried.publisher.log ≡ [] }
     requires idle { IsIdle tools.carried.publisher }
+    requires merged { AreMerged tools.carried.publisher.parts }
     requires nine { length searchers.items ≡ 9 }
     requires new { All (IsNewSearcher tools.carried.publisher.opening) searchers.items }
     ensures lawful { IfTold (F.files tools.folder)
@@ -196,6 +198,7 @@ fn run_all<
     requires opening { tools.carried.publisher.opening ≡ J.opening }
     requires empty { tools.carried.publisher.log ≡ [] }
     requires idle { IsIdle tools.carried.publisher }
+    requires merged { AreMerged tools.carried.publisher.parts }
     requires seen { searchers.own.seen ≡ [] }
     ensures ran { IfTold (F.files tools.folder) (λ files. IfTold (K.written out.old) (λ before.
         IfOk result.outcome (λ r. HasRunTo (beside_rules batch) files session.old placed.now r.0
@@ -206,6 +209,7 @@ fn run_all<
         placed.now before (K.written out.new) (F.faults tools.folder)
         (F.faults result.tools.folder) result.tools.carried.publisher.log))) }
     ensures idle { IfOk result.outcome (λ r. IsIdle result.tools.carried.publisher) }
+    ensures merged { IfOk result.outcome (λ r. AreMerged result.tools.carried.publisher.parts) }
     ensures sink_fault { IsErrOf result.outcome Stopped.SinkFault →
         Rose (K.faults out.old) (K.faults out.new) }
     ensures opening { result.tools.carried.publisher.opening ≡ tools.carried.publisher.opening }

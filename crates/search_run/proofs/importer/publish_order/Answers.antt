@@ -1,4 +1,5 @@
 use Rattle.std.proofs.Common.{◌∙◌, arith, refl}
+use Rattle.std.proofs.lemmas.Result.{IfOk-weaker}
 use Rattle.search_run.proofs.EndedImports.{ended, not_opened}
 use Rattle.search_run.proofs.importer.publish_order.Goals as goal
 
@@ -10,6 +11,7 @@ returns-in-Err g c = record {
   same = c.open.ensures.same;
   later = c.open.ensures.later;
   idle = tt;
+  merged = tt;
   few_told = tt;
   ends = λ files here. tt;
   first = not_opened _ c.args.order.now c.args.publisher.now.log _ _ c.open.ensures.later;
@@ -30,3 +32,4 @@ returns g c =
     c.args.publisher.now.opening (g.F.Folder.files c.publish_import.new.folder) (g.F.Folder.faults c.publish_import.new.folder) c.publish_import.new.publisher c.publish_import.result
     c.publish_import.ensures.opening c.publish_import.ensures.few (c.publish_import.ensures.limits c.requires.limits) (c.publish_import.ensures.same ∙ c.open.ensures.same) c.publish_import.ensures.later
     (rw c.open.ensures.same at c.publish_import.ensures.first) (rw c.open.ensures.same at c.publish_import.ensures.all)
+    (IfOk-weaker c.publish_import.result _ _ (λ r keeps. keeps c.requires.merged) c.publish_import.ensures.stays_merged)

@@ -10,7 +10,7 @@ pub loop-next-init : goal.loop-next-init
 loop-next-init g c = record {
   inside = omega arith;
   few = rw c.requires.empty (omega arith);
-  stands = rw c.new-standing.ensures (stands-first _ c.args.tools.carried.publisher c.args.searchers.own c.requires.opening c.requires.idle c.requires.empty c.requires.seen);
+  stands = rw c.new-standing.ensures (stands-first _ c.args.tools.carried.publisher c.args.searchers.own c.requires.opening c.requires.idle c.requires.merged c.requires.empty c.requires.seen);
   same = refl;
   later = omega arith;
   sink_later = omega arith;

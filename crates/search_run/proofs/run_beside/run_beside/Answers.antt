@@ -8,7 +8,7 @@ pub returns-clause-lawful : goal.returns-clause-lawful
 returns-clause-lawful g c = λ files told before written.
     let run = c.run_all-tools in
     closed-run run.result.outcome c.close.result (beside_rules c.args.batch) files (map (λ board. g.C.Collector.tally board) c.args.boards.items) run.new.session c.args.placed.now run.result.tools.carried.publisher before _ _ (g.F.Folder.faults c.args.tools.folder) (g.F.Folder.faults run.result.tools.folder)
-    (rw c.new-session.ensures at (run.ensures.ran files told before written)) run.ensures.idle c.close.ensures.whole c.close.ensures.ran
+    (rw c.new-session.ensures at (run.ensures.ran files told before written)) run.ensures.idle run.ensures.merged c.close.ensures.whole c.close.ensures.ran
 
 pub returns-clause-sink_fault : goal.returns-clause-sink_fault
 returns-clause-sink_fault g c = λ is.

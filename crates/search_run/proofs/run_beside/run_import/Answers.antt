@@ -4,6 +4,7 @@ use Rattle.kb_geometry.specs.declared.memory.NoMemory.{NoMemory}
 use Rattle.query_script.specs.Texts.{import_text}
 use Rattle.import_work.specs.declared.report.Report.{Report}
 use Rattle.search_run.specs.Beside.{EndsWith, HasAnsweredAll}
+use Rattle.import_segments.specs.Merged.{AreMerged}
 use Rattle.import_segments.specs.Publishing.{IsIdle}
 use Rattle.search_run.specs.Seen.{HaveSeen}
 use Rattle.serial_run.specs.Steps.{kept_report}
@@ -35,6 +36,7 @@ returns-clause-stands g c =
     ok_both c.join-outcome.result _ _ _ c.join-outcome.ensures.joined c.join-outcome.ensures.own (λ r j own. record {
       opened = ended.opened ∙ c.requires.stands.opened;
       idle = subst (λ (report : Result Report NoMemory). IfOk report (λ told. IsIdle publisher)) j.report_is ended.idle;
+      merged = subst (λ (report : Result Report NoMemory). IfOk report (λ told. AreMerged publisher.parts)) j.report_is ended.merged;
       limits = ended.limits;
       own_seen = own;
       version = j.version;
