@@ -8,13 +8,15 @@ use std::marker::{Brand, PhantomData};
 use std::sync::{Condvar, Mutex, Wait};
 use version_publisher::{Publisher, Receipt};
 
-/// Names one opening of a publisher and its searchers by its number, which contracts alone see.
+/// Names one opening of a publisher and its searchers, by three numbers that contracts alone see.
 pub trait OpenName {
     ghost use Rattle.version_publisher.specs.Contents.{Opening};
 
     ghost opening: { Opening };
 }
 
+// A function that is generic over the name is called at this type; the proof of the call says which
+// opening it names.
 impl OpenName for Brand {
     ghost opening = { (0, 0, 0) };
 }

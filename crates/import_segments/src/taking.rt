@@ -15,8 +15,8 @@ use std::thread::Threads;
 use version_publisher::Version;
 
 /// Adds the segments of an import to a version, one after another as they come, each of so many files.
-/// The import's counts are those of the version. The only error is `NoMemory`; then the version may
-/// have the first of the segments.
+/// The import's counts are those of the version. The only error is `NoMemory`; nothing is told of the
+/// version then.
 pub fn take_segments<R: Threads + Sync, F: Folder>(
     rt: &R,
     alloc: Global,

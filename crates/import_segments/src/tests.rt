@@ -1,2 +1,3 @@
-// An import beside a searcher.
+// An import beside a searcher, and parts that are merged behind its versions.
+mod merging;
 mod publishing;
