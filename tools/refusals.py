@@ -1,0 +1,172 @@
+#!/usr/bin/env python3
+"""What the program does when something is refused: each allocation, read, write and call of the
+folder, one in each run.
+
+    tools/refusals.py PROGRAM
+
+Makes a folder of small games and a script that uses every statement, and runs it whole, with
+`--serial` and without. Then for each kind of call it runs the script once for each such call that the
+whole run made, in which that one call fails, until a run makes fewer. Each run has to end, with a
+status that its kind of call may have, and what it writes has to be a prefix of the whole output; after
+an allocation or a write that failed, and where the status is 0, the whole. After a call of the folder
+that failed the run is done, and only the report of the import tells of it. Prints how many runs there
+were and how they ended; the exit status is 0 where all is so.
+
+The calls fail by a small library that is loaded before the C library (`LD_PRELOAD`); it is compiled by
+`cc` into a temporary folder.
+"""
+import collections
+import os
+import subprocess
+import sys
+import tempfile
+
+SHIM = r"""
+#define _GNU_SOURCE
+#include <dirent.h>
+#include <errno.h>
+#include <fcntl.h>
+#include <stdarg.h>
+#include <stdatomic.h>
+#include <stdlib.h>
+#include <string.h>
+#include <sys/syscall.h>
+#include <unistd.h>
+
+extern void *__libc_malloc(size_t);
+extern void *__libc_realloc(void *, size_t);
+
+static atomic_long made;
+
+/* Whether this call of a kind is the one that fails. A file of a given name tells that it came. */
+static int fails(const char *kind) {
+    const char *wanted = getenv("REFUSE_KIND");
+    if (wanted == NULL || strcmp(wanted, kind) != 0) return 0;
+    if (atomic_fetch_add(&made, 1) + 1 != atol(getenv("REFUSE_AT"))) return 0;
+    syscall(SYS_close, syscall(SYS_openat, AT_FDCWD, getenv("REFUSE_TOLD"), O_CREAT | O_WRONLY, 0600));
+    return 1;
+}
+
+static int refused(int error) { errno = error; return -1; }
+
+void *malloc(size_t n) { return fails("allocation") ? (errno = ENOMEM, NULL) : __libc_malloc(n); }
+void *realloc(void *p, size_t n) {
+    return fails("allocation") ? (errno = ENOMEM, NULL) : __libc_realloc(p, n);
+}
+ssize_t read(int fd, void *to, size_t n) {
+    return fails(fd == 0 ? "script" : "folder") ? refused(EIO) : syscall(SYS_read, fd, to, n);
+}
+ssize_t write(int fd, const void *from, size_t n) {
+    return fd == 1 && fails("write") ? refused(EIO) : syscall(SYS_write, fd, from, n);
+}
+int open(const char *path, int flags, ...) {
+    va_list more;
+    va_start(more, flags);
+    mode_t mode = va_arg(more, mode_t);
+    va_end(more);
+    return fails("folder") ? refused(EIO) : syscall(SYS_openat, AT_FDCWD, path, flags, mode);
+}
+int openat(int at, const char *path, int flags, ...) {
+    va_list more;
+    va_start(more, flags);
+    mode_t mode = va_arg(more, mode_t);
+    va_end(more);
+    return fails("folder") ? refused(EIO) : syscall(SYS_openat, at, path, flags, mode);
+}
+ssize_t getdents64(int fd, void *to, size_t n) {
+    return fails("folder") ? refused(EIO) : syscall(SYS_getdents64, fd, to, n);
+}
+"""
+
+GAMES = {
+    "a.sgf": "(;GM[1]FF[4]SZ[5]PB[Ann]PW[Bo]RE[B+R];B[cc];W[bc];B[cb])",
+    "b.sgf": "(;GM[1]FF[4]SZ[9]PB[Bo]PW[Ann]RE[W+2];B[cc](;W[bc];B[cb])(;W[gg];B[gc];W[cg]))",
+    "c.sgf": "(;GM[1]FF[4]SZ[5];B[zz])",
+}
+
+SCRIPT = """import d
+until 1
+search same X
+together
+search same fixed O
+search main XO
+end
+kept X
+signature ************
+players
+doubles
+game 1
+report
+retire labels
+wait
+import e
+search X where player "Ann"
+"""
+
+# The statuses that a run may have in which a call of this kind failed.
+STATUSES = {"allocation": {0, 5}, "script": {3}, "folder": {0}, "write": {4}}
+
+
+def run(program, folder, words, **told):
+    """The status and the output of a run; it has to end within a minute."""
+    done = subprocess.run([program, *words], input=SCRIPT.encode(), cwd=folder, timeout=60,
+                          env={**os.environ, **told}, stdout=subprocess.PIPE, stderr=subprocess.DEVNULL)
+    return done.returncode, done.stdout
+
+
+def without_reports(output):
+    """The lines in which no report of an import stands, nor what hangs on the files that it read."""
+    return [line.split(b" ")[:2] for line in output.split(b"\n") if b" imported " not in line
+            and line.split(b" ")[0].isdigit()]
+
+
+def is_told(kind, status, output, whole):
+    if status not in STATUSES[kind]:
+        return False
+    if kind == "folder":
+        return without_reports(output) == without_reports(whole)
+    return output == whole if status == 0 else whole.startswith(output)
+
+
+def try_each(program, folder, shim, kind, words, whole):
+    """How the runs ended, one for each call of this kind; None where one isn't as it has to be."""
+    ended, at = collections.Counter(), 0
+    told = os.path.join(folder, "told")
+    while True:
+        at += 1
+        status, output = run(program, folder, words, LD_PRELOAD=shim, REFUSE_KIND=kind,
+                             REFUSE_AT=str(at), REFUSE_TOLD=told)
+        if not os.path.exists(told):
+            return ended
+        os.remove(told)
+        if not is_told(kind, status, output, whole):
+            print("%s %d refused: status %d after\n%s" % (kind, at, status, output.decode()))
+            return None
+        ended[status] += 1
+
+
+def main():
+    program = os.path.abspath(sys.argv[1])
+    with tempfile.TemporaryDirectory() as folder:
+        shim = os.path.join(folder, "refusals.so")
+        subprocess.run(["cc", "-shared", "-fPIC", "-O1", "-x", "c", "-", "-o", shim],
+                       input=SHIM.encode(), check=True)
+        os.mkdir(os.path.join(folder, "d"))
+        for name, text in GAMES.items():
+            with open(os.path.join(folder, "d", name), "w") as file:
+                file.write(text)
+        good = True
+        for words in ([], ["--serial"]):
+            status, whole = run(program, folder, words)
+            if status != 0:
+                sys.exit("the whole run ended with status %d" % status)
+            for kind in STATUSES:
+                ended = try_each(program, folder, shim, kind, words, whole)
+                good = good and ended is not None
+                if ended is not None:
+                    print("%s %s: %d runs, by status %s" % (" ".join(words) or "beside", kind,
+                          sum(ended.values()), dict(sorted(ended.items()))))
+        sys.exit(0 if good else 1)
+
+
+main()
