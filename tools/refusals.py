@@ -4,13 +4,17 @@ folder, one in each run.
 
     tools/refusals.py PROGRAM
 
-Makes a folder of small games and a script that uses every statement, and runs it whole, with
-`--serial` and without. Then for each kind of call it runs the script once for each such call that the
-whole run made, in which that one call fails, until a run makes fewer. Each run has to end, with a
-status that its kind of call may have, and what it writes has to be a prefix of the whole output; after
-an allocation or a write that failed, and where the status is 0, the whole. After a call of the folder
-that failed the run is done, and only the report of the import tells of it. Prints how many runs there
-were and how they ended; the exit status is 0 where all is so.
+Makes a folder of small games and a script that uses every statement, and runs it whole, in one batch,
+in a batch for each file, and with `--serial`. Then for each kind of call it runs the script once for
+each such call, in which that one call fails, until a run makes fewer. Each run has to end, with a
+status that its kind of call may have. After an allocation or a write that failed what is written has to
+be a prefix of the whole output, and the whole where the status is 0; after a read of the script that
+failed, nothing. After a call of the folder that failed the run is done; what it answers hangs on what
+was read, so that only the lines and the names of the statements are compared. Prints how many runs
+there were and how they ended; the exit status is 0 where all is so.
+
+Beside an import several threads make allocations, in no fixed order, so that the calls of one kind are
+not the same ones in each run.
 
 The calls fail by a small library that is loaded before the C library (`LD_PRELOAD`); it is compiled by
 `cc` into a temporary folder.
@@ -85,7 +89,7 @@ GAMES = {
 }
 
 SCRIPT = """import d
-until 1
+until 3
 search same X
 together
 search same fixed O
@@ -125,6 +129,8 @@ def is_told(kind, status, output, whole):
         return False
     if kind == "folder":
         return without_reports(output) == without_reports(whole)
+    if kind == "script":
+        return output == b""
     return output == whole if status == 0 else whole.startswith(output)
 
 
@@ -156,7 +162,7 @@ def main():
             with open(os.path.join(folder, "d", name), "w") as file:
                 file.write(text)
         good = True
-        for words in ([], ["--serial"]):
+        for words in ([], ["--batch", "1"], ["--serial"]):
             status, whole = run(program, folder, words)
             if status != 0:
                 sys.exit("the whole run ended with status %d" % status)
@@ -164,7 +170,7 @@ def main():
                 ended = try_each(program, folder, shim, kind, words, whole)
                 good = good and ended is not None
                 if ended is not None:
-                    print("%s %s: %d runs, by status %s" % (" ".join(words) or "beside", kind,
+                    print("%s %s: %d runs, by status %s" % (" ".join(words) or "no words", kind,
                           sum(ended.values()), dict(sorted(ended.items()))))
         sys.exit(0 if good else 1)
 

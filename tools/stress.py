@@ -1,5 +1,5 @@
 #!/usr/bin/env python3
-"""Searches beside an import, tried hard.
+"""Searches beside an import, under load.
 
     tools/stress.py PROGRAM [FILES [STATEMENTS]]
 

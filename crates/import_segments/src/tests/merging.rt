@@ -109,6 +109,7 @@ fn open_and_import<R: Threads + Wait + Sync>(
 #[test]
 fn parts_after_an_import(rt: HostRuntime) -> Result<(), Fail> {
     let cases: [(&[u32], Sizes); 10] = [
+        // No file has the path: the import is unlisted.
         (&[], (0, 0, 0)),
         (&[1], (1, 1, 1)),
         (&[1, 1], (2, 1, 2)),
