@@ -1,5 +1,5 @@
 -- Published parts that are merged from their end.
-use Rattle.std.proofs.Common.{◌≡◌, ◌<◌, ◌≤◌, ◌+◌, inl, inr, false, true, if◌then◌else◌, nat_lt, List, [], ◌∷◌, ◌++◌, fold, length, length-append, refl, reverse, subst, sym, ap, ◌∙◌, append_assoc, append-nil, arith}
+use Rattle.std.proofs.Common.{◌≡◌, ◌<◌, ◌≤◌, inl, inr, false, true, nat_lt, List, [], ◌∷◌, ◌++◌, fold, length, length-append, refl, reverse, subst, sym, ap, ◌∙◌, append_assoc, append-nil, arith}
 use Rattle.std.proofs.lemmas.Bool.{cases_lt, cond-false, cond-true, le-ltb, lt-ltb}
 use Rattle.std.proofs.lemmas.List.{nil_from_length, reverse-append, reverse-reverse}
 use Rattle.std.proofs.lemmas.List.Sums.{fold-append}
