@@ -67,21 +67,8 @@ with_parts-merged parts part (next ∷ more) = with_parts-merged (with_part part
 
 -- ---- one merge
 
--- no merge is left to be made where the last part has fewer games than the one before it, or there are fewer than two
-pub none_to_merge : (parts : List Segment) (front : List Segment) (before last : Segment) → parts ≡ front ++ before ∷ last ∷ [] → length last < length before → with_last (reverse parts) ≡ reverse parts
-none_to_merge parts front before last are fewer =
-    let back : reverse parts ≡ last ∷ before ∷ reverse front = ap reverse are ∙ reverse-end front before last in
-    ap with_last back ∙ with_part-fewer (reverse front) before last fewer ∙ sym back
-
-pub none_of_few : (parts : List Segment) → length parts < 2 → with_last (reverse parts) ≡ reverse parts
-none_of_few [] few = refl
-none_of_few (a ∷ []) few = refl
-none_of_few (a ∷ b ∷ parts) few = absurd (omega (arith, few))
-
 module _ (parts : List Segment) (both : Segment) (h : AreToMerge parts both) where
-  pub two_at_least : 2 ≤ length parts
-  two_at_least = omega (arith, ap length h.parts_are, length-append h.front (h.before ∷ h.last ∷ []))
-
+  -- these are the games that the publisher asks for
   pub joined_is : both ≡ last_two_joined parts
   joined_is = h.both_are ∙ sym (ap last_two_joined h.parts_are ∙ last_two_joined-end h.front h.before h.last)
 

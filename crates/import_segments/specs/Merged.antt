@@ -18,7 +18,7 @@ with_part (before ∷ parts) part = if nat_lt (length part) (length before)
     else with_part parts (before ++ part)
 
 -- The published parts have grown as the log has, by the same segments, one after another, and each
--- took in the parts before it.
+-- came as `with_part` says.
 pub record MergesEach (log_before log_now parts_before parts_now : List Segment) : Type 0 where
   pub segments : List Segment
   pub grown : log_now ≡ log_before ++ segments

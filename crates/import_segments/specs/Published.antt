@@ -29,7 +29,7 @@ pub record HasPublishedAll (told : Option (List File)) (batch : ℕ) (start now 
   pub taken : HasTaken told batch start now (version_of log_before) (version_of log_now) first last
   pub none : now.left ≡ []
 
--- the parts, the last first, of which the last takes in those before it
+-- the parts, the last first, of which the last came to the others as `with_part` says
 abbrev pub with_last : List Segment → List Segment
 with_last [] = []
 with_last (part ∷ parts) = with_part parts part

@@ -197,9 +197,9 @@ pub record HasAnsweredAll (WasSeen : List Segment → Type 0) (floor : ℕ) (box
   pub answered : (batch : ℕ) →
       HasAnswered batch WasSeen floor boxes placed IsSeen floor_now boxes_now before written
 
--- The answers to statements stopped beside an import by batches of this size: of the text of the
--- first of these, whatever they are, a part is written. The last of them may be one that is printed in
--- part or not at all.
+-- The answers to statements stopped beside an import by batches of this size: of the text that the
+-- first of these print, whatever the import finds, a part is written. The last of them may be one that
+-- is printed in part or not at all.
 pub record StopsBeside (batch : ℕ) (WasSeen : List Segment → Type 0) (floor : ℕ)
     (boxes : List BoxTally) (placed : List Placed) (IsSeen : List Segment → Type 0)
     (before : List ℕ) (written : Option (List ℕ)) : Type 0 where

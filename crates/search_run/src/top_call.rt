@@ -63,7 +63,7 @@ use version_publisher::{Publisher, Searcher};
 /// before the next begins. Without a base this is [`run_serial`]. The boxes are those of
 /// [`run_serial`]. The folder is handed back, and so is the publisher of the base: with
 /// [`Status::Done`], and without `--serial`, its log has the segments of all imports, nothing is
-/// pending, and the last part has fewer games than the one before it. With [`Status::SinkFault`] and
+/// pending, and the last part has fewer games than the one before it, where there are two. With [`Status::SinkFault`] and
 /// [`Status::NoMemory`] its log is a prefix of that.
 pub fn run<
     R: Threads + Wait + Clone + Drop + Send + Sync + 'static,

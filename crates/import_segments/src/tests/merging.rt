@@ -44,14 +44,14 @@ fn files_of(alloc: Global, games: &[u32]) -> Result<MemoryFolder, Fail> {
     Ok(MemoryFolder::new(files, Vec::new(alloc)))
 }
 
-// Publishes an import of the folder, file by file, and answers the version of its report.
+// Publishes an import of the folder, file by file.
 fn import_files<J: OpenName + Send + Sync, R: Threads + Wait + Sync, G: Gate>(
     rt: &R,
     alloc: Global,
     folder: MemoryFolder,
     publisher: &mut Publisher<Segment>,
     gate: &G,
-) -> Result<u64, Fail>
+) -> Result<(), Fail>
     requires opening { publisher.old.opening ≡ J.opening }
     requires empty { publisher.old.log ≡ [] }
     requires idle { IsIdle publisher.old }
@@ -61,7 +61,7 @@ fn import_files<J: OpenName + Send + Sync, R: Threads + Wait + Sync, G: Gate>(
     let receipts = Receipts::<J>::new(publisher)?;
     let none = Counts { games: 0, nodes: 0 };
     let import = Import::open(alloc, &mut folder, "d", 1, none, 0)?;
-    let report = publish_import(
+    publish_import(
         rt,
         alloc,
         import,
@@ -71,7 +71,7 @@ fn import_files<J: OpenName + Send + Sync, R: Threads + Wait + Sync, G: Gate>(
         &receipts,
         1,
     )?;
-    Ok(report.version)
+    Ok(())
 }
 
 // Publishes an import of the folder, and looks at what was published.
