@@ -8,6 +8,7 @@ pub mod Colons
 pub mod GameFaults
 pub mod Growth
 pub mod HungTrees
+pub mod Lines
 pub mod MainLines
 mod NodeChoices
 pub mod NodeValues

@@ -1,5 +1,6 @@
 -- Words that contracts of public functions rest on.
 pub mod Information
+pub mod Line
 pub mod MainLine
 pub mod Position
 pub mod Property

@@ -41,6 +41,7 @@ impl Model for Info {
 
 impl Info {
     ghost use Rattle.game_tree.specs.Information.{no_information};
+    ghost use Rattle.game_tree.specs.Line.{told_result};
     ghost use Rattle.game_tree.specs.StoredInfo.{shown_info, AreTextEnds};
 
     // The information of a game of which nothing is told.
@@ -56,6 +57,20 @@ impl Info {
             date: 0,
         };
         Info::new(Vec::new(alloc), ends)
+    }
+
+    // The information of a game of which this text of its result alone is told.
+    pub(crate) fn of_result(alloc: Global, text: &[u8]) -> Result<Self, NoMemory>
+        ensures { IfOk result (λ info. info ≡ told_result text.now) }
+    {
+        let ends = TextEnds {
+            black: 0,
+            white: 0,
+            event: 0,
+            place: 0,
+            date: 0,
+        };
+        Ok(Info::new(text.to_vec(alloc)?, ends))
     }
 
     // The information whose texts stand in this block and end there.

@@ -2,8 +2,8 @@ ghost use Rattle.std.specs.Prelude.{◌<◌};
 ghost use Rattle.game_tree.specs.Tree.{node_count};
 
 use crate::builder::tests::{can_add, can_finish, can_set};
-use crate::{Bytes, GameTree, Info, Move, Setup, TreeBuilder};
-use kb_geometry::{Cell, Colour, Point, Rect, Shape};
+use crate::{Bytes, GameTree, Info, Move, Setup, TreeBuilder, tree_of_moves};
+use kb_geometry::{Cell, Colour, Outcome, Point, Rect, Shape};
 use std::alloc::Global;
 use std::process::Abort;
 use std::test::Fail;
@@ -203,6 +203,57 @@ fn one_line_of_65536_nodes(rt: HostRuntime) -> Result<(), Fail> {
     assert_eq!(rt; tree.node_count(), 65536);
     assert_eq!(rt; tree.move_number(65535), 65535);
     assert!(rt; tree.is_main(65535));
+    Ok(())
+}
+
+// Whether no text but the result's is told.
+fn tells_the_result_alone(info: &Info) -> bool {
+    info.black().is_empty()
+        && info.white().is_empty()
+        && info.event().is_empty()
+        && info.place().is_empty()
+        && info.date().is_empty()
+}
+
+// The tree of `(;SZ[5:3]RE[W+R];B[ec];W[];B[ab])`.
+#[test]
+fn a_line_of_three_moves(rt: HostRuntime) -> Result<(), Fail> {
+    let shape = Shape::new(5, 3).expect(&rt, "sides of a board");
+    let pass = Move {
+        colour: Colour::White,
+        point: None,
+    };
+    let moves = [
+        Move {
+            colour: Colour::Black,
+            point: Some(Point { x: 4, y: 2 }),
+        },
+        pass,
+        Move {
+            colour: Colour::Black,
+            point: Some(Point { x: 0, y: 1 }),
+        },
+    ];
+    let tree = tree_of_moves(rt.alloc(), shape, b"W+R".as_slice(), moves.as_slice())?;
+    let rows = [
+        (None, None, [None; 2]),
+        (Some(0), stone(Colour::Black, 4, 2), [None; 2]),
+        (Some(1), Some(pass), [None; 2]),
+        (Some(2), stone(Colour::Black, 0, 1), [None; 2]),
+    ];
+    let places = [
+        (Some(1), None, [Some(1), None, None], 0, true),
+        (Some(2), None, [Some(2), None, None], 1, true),
+        (Some(3), None, [Some(3), None, None], 2, true),
+        (None, None, [None; 3], 3, true),
+    ];
+    expect_nodes(&rt, &tree, &rows, &places);
+    assert_eq!(rt; tree.node_count(), 4);
+    assert_eq!(rt; tree.shape().cols(), 5);
+    assert_eq!(rt; tree.shape().rows(), 3);
+    assert_eq!(rt; tree.info().result(), b"W+R".as_slice());
+    assert_eq!(rt; tree.info().outcome(), Outcome::White);
+    assert!(rt; tells_the_result_alone(tree.info()));
     Ok(())
 }
 

@@ -1,0 +1,2 @@
+-- Words that contracts of public functions rest on.
+pub mod Made
