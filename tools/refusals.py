@@ -103,6 +103,9 @@ game 1
 report
 retire labels
 wait
+make 3 1
+wait
+kept same fixed X
 import e
 search X where player "Ann"
 """

@@ -19,7 +19,7 @@ use Rattle.import_segments.specs.Published.{HasPublished, HasPublishedAll, versi
 use Rattle.import_segments.proofs.PushedSegments.{games_pushed}
 
 module _ (told : Option (List File)) (batch : ℕ) (any : 1 ≤ batch) (start : ImportState) (log_before log_now : List Segment) (first last : ℕ) (opened : IsOpenedWith log_before start) where
-  module _ (there : IfTold told (λ all. IsListedIn all start.path start.body start.left)) where
+  module _ (there : IfTold told (λ all. IsListedIn all start.source start.body start.left)) where
     pub publishes_first : HasPublished told batch start log_before log_now first last → PublishesFirst told batch start log_before log_now first last
     publishes_first h = record {
       segments = h.taken.segments;
@@ -30,7 +30,7 @@ module _ (told : Option (List File)) (batch : ℕ) (any : 1 ≤ batch) (start : 
       later = h.later;
       first = λ all is.
           let given : HasGiven (Some all) batch start first h.taken.segments h.now h.faults = subst (λ t. HasGiven t batch start first h.taken.segments h.now h.faults) is h.taken.given in
-          let g = gives_first all batch any start h.now h.taken.segments first h.faults given start.body refl opened.listed (there all is) in record {
+          let g = gives_first all batch any start h.now h.taken.segments first h.faults given start.source start.body refl refl opened.listed (there all is) in record {
             finds = record {
               entry = g.finds.entry;
               finding = g.finds.finding;
@@ -56,7 +56,7 @@ module _ (told : Option (List File)) (batch : ℕ) (any : 1 ≤ batch) (start : 
           all = λ all is.
               let given : HasGiven (Some all) batch start first h.taken.segments now last = subst (λ t. HasGiven t batch start first h.taken.segments now last) is h.taken.given in
               subst (λ b. GivesAll all batch start h.taken.segments b first last) (sym body)
-              (gives_all all batch any start now h.taken.segments first last given start.body refl opened.listed (there all is) h.none);
+              (gives_all all batch any start now h.taken.segments first last given start.source start.body refl refl opened.listed (there all is) h.none);
         }
 
   module _ (h : HasPublished told batch start log_before log_now first last) where

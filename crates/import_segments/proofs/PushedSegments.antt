@@ -12,6 +12,7 @@ use Rattle.import_work.specs.Log.{Segment, games_in}
 use Rattle.import_work.specs.Outcome.{counts_of}
 use Rattle.import_work.specs.Rooms.{AreAdded}
 use Rattle.import_work.specs.declared.outcome.Counts.{Counts}
+use Rattle.import_work.proofs.GivenSegments.{GoesOn, goes_on}
 use Rattle.import_work.proofs.RoomLemmas.{counts_of-more, length-trees}
 use Rattle.import_work.proofs.SegmentLemmas.{games_in-append}
 use Rattle.import_segments.specs.Stores.{HasFewGames, HasTaken, IsPushed}
@@ -51,8 +52,11 @@ module _ (told : Option (List File)) (batch : ℕ) (between now : ImportState) (
     pushed = IsPushed-more at_first version after h.segments segment h.pushed number parts;
   }
 
+  step : GoesOn batch between now segment
+  step = goes_on told batch between now segment before last s
+
   added : AreAdded between.counts now.counts (trees_in segment)
-  added = ap (λ i. i.counts) s.goes_on
+  added = step.counts
 
   counts_then : now.counts.games ≡ length (items_in version.parts) + length segment
   counts_then =
@@ -63,7 +67,7 @@ module _ (told : Option (List File)) (batch : ℕ) (between now : ImportState) (
   -- few games are counted then
   pub few_then : HasFewGames now.counts
   few_then = elim (cases_lt 0 (length segment)) [
-    | inl some ↦ (s.room (λ none. omega (arith, some, ap length none))).0
+    | inl some ↦ (step.room (λ none. omega (arith, some, ap length none))).0
     | inr none ↦
         let had : between.counts.games ≡ length (items_in version.parts) = ap (λ (c : Counts). c.games) counted ∙ length-trees (items_in version.parts) in
         omega (arith, counts_then, had, none, few)
@@ -83,11 +87,11 @@ module _ (told : Option (List File)) (batch : ℕ) (between now : ImportState) (
   -- a name fewer is left
   pub number_then : 1 ≤ batch → after.number ≡ version.number + 1 → version.number + length between.left < 2 ^ 64 → after.number + length now.left < 2 ^ 64
   number_then any number below =
-      let rest : length now.left ≡ length between.left - batch = ap (λ i. length i.left) s.goes_on ∙ length-drop batch between.left in
+      let rest : length now.left ≡ length between.left - batch = ap length step.left ∙ length-drop batch between.left in
       omega (arith, rest, number, below, some_left, any)
     where
       some_left : 0 < length between.left
       some_left = elim (cases_lt 0 (length between.left)) [
         | inl some ↦ some
-        | inr none ↦ absurd (s.some (nil_from_length between.left (omega (arith, none))))
+        | inr none ↦ absurd (step.some (nil_from_length between.left (omega (arith, none))))
       ]

@@ -23,7 +23,7 @@ pub record IsOpenedWith (log : List Segment) (import : ImportState) : Type 0 whe
   pub number : import.number ≡ length log
   pub few : length log ≤ 9000000000000000000
   pub counts : import.counts ≡ counts_of (trees_in (items_in log))
-  pub listed : IsListed import.body import.left
+  pub listed : IsListed import.source import.body import.left
 
 -- the games and nodes of the log are within the limits of the base
 abbrev pub IsWithinLimits : List Segment → Type 0

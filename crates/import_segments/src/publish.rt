@@ -65,7 +65,7 @@ pub fn publish_import<J: OpenName + Send + Sync, R: Threads + Wait + Sync, F: Fo
     requires opening { publisher.old.opening ≡ J.opening }
     requires opened { IsOpenedWith publisher.old.log import }
     requires names { IfTold (F.files folder.old)
-        (λ all. IsListedIn all import.path import.body import.left) }
+        (λ all. IsListedIn all import.source import.body import.left) }
     ensures first { PublishesFirst (F.files folder.old) batch import publisher.old.log
         publisher.new.log (F.faults folder.old) (F.faults folder.new) }
     ensures all { IfOk result (λ report. IsIdle publisher.new

@@ -1,17 +1,16 @@
 -- Files that are found in pieces.
-use Rattle.std.proofs.Common.{◌≡◌, ℕ, suc, ◌<◌, List, [], ◌∷◌, ◌++◌, get_or, length, append-nil, refl, sym, ◌∙◌, ap, subst, arith}
+use Rattle.std.proofs.Common.{◌≡◌, List, [], ◌∷◌, ◌++◌, append-nil, sym, ◌∙◌, ap, subst}
 use Rattle.std.proofs.lemmas.List.{map_push}
-use Rattle.std.proofs.lemmas.List.Concat.{flat_map-append, flat_map-cons}
-use Rattle.std.proofs.lemmas.List.Elements.{All-head, All-nil, All-push, All-tail}
-use Rattle.std.proofs.lemmas.Bool.{false≢true}
+use Rattle.std.proofs.lemmas.List.Concat.{flat_map-append}
 use Rattle.std.specs.Global.{Global}
-use Rattle.std.specs.List.{AllZip, flat_map}
-use Rattle.std.specs.Prelude.{All, Ok, Err, IsOk, Vec}
+use Rattle.std.specs.List.{AllZip}
+use Rattle.std.specs.Prelude.{Vec}
 use Rattle.import_work.specs.Judged.{AreFound, IsFoundFile}
-use Rattle.import_work.specs.Pieces.{AreJoined, ArePieces, IsPiece, IsPieceAdded, Piece, files_in, group_texts}
+use Rattle.import_work.specs.Pieces.{AreJoined, ArePieces, PieceOf, group_texts}
 use Rattle.import_work.specs.Reads.{FileText, file_text, file_texts}
 use Rattle.import_work.specs.declared.found.FoundFile.{FoundFile}
 use Rattle.import_work.specs.declared.read.ReadFile.{ReadFile}
+use Rattle.import_work.proofs.Joined.{pieces-fit}
 
 -- pairs of two lists, with one pair more, and of lists one behind the other
 AllZip-push : {A B : Type 0} (R : A → B → Type 0) (xs : List A) (ys : List B) (x : A) (y : B) → AllZip R xs ys → R x y → AllZip R (xs ++ x ∷ []) (ys ++ y ∷ [])
@@ -33,40 +32,10 @@ found-more files file found more own so_far is pushed =
     (subst (λ ts. AreFound ts (found ++ own ∷ [])) (sym (map_push file_text files file))
     (AllZip-push IsFoundFile (file_texts files) found (file_text file) own so_far is))
 
--- nothing is joined yet, and one piece more
-pub AreJoined-none : AreJoined [] []
-AreJoined-none = record { joined = refl; good = All-nil (λ (p : Piece). IsOk p) }
-
-pub AreJoined-more : (pieces : List Piece) (piece : Piece) (old new : List FoundFile) → AreJoined pieces old → IsPieceAdded piece old new → AreJoined (pieces ++ piece ∷ []) new
-AreJoined-more pieces (Ok files) old new so_far added = record {
-  joined = added ∙ ap (λ fs. fs ++ files.items) so_far.joined ∙ sym (flat_map-append files_in pieces (Ok files ∷ []) ∙ ap (λ fs. flat_map files_in pieces ++ fs) (append-nil files.items));
-  good = All-push (λ (p : Piece). IsOk p) pieces (Ok files) so_far.good refl;
-}
-AreJoined-more pieces (Err e) old new so_far added = absurd added
-
--- a piece for which there was memory
-piece_found : (group : Vec ReadFile Global) (piece : Piece) → IsPiece group piece → IsOk piece → AreFound (file_texts group.items) (files_in piece)
-piece_found group (Ok files) is good = is
-piece_found group (Err e) is good = absurd (false≢true good)
-
 -- what was found in all groups
-in_all : (groups : List (Vec ReadFile Global)) (pieces : List Piece) → length pieces ≡ length groups → ((n : ℕ) (g : Vec ReadFile Global) (d : Piece) → n < length groups → IsPiece (get_or groups n g) (get_or pieces n d)) → All (λ (p : Piece). IsOk p) pieces → AreFound (group_texts groups) (flat_map files_in pieces)
-in_all [] [] same each good = tt
-in_all [] (p ∷ ps) same each good = absurd (omega (arith, same))
-in_all (g ∷ gs) [] same each good = absurd (omega (arith, same))
-in_all (g ∷ gs) (p ∷ ps) same each good =
-    let texts = flat_map-cons (λ (v : Vec ReadFile Global). file_texts v.items) g gs in
-    let files = flat_map-cons files_in p ps in
-    let first = piece_found g p (each 0 g p (omega arith)) (All-head (λ (q : Piece). IsOk q) p ps good) in
-    let rest = in_all gs ps (omega (arith, same)) (λ n v d lt. each (suc n) v d (omega (arith, lt))) (All-tail (λ (q : Piece). IsOk q) p ps good) in
-    subst (λ ts. AreFound ts (flat_map files_in (p ∷ ps))) (sym texts)
-    (subst (λ fs. AreFound (file_texts g.items ++ group_texts gs) fs) (sym files)
-    (AllZip-then IsFoundFile (file_texts g.items) (group_texts gs) (files_in p) (flat_map files_in ps) first rest))
-
-pub pieces_found : (groups : List (Vec ReadFile Global)) (pieces : List Piece) (texts : List FileText) (files : List FoundFile) → group_texts groups ≡ texts → ArePieces groups pieces → AreJoined pieces files → AreFound texts files
+pub pieces_found : (groups : List (Vec ReadFile Global)) (pieces : List (PieceOf FoundFile)) (texts : List FileText) (files : List FoundFile) → group_texts groups ≡ texts → ArePieces (λ (g : Vec ReadFile Global). file_texts g.items) AreFound groups pieces → AreJoined pieces files → AreFound texts files
 pieces_found groups pieces texts files same are joined =
-    subst (λ ts. AreFound ts files) same
-    (subst (λ fs. AreFound (group_texts groups) fs) (sym joined.joined) (in_all groups pieces are.all are.each joined.good))
+    subst (λ ts. AreFound ts files) same (pieces-fit (λ (g : Vec ReadFile Global). file_texts g.items) AreFound tt (AllZip-then IsFoundFile) groups pieces files are joined)
 
 -- a group more, and a file more in the last group
 pub texts-pushed : (groups more : List (Vec ReadFile Global)) (group : Vec ReadFile Global) → more ≡ groups ++ group ∷ [] → group_texts more ≡ group_texts groups ++ file_texts group.items

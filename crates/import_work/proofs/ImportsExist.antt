@@ -9,12 +9,17 @@ use Rattle.kb_geometry.proofs.Lists.{All-before}
 use Rattle.kb_edges.specs.Files.{File, HasFile, HasPath, content_of}
 use Rattle.game_tree.specs.Tree.{IsTree, Tree}
 use Rattle.node_position.specs.Games.{Game}
-use Rattle.import_work.specs.Course.{AreNames, AreRead, Files, Finding, ImportCourse, ImportFile, IsImported, TooMany, Unlisted, games_from, games_of_files, import_file, nothing_lost, trees_in}
+use Rattle.made_games.specs.Made.{made_tree}
+use Rattle.made_games.proofs.MadeMoves.{made-tree}
+use Rattle.import_work.specs.Course.{AreMade, AreNames, AreRead, Files, Finding, ImportCourse, ImportFile, IsImported, Made, TooMany, Unlisted, games_from, games_of_files, import_file, made_file, made_name, nothing_lost, trees_in}
 use Rattle.import_work.specs.Log.{games_in, segments_of}
-use Rattle.import_work.specs.Outcome.{with_games}
+use Rattle.import_work.specs.Outcome.{IsAddedBy, with_games}
 use Rattle.import_work.specs.declared.outcome.Counts.{Counts}
 use Rattle.import_work.specs.declared.outcome.FileOutcome.{FileOutcome}
 use Rattle.import_work.specs.Batches.{names_of}
+use Rattle.import_work.specs.declared.source.Source.{Source}
+use Rattle.import_work.specs.declared.source.Source.TheVariants as source
+use Rattle.import_work.proofs.MadeFiles.{made-found}
 use Rattle.import_work.proofs.FileLemmas.{content_of-there}
 use Rattle.import_work.proofs.NameLemmas.{AreNames-there, has_path_or_none}
 use Rattle.import_work.proofs.SegmentLemmas.{pieces_joined}
@@ -54,7 +59,7 @@ module _ (all : List File) (path : List ℕ) (before : Counts) (files : List Imp
 
 module _ (all : List File) (path : List ℕ) (before : Counts) where
   -- an import whose names are these
-  import-named : (names : List (List ℕ)) → HasPath all path → AreNames all path names → (finding : Finding) × IsImported all path before nothing_lost finding
+  import-named : (names : List (List ℕ)) → HasPath all path → AreNames all path names → (finding : Finding) × IsImported all (source.Under path) before nothing_lost finding
   import-named names there are = elim (cases_lt 100000 (length names)) [
     | inl many ↦ (TooMany (length names), (record { names = names; path_there = there; are_names = are; counted = refl; many = many }, refl))
     | inr few ↦
@@ -63,12 +68,17 @@ module _ (all : List File) (path : List ℕ) (before : Counts) where
         (Files h.more, record { path_there = there; names = subst (AreNames all path) (sym h.named) are; few = omega (arith, counted, few); read = h.read; listed = refl })
   ]
 
-  -- an import finds something, and nothing is lost
-  pub import-found : (finding : Finding) × IsImported all path before nothing_lost finding
-  import-found = elim (has_path_or_none all path) [
+  path-found : (finding : Finding) × IsImported all (source.Under path) before nothing_lost finding
+  path-found = elim (has_path_or_none all path) [
     | inl has ↦ let names = names-exist all path in import-named names.0 has names.1
     | inr none ↦ (Unlisted, (inr (refl, none), refl))
   ]
+
+-- an import finds something, and nothing is lost
+pub import-found : (all : List File) (from : Source) (before : Counts) → (finding : Finding) × IsImported all from before nothing_lost finding
+import-found all (source.Under path) before = path-found all path before
+import-found all (source.Made games seed) before =
+    let h = made-found seed 0 before [] AreMade.nothing games in (Made h.more, (record { all = h.many; made = h.made }, refl))
 
 -- ---- the games of an import
 
@@ -98,6 +108,16 @@ read-trees-all all path before _ _ (AreRead.read {files} {unread} name bytes out
 read-trees-all all path before _ _ (AreRead.not_read {files} {unread} name so_far) =
     files-push files (import_file name FileOutcome.Unread []) (read-trees-all all path before files unread so_far) (All-nil HasTree)
 
+made-trees-all : (start first : ℕ) (before : Counts) (files : List ImportFile) → AreMade start first before files → All HasTree (games_of_files files)
+made-trees-all start first before _ AreMade.nothing = All-nil HasTree
+made-trees-all start first before _ (AreMade.one_more {files} outcome trees so_far is) =
+    files-push files (made_file (first + length files) outcome trees) (made-trees-all start first before files so_far)
+    (games-trees made_name (first + length files) trees (added-trees start (first + length files) (with_games before (trees_in (games_of_files files))) outcome trees is))
+  where
+    added-trees : (start number : ℕ) (before : Counts) (outcome : FileOutcome) (trees : List Tree) → IsAddedBy before (made_tree start number ∷ []) outcome trees → All IsTree trees
+    added-trees start number before _ _ (IsAddedBy.full none) = All-nil IsTree
+    added-trees start number before _ _ (IsAddedBy.accepted room) = All-cons IsTree (made_tree start number) [] (made-tree start number) (All-nil IsTree)
+
 -- the games of the first files
 first-trees : (files : List ImportFile) (n : ℕ) → All HasTree (games_of_files files) → All HasTree (games_of_files (take n files))
 first-trees files n are =
@@ -106,11 +126,17 @@ first-trees files n are =
     (ap games_of_files (sym (take-append-drop n files)) ∙ flat_map-append (λ (g : ImportFile). g.games) (take n files) (drop n files))
     are)
 
--- the games that an import adds are trees
-pub imported-trees : (all : List File) (path : List ℕ) (before : Counts) (entry : ImportCourse) (batch : ℕ) (finding : Finding) → IsImported all path before entry finding → All HasTree (games_in (segments_of batch finding))
-imported-trees all path before entry batch Unlisted is = All-nil HasTree
-imported-trees all path before entry batch (TooMany names) is = All-nil HasTree
-imported-trees all path before entry batch (Files files) is =
+-- the games of files in batches
+batch-trees : (files : List ImportFile) (batch : ℕ) → All HasTree (games_of_files files) → All HasTree (games_in (segments_of batch (Files files)))
+batch-trees files batch are =
     let count = (length files + (batch - 1)) / batch in
-    subst (All HasTree) (sym (pieces_joined files batch count))
-    (first-trees files (count * batch) (read-trees-all all path before files entry.unread is.read))
+    subst (All HasTree) (sym (pieces_joined files batch count)) (first-trees files (count * batch) are)
+
+-- the games that an import adds are trees
+pub imported-trees : (all : List File) (from : Source) (before : Counts) (entry : ImportCourse) (batch : ℕ) (finding : Finding) → IsImported all from before entry finding → All HasTree (games_in (segments_of batch finding))
+imported-trees all from before entry batch Unlisted is = All-nil HasTree
+imported-trees all from before entry batch (TooMany names) is = All-nil HasTree
+imported-trees all (source.Under path) before entry batch (Files files) is = batch-trees files batch (read-trees-all all path before files entry.unread is.read)
+imported-trees all (source.Under path) before entry batch (Made files) is = absurd is
+imported-trees all (source.Made games seed) before entry batch (Files files) is = absurd is
+imported-trees all (source.Made games seed) before entry batch (Made files) is = batch-trees files batch (made-trees-all seed 0 before files is.0.made)

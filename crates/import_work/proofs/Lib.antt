@@ -4,9 +4,14 @@ mod FoundPieces
 pub mod FoundSegments
 pub mod GivenSegments
 pub mod ImportsExist
+mod Joined
 mod Judges
 pub mod Losses
 mod LostFiles
+pub mod MadeFiles
+mod MadePieces
+pub mod MadeSegments
+pub mod MadeSteps
 pub mod NameLemmas
 pub mod NamesExist
 pub mod OneFinding

@@ -5,11 +5,14 @@ use Rattle.std.proofs.lemmas.List.{length-map, map_push}
 use Rattle.kb_edges.specs.Files.{File, HasPath}
 use Rattle.game_tree.specs.Tree.{Tree}
 use Rattle.kb_geometry.proofs.Lists.{push_not_nil, push_same}
-use Rattle.import_work.specs.Course.{AreRead, Files, Finding, FindsFiles, HasTooMany, ImportFile, IsContent, IsImported, IsUnlisted, TooMany, Unlisted, games_of_files, import_file, nothing_lost, trees_in}
+use Rattle.import_work.specs.Course.{AreRead, Files, Finding, FindsFiles, HasTooMany, ImportFile, IsContent, IsImported, IsUnlisted, Made, TooMany, Unlisted, games_of_files, import_file, nothing_lost, trees_in}
 use Rattle.import_work.specs.Outcome.{IsOutcome, with_games}
 use Rattle.import_work.specs.Batches.{names_of}
 use Rattle.import_work.specs.declared.outcome.Counts.{Counts}
 use Rattle.import_work.specs.declared.outcome.FileOutcome.{FileOutcome}
+use Rattle.import_work.specs.declared.source.Source.{Source}
+use Rattle.import_work.specs.declared.source.Source.TheVariants as source
+use Rattle.import_work.proofs.MadeFiles.{made-one}
 use Rattle.import_work.proofs.NamesExist.{names-one}
 use Rattle.import_work.proofs.OutcomesExist.{outcome-one}
 
@@ -73,15 +76,32 @@ module _ (all : List File) (path : List ℕ) (before : Counts) where
       let same : length many.names ≡ length files = ap length (names-one all path many.names (names_of files) many.are_names few.names) ∙ length-map files name_of in
       omega (arith, many.counted, many.many, few.few, same)
 
-  pub finding-one : (a b : Finding) → IsImported all path before nothing_lost a → IsImported all path before nothing_lost b → a ≡ b
-  finding-one Unlisted Unlisted one other = refl
-  finding-one Unlisted (TooMany n) one other = absurd (no_path one other.0.path_there)
-  finding-one Unlisted (Files files) one other = absurd (no_path one other.path_there)
-  finding-one (TooMany m) Unlisted one other = absurd (no_path other one.0.path_there)
-  finding-one (TooMany m) (TooMany n) one other =
+  pub finding_under-one : (a b : Finding) → IsImported all (source.Under path) before nothing_lost a → IsImported all (source.Under path) before nothing_lost b → a ≡ b
+  finding_under-one Unlisted Unlisted one other = refl
+  finding_under-one Unlisted (TooMany n) one other = absurd (no_path one other.0.path_there)
+  finding_under-one Unlisted (Files files) one other = absurd (no_path one other.path_there)
+  finding_under-one (TooMany m) Unlisted one other = absurd (no_path other one.0.path_there)
+  finding_under-one (TooMany m) (TooMany n) one other =
       ap TooMany (one.0.counted ∙ ap length (names-one all path one.0.names other.0.names one.0.are_names other.0.are_names) ∙ sym other.0.counted)
-  finding-one (TooMany m) (Files files) one other = absurd (not_few m files one.0 other)
-  finding-one (Files files) Unlisted one other = absurd (no_path other one.path_there)
-  finding-one (Files files) (TooMany n) one other = absurd (not_few n files other.0 one)
-  finding-one (Files files) (Files more) one other =
+  finding_under-one (TooMany m) (Files files) one other = absurd (not_few m files one.0 other)
+  finding_under-one (Files files) Unlisted one other = absurd (no_path other one.path_there)
+  finding_under-one (Files files) (TooMany n) one other = absurd (not_few n files other.0 one)
+  finding_under-one (Files files) (Files more) one other =
       ap Files (files-one files more [] [] one.read other.read refl refl (names-one all path (names_of files) (names_of more) one.names other.names))
+  finding_under-one Unlisted (Made files) one other = absurd other
+  finding_under-one (TooMany m) (Made files) one other = absurd other
+  finding_under-one (Files files) (Made more) one other = absurd other
+  finding_under-one (Made files) b one other = absurd one
+
+finding_made-one : (all : List File) (games seed : ℕ) (before : Counts) (a b : Finding) → IsImported all (source.Made games seed) before nothing_lost a → IsImported all (source.Made games seed) before nothing_lost b → a ≡ b
+finding_made-one all games seed before (Made files) (Made more) one other = ap Made (made-one seed 0 before files more one.0.made other.0.made (one.0.all ∙ sym other.0.all))
+finding_made-one all games seed before Unlisted b one other = absurd one
+finding_made-one all games seed before (TooMany m) b one other = absurd one
+finding_made-one all games seed before (Files files) b one other = absurd one
+finding_made-one all games seed before (Made files) Unlisted one other = absurd other
+finding_made-one all games seed before (Made files) (TooMany n) one other = absurd other
+finding_made-one all games seed before (Made files) (Files more) one other = absurd other
+
+pub finding-one : (all : List File) (from : Source) (before : Counts) (a b : Finding) → IsImported all from before nothing_lost a → IsImported all from before nothing_lost b → a ≡ b
+finding-one all (source.Under path) before a b one other = finding_under-one all path before a b one other
+finding-one all (source.Made games seed) before a b one other = finding_made-one all games seed before a b one other

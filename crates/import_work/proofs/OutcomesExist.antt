@@ -23,7 +23,7 @@ use Rattle.import_work.specs.declared.outcome.FileOutcome.TheVariants as file
 use Rattle.import_work.specs.Outcome.{HasRoom, HaveGames, IsFaulty, IsOutcome, games_after, nodes_after}
 
 -- there is room for games, or there is none
-room-or-none : (before : Counts) (trees : List Tree) → HasRoom before trees ⊎ (¬ HasRoom before trees)
+pub room-or-none : (before : Counts) (trees : List Tree) → HasRoom before trees ⊎ (¬ HasRoom before trees)
 room-or-none before trees = elim (cases_lt 400000 (games_after before trees)) [
   | inl many ↦ inr (λ room. omega (arith, many, room.0))
   | inr few ↦ elim (cases_lt 67108864 (nodes_after before trees)) [

@@ -12,8 +12,8 @@ use Rattle.sgf_reader.specs.Faults.{IsRead}
 use Rattle.sgf_reader.specs.Grammar.{raw_game}
 use Rattle.sgf_reader.proofs.WithinLimits.{read-within_limits}
 use Rattle.game_tree.specs.Trees.{AreTreesOf, IsTreeOf}
-use Rattle.import_work.specs.Outcome.{HaveGames, IsOutcome, accepted, counts_of, full, games_after, nodes_after, nodes_of, refused, with_games}
-use Rattle.import_work.specs.Rooms.{AddsGames, AreAdded, IsAdded, IsAddedBy}
+use Rattle.import_work.specs.Outcome.{HaveGames, IsAddedBy, IsOutcome, counts_of, games_after, nodes_after, nodes_of, with_games}
+use Rattle.import_work.specs.Rooms.{AddsGames, AreAdded, IsAdded}
 use Rattle.import_work.specs.Batches.{IsTurnedAway}
 use Rattle.import_work.specs.Course.{games_from, trees_in}
 use Rattle.node_position.specs.Games.{Game}
@@ -80,9 +80,9 @@ with_file base games name trees =
 
 -- what an outcome adds
 pub IsAdded-outcome : (bytes : List ℕ) (before : Counts) (outcome : FileOutcome) (trees : List Tree) → IsOutcome bytes before outcome trees → IsAdded before outcome trees
-IsAdded-outcome bytes before (file.Refused _ _) _ (refused h) = refl
-IsAdded-outcome bytes before (file.Full _ _) _ (full trees have room) = refl
-IsAdded-outcome bytes before (file.Accepted _) _ (accepted have room) = (refl, room)
+IsAdded-outcome bytes before (file.Refused _ _) _ (IsOutcome.refused h) = refl
+IsAdded-outcome bytes before (file.Full _ _) _ (IsOutcome.full trees have room) = refl
+IsAdded-outcome bytes before (file.Accepted _) _ (IsOutcome.accepted have room) = (refl, room)
 IsAdded-outcome bytes before file.Unread trees h = elim h [ ]
 
 -- the counts without a game more
@@ -95,9 +95,9 @@ unread_adds_none before outcome trees is h = rw is at h
 
 -- a file that was read isn't unread
 pub read-not_unread : (bytes : List ℕ) (before : Counts) (outcome : FileOutcome) (trees : List Tree) → IsOutcome bytes before outcome trees → outcome ≢ file.Unread
-read-not_unread bytes before (file.Refused _ _) _ (refused h) is = cc
-read-not_unread bytes before (file.Full _ _) _ (full trees have room) is = cc
-read-not_unread bytes before (file.Accepted _) _ (accepted have room) is = cc
+read-not_unread bytes before (file.Refused _ _) _ (IsOutcome.refused h) is = cc
+read-not_unread bytes before (file.Full _ _) _ (IsOutcome.full trees have room) is = cc
+read-not_unread bytes before (file.Accepted _) _ (IsOutcome.accepted have room) is = cc
 read-not_unread bytes before file.Unread trees h is = elim h [ ]
 
 -- a file is unread or not
@@ -122,8 +122,8 @@ accepted_is before trees count games nodes count_is games_is nodes_is few small 
 
 -- what becomes of games without a fault
 pub IsOutcome-in_room : (bytes : List ℕ) (before : Counts) (trees : List Tree) (outcome : FileOutcome) (added : List Tree) → HaveGames bytes trees → IsAddedBy before trees outcome added → IsOutcome bytes before outcome added
-IsOutcome-in_room bytes before trees _ _ have (IsAddedBy.full room) = full trees have room
-IsOutcome-in_room bytes before trees _ _ have (IsAddedBy.accepted room) = accepted have room
+IsOutcome-in_room bytes before trees _ _ have (IsAddedBy.full room) = IsOutcome.full trees have room
+IsOutcome-in_room bytes before trees _ _ have (IsAddedBy.accepted room) = IsOutcome.accepted have room
 
 -- lists that fit each other are of one length
 length-AllZip : {A B : Type 0} (R : A → B → Type 0) (xs : List A) (ys : List B) → AllZip R xs ys → length xs ≡ length ys

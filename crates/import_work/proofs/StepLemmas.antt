@@ -19,6 +19,7 @@ use Rattle.import_work.specs.declared.listing.Listing.{Listing}
 use Rattle.import_work.specs.declared.listing.Listing.TheVariants as listing
 use Rattle.import_work.specs.declared.report.ReportBody.{ReportBody}
 use Rattle.import_work.specs.declared.report.ReportBody.TheVariants as report
+use Rattle.import_work.specs.declared.source.Source.TheVariants as source
 use Rattle.import_work.proofs.LostFiles.{paid_untold}
 use Rattle.import_work.proofs.Turns.{room_after, unread_paid}
 
@@ -47,8 +48,8 @@ module _ (told : Option (List File)) (path : List ℕ) (line number given batch 
   -- the next names of an import become a segment
   pub step_given : 0 < length left → count ≡ min batch (length left) →
       AreMoreFiles told path (map string_bytes (take count left)) counts after before now (line_reports lines) (line_reports all) [] segment →
-      IsStep told batch (record { path = path; line = line; number = number; left = map string_bytes left; body = report.Files lines; counts = counts; given = given })
-      (record { path = path; line = line; number = number; left = map string_bytes (drop count left); body = report.Files all; counts = after; given = given + 1 }) segment before now
+      IsStep told batch (record { source = source.Under path; line = line; number = number; left = map string_bytes left; body = report.Files lines; counts = counts; given = given })
+      (record { source = source.Under path; line = line; number = number; left = map string_bytes (drop count left); body = report.Files all; counts = after; given = given + 1 }) segment before now
   step_given some count_is h =
       let own : List FileReport = h.own_reports in
       let told_lines : line_reports (map file_line own) ≡ own = own_lines own in
@@ -57,18 +58,19 @@ module _ (told : Option (List File)) (path : List ℕ) (line number given batch 
       let rest : map string_bytes (drop count left) ≡ drop batch (map string_bytes left) = ap (λ n. map string_bytes (drop n left)) count_is ∙ ap (map string_bytes) (drop_min batch left) ∙ sym (drop-map string_bytes batch left) in
       let counted : after ≡ with_games counts (trees_in segment) = h.counted ∙ ap (λ gs. with_games counts (trees_in gs)) games in
       let turn : AreImportedInTurn told path counts before (line_reports (map file_line own)) segment now = subst (λ rs. AreImportedInTurn told path counts before rs segment now) (sym told_lines) (subst (λ gs. AreImportedInTurn told path counts before own gs now) games h.in_turn) in
-      let pushed : all ≡ lines ++ map file_line own = more_lines lines all own h.reports_are in record {
+      let pushed : all ≡ lines ++ map file_line own = more_lines lines all own h.reports_are in IsStep.of_files path (record {
         lines = lines;
         more = map file_line own;
+        under = refl;
         some = λ none. omega (arith, some, sym (length-map left string_bytes) ∙ ap length none);
         listed = refl;
         named = ap names_in told_lines ∙ h.named ∙ names;
         in_turn = turn;
-        goes_on = λ i. record { path = path; line = line; number = number; left = rest i; body = report.Files (pushed i); counts = counted i; given = given + 1 };
+        goes_on = λ i. record { source = source.Under path; line = line; number = number; left = rest i; body = report.Files (pushed i); counts = counted i; given = given + 1 };
         paid = unread_paid told path counts before (line_reports (map file_line own)) segment now turn;
         untold = λ untold. paid_untold told path (unread_in (line_reports (map file_line own))) before now untold (unread_paid told path counts before (line_reports (map file_line own)) segment now turn);
         room = room_after told path counts after before (line_reports (map file_line own)) segment now counted turn;
-      }
+      })
 
 -- a list that isn't empty, as the test says
 pub some_by_test : {X : Type 0} (xs : List X) (empty : Bool) → empty ≡ (length xs == 0) → empty ≡ false → 0 < length xs
@@ -88,11 +90,11 @@ module _ (told : Option (List File)) (path : List ℕ) (line number given batch 
   -- the same of the names from the next one on
   pub step_kept : listed_as ≡ listing.Names → 0 < length (drop next names) → count ≡ min batch (length (drop next names)) →
       AreMoreFiles told path (map string_bytes (take count (drop next names))) counts after before now (line_reports lines) (line_reports all) [] segment →
-      IsStep told batch (record { path = path; line = line; number = number; left = map string_bytes (drop next names); body = body_of listed_as lines; counts = counts; given = given })
-      (record { path = path; line = line; number = number; left = map string_bytes (drop (next + count) names); body = body_of listed_as all; counts = after; given = given + 1 }) segment before now
+      IsStep told batch (record { source = source.Under path; line = line; number = number; left = map string_bytes (drop next names); body = body_of listed_as lines; counts = counts; given = given })
+      (record { source = source.Under path; line = line; number = number; left = map string_bytes (drop (next + count) names); body = body_of listed_as all; counts = after; given = given + 1 }) segment before now
   step_kept listed some count_is h =
-      let start : ReportBody → ImportState = λ b. record { path = path; line = line; number = number; left = map string_bytes (drop next names); body = b; counts = counts; given = given } in
-      let end : ReportBody → List (String Global) → ImportState = λ b ns. record { path = path; line = line; number = number; left = map string_bytes ns; body = b; counts = after; given = given + 1 } in
+      let start : ReportBody → ImportState = λ b. record { source = source.Under path; line = line; number = number; left = map string_bytes (drop next names); body = b; counts = counts; given = given } in
+      let end : ReportBody → List (String Global) → ImportState = λ b ns. record { source = source.Under path; line = line; number = number; left = map string_bytes ns; body = b; counts = after; given = given + 1 } in
       subst (λ l. IsStep told batch (start (body_of l lines)) (end (body_of l all) (drop (next + count) names)) segment before now) (sym listed)
       (subst (λ ns. IsStep told batch (start (report.Files lines)) (end (report.Files all) ns) segment before now) (sym (drop_more next count names))
       (step_given told path line number given batch count (drop next names) counts after lines all segment before now some count_is h))
@@ -104,8 +106,8 @@ module _ (told : Option (List File)) (path : List ℕ) (line number given batch 
   -- the same as the code takes them
   pub step_taken : slice ≡ names → (names ≢ [] → listed_as ≡ listing.Names) → 0 < length rest → count ≡ min (length rest) batch →
       AreMoreFiles told path (map string_bytes (take count rest)) counts after before now (line_reports lines) (line_reports all) [] segment →
-      IsStep told batch (record { path = path; line = line; number = number; left = map string_bytes (drop next names); body = body_of listed_as lines; counts = counts; given = given })
-      (record { path = path; line = line; number = number; left = map string_bytes (drop (next + count) names); body = body_of listed_as all; counts = after; given = given + 1 }) segment before now
+      IsStep told batch (record { source = source.Under path; line = line; number = number; left = map string_bytes (drop next names); body = body_of listed_as lines; counts = counts; given = given })
+      (record { source = source.Under path; line = line; number = number; left = map string_bytes (drop (next + count) names); body = body_of listed_as all; counts = after; given = given + 1 }) segment before now
   step_taken same listed some count_is h =
       let left : rest ≡ drop next names = take_all (length slice - next) (drop next slice) (rw length-drop (omega arith)) ∙ ap (drop next) same in
       let some_left : 0 < length (drop next names) = subst (λ ns. 0 < length ns) left some in

@@ -1,5 +1,5 @@
 -- What a batch of files becomes.
-use Rattle.std.specs.Prelude.{◌≡◌, ◌≢◌, ◌⊎◌, ◌≤◌, ℕ, suc, Bool, true, false, List, [], ◌∷◌, ◌++◌, Some, filter, map, sum_by}
+use Rattle.std.specs.Prelude.{◌≡◌, ◌≢◌, ◌⊎◌, ◌≤◌, ℕ, suc, Bool, true, false, List, [], ◌∷◌, ◌++◌, Some, count_by, filter, map, sum_by}
 use Rattle.std.specs.declared.option.Option.{Option}
 use Rattle.kb_edges.specs.Faults.{Rose, RoseBy}
 use Rattle.kb_edges.specs.Files.{File, HasFile}
@@ -39,6 +39,17 @@ is_unread (file.Full games nodes) = false
 -- the names of the files that weren't read
 abbrev pub unread_in : List FileReport → List (List ℕ)
 unread_in reports = names_in (filter (λ (r : FileReport). is_unread r.outcome) reports)
+
+-- whether there was no room for a file
+abbrev pub is_full : FileOutcome → Bool
+is_full (file.Full games nodes) = true
+is_full (file.Accepted games) = false
+is_full (file.Refused of at) = false
+is_full file.Unread = false
+
+-- for how many files the reports tell that there was no room
+abbrev pub full_told : List FileReport → ℕ
+full_told reports = count_by (λ (r : FileReport). is_full r.outcome) reports
 
 -- how many games were added by a file with this outcome
 abbrev pub games_added : FileOutcome → ℕ

@@ -1,5 +1,6 @@
--- What an import finds in a folder that tells its files, and what was lost to faults on the way.
-use Rattle.std.specs.Prelude.{◌≡◌, ◌⊎◌, ◌↔◌, ◌+◌, ◌<◌, ◌≤◌, ℕ, Bool, true, false, cond, List, [], ◌∷◌, ◌++◌, length, map, take, Some, AllPairs, Contains, sum_by}
+-- What an import finds: files of a folder that tells its files, and what was lost to faults on the
+-- way, or made games.
+use Rattle.std.specs.Prelude.{◌≡◌, ◌⊎◌, ◌↔◌, ◌+◌, ◌<◌, ◌≤◌, ℕ, Bool, true, false, cond, List, [], ◌∷◌, ◌++◌, codes, length, map, take, Some, AllPairs, Contains, sum_by}
 use Rattle.std.specs.List.{flat_map}
 use Rattle.std.specs.Cmp.Lexicographic.{slice_cmp}
 use Rattle.std.specs.Ordering.{nat_cmp}
@@ -7,10 +8,13 @@ use Rattle.std.specs.declared.cmp.Ordering.TheVariants.{Less}
 use Rattle.kb_edges.specs.Files.{File, HasFile, HasPath, IsSgfName, content_of}
 use Rattle.game_tree.specs.Tree.{Tree}
 use Rattle.node_position.specs.Games.{Game}
+use Rattle.made_games.specs.Made.{made_tree}
+use Rattle.import_work.specs.declared.source.Source.{Source}
+use Rattle.import_work.specs.declared.source.Source.TheVariants as source
 use Rattle.import_work.specs.declared.outcome.FileOutcome.{FileOutcome}
 use Rattle.import_work.specs.declared.outcome.FileOutcome.TheVariants as file
 use Rattle.import_work.specs.declared.outcome.Counts.{Counts}
-use Rattle.import_work.specs.Outcome.{IsOutcome, with_games}
+use Rattle.import_work.specs.Outcome.{IsAddedBy, IsOutcome, with_games}
 
 -- what the report says of a file of an import: its name, and what became of it
 pub record FileReport : Type 0 where
@@ -30,15 +34,18 @@ games_of_files files = flat_map (λ (f : ImportFile). f.games) files
 abbrev pub reports_of : List ImportFile → List FileReport
 reports_of files = map (λ (f : ImportFile). f.report) files
 
--- what an import found: no listing, too many names, or its files in order
+-- what an import found: no listing, too many names, its files in order, or made games in order, each
+-- as a file of its own
 pub data Finding : Type 0 where
   Unlisted : Finding
   TooMany : ℕ → Finding
   Files : List ImportFile → Finding
+  Made : List ImportFile → Finding
 
 -- What the course says of one import: whether it is unlisted although its path is there, and which
--- of its files are unread. Each of these is a loss. A run's losses are at most the rise of the
--- folder's count of faults, so that without a fault there are none.
+-- of its files are unread. Each of these is a loss. Of made games it says that nothing was lost. A
+-- run's losses are at most the rise of the folder's count of faults, so that without a fault there
+-- are none.
 pub record ImportCourse : Type 0 where
   pub unlisted : Bool
   pub unread : List (List ℕ)
@@ -70,6 +77,10 @@ games_from name place [] = []
 games_from name place (tree ∷ trees) =
     record { file = name; place = place; tree = tree } ∷ games_from name (place + 1) trees
 
+-- the name of the file of made games
+abbrev pub made_name : List ℕ
+made_name = codes "make"
+
 -- the trees of games
 abbrev pub trees_in : List Game → List Tree
 trees_in games = map (λ (game : Game). game.tree) games
@@ -97,6 +108,25 @@ pub data AreRead (all : List File) (path : List ℕ) (before : Counts) : List Im
       AreRead all path before files unread →
       AreRead all path before (files ++ import_file name file.Unread [] ∷ []) (unread ++ name ∷ [])
 
+-- a made game with this number, which has this outcome and adds these trees: a file of its own, in
+-- which the game's number is its place
+abbrev pub made_file : ℕ → FileOutcome → List Tree → ImportFile
+made_file number outcome trees = record {
+  report = record { name = made_name; outcome = outcome };
+  games = games_from made_name number trees;
+}
+
+-- What became of made games from the one with the number `first` on, one after another, in a base
+-- with these counts before them: each is added where there is room for it in the base with the games
+-- before it. The first game of all begins with `start`.
+pub data AreMade (start first : ℕ) (before : Counts) : List ImportFile → Type 0 where
+  nothing : AreMade start first before []
+  one_more : {files : List ImportFile} (outcome : FileOutcome) (trees : List Tree) →
+      AreMade start first before files →
+      IsAddedBy (with_games before (trees_in (games_of_files files)))
+      (made_tree start (first + length files) ∷ []) outcome trees →
+      AreMade start first before (files ++ made_file (first + length files) outcome trees ∷ [])
+
 -- The import of this path is unlisted by this entry of the course: as a loss though its path is
 -- there, or because it isn't there.
 abbrev pub IsUnlisted : List File → List ℕ → ImportCourse → Type 0
@@ -121,10 +151,22 @@ pub record HasTooMany (all : List File) (path : List ℕ) (count : ℕ) : Type 0
   pub counted : count ≡ length names
   pub many : 100000 < count
 
--- what an import of this path, in a base with these counts, finds in these files, by this entry of
--- the course
-abbrev pub IsImported : List File → List ℕ → Counts → ImportCourse → Finding → Type 0
-IsImported all path before entry Unlisted = IsUnlisted all path entry
-IsImported all path before entry (TooMany count) =
+-- so many made games, in a base with these counts, became these files
+pub record HasMade (games start : ℕ) (before : Counts) (files : List ImportFile) : Type 0 where
+  pub all : length files ≡ games
+  pub made : AreMade start 0 before files
+
+-- What an import from this source, in a base with these counts, finds in these files, by this entry
+-- of the course.
+abbrev pub IsImported : List File → Source → Counts → ImportCourse → Finding → Type 0
+IsImported all (source.Under path) before entry Unlisted = IsUnlisted all path entry
+IsImported all (source.Under path) before entry (TooMany count) =
     HasTooMany all path count × (entry ≡ nothing_lost)
-IsImported all path before entry (Files files) = FindsFiles all path before entry files
+IsImported all (source.Under path) before entry (Files files) =
+    FindsFiles all path before entry files
+IsImported all (source.Under path) before entry (Made files) = ⊥
+IsImported all (source.Made games start) before entry Unlisted = ⊥
+IsImported all (source.Made games start) before entry (TooMany count) = ⊥
+IsImported all (source.Made games start) before entry (Files files) = ⊥
+IsImported all (source.Made games start) before entry (Made files) =
+    HasMade games start before files × (entry ≡ nothing_lost)

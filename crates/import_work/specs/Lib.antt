@@ -3,6 +3,7 @@ pub mod Batches
 pub mod Course
 pub mod Imports
 pub mod Log
+pub mod Made
 pub mod Outcome
 pub mod Rooms
 -- Words of private functions alone.
@@ -10,6 +11,7 @@ pub mod Found
 pub mod ImportFields
 pub mod Judged
 pub mod Listings
+pub mod MadePieces
 pub mod Parsed
 pub mod Pieces
 pub mod Reads

@@ -3,9 +3,9 @@ use Rattle.std.specs.Prelude.{ℕ, ◌+◌, ◌-◌, ◌/◌, List, [], length, 
 use Rattle.std.specs.Fork.{slice_chunk}
 use Rattle.std.specs.List.{flat_map, range_with_len}
 use Rattle.node_position.specs.Games.{Game}
-use Rattle.import_work.specs.Course.{Files, Finding, ImportFile, TooMany, Unlisted, games_of_files}
+use Rattle.import_work.specs.Course.{Files, Finding, ImportFile, Made, TooMany, Unlisted, games_of_files}
 
--- A segment: the games of the files of one batch.
+-- A segment: the games of the files of one batch. Each made game is a file of its own.
 abbrev pub Segment : Type 0
 Segment = List Game
 
@@ -19,6 +19,7 @@ abbrev pub segments_of : ℕ → Finding → List Segment
 segments_of batch Unlisted = []
 segments_of batch (TooMany names) = []
 segments_of batch (Files files) = map games_of_files (batches batch files)
+segments_of batch (Made files) = map games_of_files (batches batch files)
 
 -- the games of segments, in order
 abbrev pub games_in : List Segment → List Game

@@ -58,3 +58,9 @@ pub data IsOutcome (bytes : List ℕ) (before : Counts) : FileOutcome → List T
       IsOutcome bytes before (file.Full (games_after before trees) (nodes_after before trees)) []
   accepted : {trees : List Tree} → HaveGames bytes trees → HasRoom before trees →
       IsOutcome bytes before (file.Accepted (length trees)) trees
+
+-- Of these games all are added where there is room for them, else none.
+pub data IsAddedBy (before : Counts) (games : List Tree) : FileOutcome → List Tree → Type 0 where
+  full : ¬ HasRoom before games →
+      IsAddedBy before games (file.Full (games_after before games) (nodes_after before games)) []
+  accepted : HasRoom before games → IsAddedBy before games (file.Accepted (length games)) games

@@ -6,13 +6,7 @@ use Rattle.import_work.specs.declared.outcome.FileOutcome.{FileOutcome}
 use Rattle.import_work.specs.declared.outcome.FileOutcome.TheVariants as file
 use Rattle.node_position.specs.Games.{Game}
 use Rattle.import_work.specs.Course.{trees_in}
-use Rattle.import_work.specs.Outcome.{HasRoom, games_after, nodes_after, with_games}
-
--- Of these games all are added where there is room for them, else none.
-pub data IsAddedBy (before : Counts) (games : List Tree) : FileOutcome → List Tree → Type 0 where
-  full : ¬ HasRoom before games →
-      IsAddedBy before games (file.Full (games_after before games) (nodes_after before games)) []
-  accepted : HasRoom before games → IsAddedBy before games (file.Accepted (length games)) games
+use Rattle.import_work.specs.Outcome.{HasRoom, with_games}
 
 -- Games are added only by an accepted file: so many, and there is room for them.
 abbrev pub IsAdded : Counts → FileOutcome → List Tree → Type 0

@@ -53,7 +53,7 @@ impl Follower {
     }
 
     // What each node of a tree changes.
-    fn deltas(&mut self, alloc: Global, tree: &GameTree) -> Result<NodeDeltas, NoMemory>
+    pub(crate) fn deltas(&mut self, alloc: Global, tree: &GameTree) -> Result<NodeDeltas, NoMemory>
         ensures { IfOk result (AreNodeChanges tree.now) }
     {
         deltas_with(alloc, tree, &mut self.board, &mut self.changes)

@@ -70,7 +70,7 @@ fn in_room(
 }
 
 // Adds these games.
-fn add_all(
+pub(crate) fn add_all(
     alloc: Global,
     own: Vec<FinishedGame>,
     games: &mut SegmentBuilder,

@@ -1,27 +1,42 @@
 // Laws of the words for files and imports, for who reads a contract over them. Each stands as a
 // contract of a function that does nothing.
-ghost use Rattle.std.specs.Prelude.{◌≡◌, ◌⊎◌, ◌≤◌, [], ◌∷◌, List, ℕ, Some};
+ghost use Rattle.std.specs.Prelude.{◌≡◌, ◌⊎◌, ◌+◌, ◌≤◌, [], ◌∷◌, List, length, ℕ, Some};
 ghost use Rattle.std.specs.declared.option.Option.{Option};
 ghost use Rattle.kb_edges.specs.Faults.{Rose, RoseBy};
-ghost use Rattle.kb_edges.specs.Files.{File, HasPath};
+ghost use Rattle.kb_edges.specs.Files.{File};
 ghost use Rattle.game_tree.specs.Tree.{Tree};
-ghost use Rattle.import_work.specs.Batches.{IsImportedFile, IsTurnedAway};
-ghost use Rattle.import_work.specs.Course.{AreNames, Finding, IsImported, losses_of, nothing_lost};
+ghost use Rattle.import_work.specs.Batches.{IsImportedFile, IsTurnedAway, full_told};
+ghost use Rattle.import_work.specs.Course.{
+  AreNames,
+  Finding,
+  HasMade,
+  ImportFile,
+  IsImported,
+  games_of_files,
+  losses_of,
+  nothing_lost,
+  reports_of,
+};
 ghost use Rattle.import_work.specs.Imports.{
   AddsUp,
   FindsIn,
   GivesAll,
   GivesFirst,
+  GivesMade,
   HasGiven,
   ImportState,
   IsListed,
   IsListedIn,
+  IsNotThere,
 };
 ghost use Rattle.import_work.specs.Log.{Segment};
+ghost use Rattle.import_work.specs.Made.{AreAddedFirst};
 ghost use Rattle.import_work.specs.Outcome.{IsOutcome, with_games};
 ghost use Rattle.import_work.specs.declared.outcome.Counts.{Counts};
 ghost use Rattle.import_work.specs.declared.outcome.FileOutcome.{FileOutcome};
 ghost use Rattle.import_work.specs.declared.report.ReportBody.TheVariants.{Unlisted};
+ghost use Rattle.import_work.specs.declared.source.Source.{Source};
+ghost use Rattle.import_work.specs.declared.source.Source.TheVariants as source;
 
 /// An import of each path has a list of names, in each folder, and one only.
 pub fn an_import_has_one_list_of_names()
@@ -39,13 +54,13 @@ pub fn a_file_has_one_outcome()
         IsOutcome bytes before a xs → IsOutcome bytes before b ys → (a ≡ b) × (xs ≡ ys) }
 {}
 
-/// An import of each path can find something by which nothing is lost, and one thing only.
+/// An import from each source can find something by which nothing is lost, and one thing only.
 pub fn an_import_without_a_loss_finds_one_thing()
-    ensures some { (files : List File) (path : List ℕ) (before : Counts) →
-        (finding : Finding) × IsImported files path before nothing_lost finding }
-    ensures one { (files : List File) (path : List ℕ) (before : Counts) (a b : Finding) →
-        IsImported files path before nothing_lost a →
-        IsImported files path before nothing_lost b → a ≡ b }
+    ensures some { (files : List File) (source : Source) (before : Counts) →
+        (finding : Finding) × IsImported files source before nothing_lost finding }
+    ensures one { (files : List File) (source : Source) (before : Counts) (a b : Finding) →
+        IsImported files source before nothing_lost a →
+        IsImported files source before nothing_lost b → a ≡ b }
 {}
 
 /// A file that is refused, full or unread adds no game and changes no count.
@@ -69,13 +84,13 @@ pub fn an_import_adds_up()
 /// also where the count of faults has risen further by a step that was refused.
 pub fn an_import_gives_what_it_finds()
     ensures all { (all : List File) (batch : ℕ) (start now : ImportState) (segments : List Segment)
-        (first last : ℕ) → 1 ≤ batch → IsListed start.body start.left →
-        IsListedIn all start.path start.body start.left →
+        (first last : ℕ) → 1 ≤ batch → IsListed start.source start.body start.left →
+        IsListedIn all start.source start.body start.left →
         HasGiven (Some all) batch start first segments now last → now.left ≡ [] →
         GivesAll all batch start segments now.body first last }
     ensures first { (all : List File) (batch : ℕ) (start now : ImportState) (segments : List Segment)
-        (first last after : ℕ) → 1 ≤ batch → IsListed start.body start.left →
-        IsListedIn all start.path start.body start.left →
+        (first last after : ℕ) → 1 ≤ batch → IsListed start.source start.body start.left →
+        IsListedIn all start.source start.body start.left →
         HasGiven (Some all) batch start first segments now last → last ≤ after →
         GivesFirst all batch start segments first after }
 {}
@@ -85,6 +100,28 @@ pub fn an_import_gives_what_it_finds()
 pub fn an_import_loses_by_faults_alone()
     ensures { (all : List File) (start : ImportState) (before first last : ℕ)
         (finds : FindsIn all start first last) →
-        (start.body ≡ Unlisted → Rose before first ⊎ (¬ HasPath all start.path)) →
+        (start.body ≡ Unlisted → Rose before first ⊎ IsNotThere all start.source) →
         before ≤ first → first ≤ last → RoseBy (losses_of (finds.entry ∷ [])) before last }
+{}
+
+/// Whatever the folder tells, an import of made games that has none left has given the segments of all
+/// of them, each added where there was room for it, and its report tells how many were added and for
+/// how many there was no room: all of them together.
+pub fn made_games_give_all()
+    ensures given { (told : Option (List File)) (batch : ℕ) (start now : ImportState)
+        (segments : List Segment) (first last games seed : ℕ) → 1 ≤ batch →
+        start.source ≡ source.Made games seed →
+        IsListed (source.Made games seed) start.body start.left →
+        HasGiven told batch start first segments now last → now.left ≡ [] →
+        GivesMade batch games seed start now segments }
+    ensures told { (games seed : ℕ) (before : Counts) (files : List ImportFile) →
+        HasMade games seed before files →
+        length (games_of_files files) + full_told (reports_of files) ≡ games }
+{}
+
+/// The made games that a base takes are the first ones, by their numbers, as many as it has room for.
+pub fn made_games_are_added_in_order()
+    ensures { (games seed : ℕ) (before : Counts) (files : List ImportFile) →
+        HasMade games seed before files →
+        (added : ℕ) × AreAddedFirst seed games added before (games_of_files files) }
 {}

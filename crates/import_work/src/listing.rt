@@ -18,7 +18,7 @@ ghost use Rattle.kb_edges.specs.Faults.{Rose};
 ghost use Rattle.kb_edges.specs.Files.{File, HasPath};
 ghost use Rattle.kb_edges.specs.Told.{IfTold};
 ghost use Rattle.import_work.specs.Course.{AreNames};
-ghost use Rattle.import_work.specs.Imports.{AreSortedNames, IsListed, IsListedIn};
+ghost use Rattle.import_work.specs.Imports.{AreSortedNames, IsFolderListed, IsPathListed};
 ghost use Rattle.import_work.specs.Listings.{body_of};
 ghost use Rattle.import_work.specs.declared.listing.Listing.TheVariants.{Unlisted};
 
@@ -70,10 +70,10 @@ fn listed_names<F: Folder>(
 // These names, unless there are more than an import may have.
 fn few_names(alloc: Global, names: Vec<String>) -> (Listing, Vec<String>)
     ensures listed { AreSortedNames (map string_bytes names.items) →
-        IsListed (body_of result.0 []) (map string_bytes result.1.items) }
+        IsFolderListed (body_of result.0 []) (map string_bytes result.1.items) }
     ensures told { (all : List File) (path : List ℕ) → HasPath all path →
         AreNames all path (map string_bytes names.items) →
-        IsListedIn all path (body_of result.0 []) (map string_bytes result.1.items) }
+        IsPathListed all path (body_of result.0 []) (map string_bytes result.1.items) }
     ensures there { result.0 ≢ Unlisted }
 {
     if names.len() > MAX_NAMES {
@@ -89,9 +89,9 @@ pub(crate) fn list_names<F: Folder>(
     folder: &mut F,
     path: &str,
 ) -> Result<(Listing, Vec<String>), NoMemory>
-    ensures listed { IfOk result (λ r. IsListed (body_of r.0 []) (map string_bytes r.1.items)) }
+    ensures listed { IfOk result (λ r. IsFolderListed (body_of r.0 []) (map string_bytes r.1.items)) }
     ensures told { IfTold (F.files folder.old) (λ all. IfOk result (λ r.
-        IsListedIn all path.now (body_of r.0 []) (map string_bytes r.1.items))) }
+        IsPathListed all path.now (body_of r.0 []) (map string_bytes r.1.items))) }
     ensures unlisted { IfOk result (λ r. r.0 ≡ Unlisted →
         Rose (F.faults folder.old) (F.faults folder.new)
         ⊎ ((files : List File) × (F.files folder.old ≡ Some files) × (¬ HasPath files path.now))) }

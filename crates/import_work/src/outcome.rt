@@ -2,8 +2,7 @@
 ghost use Rattle.std.specs.Prelude.{◌≡◌, ◌<◌, IfOk, length};
 ghost use Rattle.import_work.specs.declared.outcome.Parsed.TheVariants.{Refused};
 ghost use Rattle.import_work.specs.Parsed.{IsParsed};
-ghost use Rattle.import_work.specs.Outcome.{IsOutcome, nodes_of};
-ghost use Rattle.import_work.specs.Rooms.{IsAddedBy};
+ghost use Rattle.import_work.specs.Outcome.{IsAddedBy, IsOutcome, nodes_of};
 
 use game_tree::{BuildError, GameTree, Setup, build_flat};
 use kb_geometry::NoMemory;

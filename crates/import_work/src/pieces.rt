@@ -1,7 +1,7 @@
 // What is found in the files of a batch, in up to eight pieces side by side.
 ghost use Rattle.std.specs.Prelude.{◌≡◌, ◌≤◌, ◌++◌, [], length, IfOk, OnOk};
 ghost use Rattle.import_work.specs.Judged.{AreFound, IsFoundFile};
-ghost use Rattle.import_work.specs.Pieces.{AreJoined, ArePieces, IsPiece, IsPieceAdded, group_texts};
+ghost use Rattle.import_work.specs.Pieces.{AreJoined, IsPieceAdded, group_texts};
 ghost use Rattle.import_work.specs.Reads.{file_text, file_texts};
 
 use crate::found::{Follower, Found, FoundFile, found_in};
@@ -38,6 +38,22 @@ fn grouped(alloc: Global, files: Vec<ReadFile>) -> Result<Vec<Vec<ReadFile>>, No
     for file in files {
         group.push(file)?;
         close_if_full(alloc, share, &mut groups, &mut group)?;
+    }
+    with_last(groups, group)
+}
+
+// The groups with the last one behind them, unless that has no file.
+fn with_last(
+    mut groups: Vec<Vec<ReadFile>>,
+    group: Vec<ReadFile>,
+) -> Result<Vec<Vec<ReadFile>>, NoMemory>
+    requires { length groups.items ≤ 7 }
+    ensures files { IfOk result (λ all. group_texts all.items
+        ≡ group_texts groups.items ++ file_texts group.items) }
+    ensures few { IfOk result (λ all. length all.items ≤ 8) }
+{
+    if group.is_empty() {
+        return Ok(groups);
     }
     groups.push(group)?;
     Ok(groups)

@@ -1,7 +1,7 @@
 // What the report of an import tells.
 use crate::batch::FileLines;
 
-/// What the report of an import tells of its files.
+/// What the report of an import tells of its files, or of made games.
 #[derive(Debug, Drop)]
 pub enum ReportBody {
     /// What became of each file, in order of their names.
@@ -10,6 +10,8 @@ pub enum ReportBody {
     Unlisted,
     /// So many names were listed, more than an import may have.
     TooMany { listed: u64 },
+    /// So many made games were added, and for so many there was no room.
+    Made { games: u32, full: u32 },
 }
 
 /// The report of an import.

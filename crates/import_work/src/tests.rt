@@ -7,6 +7,7 @@ use std::test::Fail;
 
 mod damaged;
 mod imports;
+mod made;
 
 // A file: its name and its text.
 type File = (&'static str, &'static str);

@@ -1,16 +1,20 @@
 -- The moves of a made game, one after another, and that they lie on the board.
 use Prim.Native.Nat.{zero}
-use Rattle.std.proofs.Common.{◌≡◌, ℕ, ◌+◌, suc, List, [], ◌∷◌, ◌++◌, All, Some, IfSome, length, map, sym, ◌∙◌, ap, arith}
+use Rattle.std.proofs.Common.{◌≡◌, ℕ, ◌+◌, ◌%◌, ◌≤◌, inl, inr, suc, List, [], ◌∷◌, ◌++◌, All, Some, length, map, refl, sym, ◌∙◌, ap, arith}
+use Rattle.std.specs.Prelude.{◌==◌}
+use Rattle.std.proofs.lemmas.Bool.{cases_Bool}
 use Rattle.std.proofs.lemmas.List.FromFn.{length-map-range_with_len, map-range_with_len_more}
 use Rattle.std.proofs.lemmas.List.Elements.{All-cons, All-nil}
 use Rattle.std.specs.List.{range_with_len}
-use Rattle.kb_geometry.specs.Board.{IsOnBoard, cols_of, rows_of}
-use Rattle.kb_geometry.specs.declared.shape.Point.{Point}
+use Rattle.kb_geometry.specs.Board.{cols_of, rows_of}
 use Rattle.kb_geometry.specs.declared.shape.Shape.{Shape}
 use Rattle.kb_geometry.proofs.Shapes.{shape_same}
 use Rattle.game_tree.specs.declared.node.Move.{Move}
 use Rattle.game_tree.specs.Line.{line_node, line_tree, told_result}
-use Rattle.game_tree.specs.Tree.{Tree, node_count}
+use Rattle.game_tree.specs.Tree.{IsTree, Tree, node_count}
+use Rattle.game_tree.specs.Information.{HasNoControls}
+use Rattle.sgf_reader.specs.Bytes.{space}
+use Rattle.game_tree.proofs.Lines.{LiesOn, line-is_tree}
 use Rattle.made_games.specs.Made.{first_number, made_move, made_moves, made_tree, mover, next_number, number_after, point_of, result_text, standard_shape}
 
 pub number-more : (first turn : ℕ) → next_number (number_after first turn) ≡ number_after first (turn + 1)
@@ -24,10 +28,6 @@ moves-more first turn number e =
 
 pub moves-length : (first count : ℕ) → length (made_moves first count) ≡ count
 moves-length first count = length-map-range_with_len (made_move first) 0 count
-
--- the move lies on the board of this shape
-abbrev pub LiesOn : Shape → Move → Type 0
-LiesOn shape m = IfSome m.point (λ (p : Point). IsOnBoard shape p)
 
 module _ (shape : Shape) (cols : cols_of shape ≡ 19) (rows : rows_of shape ≡ 19) (first : ℕ) where
   lie_from : (a n : ℕ) → All (LiesOn shape) (map (made_move first) (range_with_len a n))
@@ -55,3 +55,21 @@ made-nodes start game =
     let many : length moves ≡ 200 = moves-length (first_number start game) 200 in
     let nodes : node_count (made_tree start game) ≡ length moves + 1 = length-map-range_with_len (line_node moves) 0 (length moves + 1) in
     omega (arith, nodes, many)
+
+-- ---- a made game is a tree
+
+abbrev Printed : ℕ → Type 0
+Printed b = space ≤ b
+
+no_controls : (game : ℕ) → HasNoControls (result_text game)
+no_controls game = elim (cases_Bool (game % 2 == 0)) [
+  | inl even ↦ rw even (All-cons Printed 66 (43 ∷ 82 ∷ []) (omega arith) (All-cons Printed 43 (82 ∷ []) (omega arith) (All-cons Printed 82 [] (omega arith) (All-nil Printed))))
+  | inr odd ↦ rw odd (All-cons Printed 87 (43 ∷ 82 ∷ []) (omega arith) (All-cons Printed 43 (82 ∷ []) (omega arith) (All-cons Printed 82 [] (omega arith) (All-nil Printed))))
+]
+
+pub made-tree : (start game : ℕ) → IsTree (made_tree start game)
+made-tree start game =
+    let moves = made_moves (first_number start game) 200 in
+    let none : HasNoControls [] = All-nil Printed in
+    line-is_tree standard_shape moves (omega (arith, moves-length (first_number start game) 200)) (moves-on_board standard_shape refl refl (first_number start game) 200)
+    (told_result (result_text game)) (record { black = none; white = none; event = none; place = none; date = none; outcome_text = no_controls game })

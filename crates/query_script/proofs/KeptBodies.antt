@@ -1,5 +1,5 @@
 -- The words of a count of kept games, option by option; and that they spell one at most.
-use Rattle.std.proofs.Common.{◌≡◌, ◌⊎◌, ◌++◌, ◌∙◌, ℕ, Bool, false, List, Option, codes, refl, sym, ap, subst, inl, inr, arith}
+use Rattle.std.proofs.Common.{◌≡◌, ◌⊎◌, ◌++◌, ◌∙◌, Bool, false, List, Option, codes, refl, ap, subst, inl, inr, arith}
 use Rattle.kb_geometry.specs.declared.shape.Shape.{Shape}
 use Rattle.pattern_images.specs.declared.pattern.Pattern.{Pattern}
 use Rattle.pattern_images.specs.declared.query.Query.{Query}

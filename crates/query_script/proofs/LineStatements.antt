@@ -39,29 +39,32 @@ kept-none (Err e) words rest is none = tt
 
 -- no statement of any kind
 pub no_statement : (words : List Word) →
-    ((query : Query) (filter : Filter) → ¬ IsStatement words (statement.Search query filter)) → ((path : List ℕ) → ¬ IsStatement words (statement.Import path)) → words ≢ bare (codes "wait") ∷ [] →
+    ((query : Query) (filter : Filter) → ¬ IsStatement words (statement.Search query filter)) → ((path : List ℕ) → ¬ IsStatement words (statement.Import path)) →
+    ((games start : ℕ) → ¬ IsStatement words (statement.Make games start)) → words ≢ bare (codes "wait") ∷ [] →
     ((number : ℕ) → ¬ IsStatement words (statement.Until number)) → ((query : Query) → ¬ IsStatement words (statement.Kept query)) → ((pattern : SigPattern) → ¬ IsStatement words (statement.Signature pattern)) →
     words ≢ bare (codes "players") ∷ [] → words ≢ bare (codes "doubles") ∷ [] → ((number : ℕ) → ¬ IsStatement words (statement.Game number)) →
     words ≢ bare (codes "report") ∷ [] → ((name : List ℕ) → ¬ IsStatement words (statement.Retire name)) →
     (s : Statement) → ¬ IsStatement words s
-no_statement words searched import_ wait until kept signature players doubles game report retire (statement.Import path) is = import_ path is
-no_statement words searched import_ wait until kept signature players doubles game report retire statement.Wait is = wait is
-no_statement words searched import_ wait until kept signature players doubles game report retire (statement.Until number) is = until number is
-no_statement words searched import_ wait until kept signature players doubles game report retire (statement.Search query filter) is = searched query filter is
-no_statement words searched import_ wait until kept signature players doubles game report retire (statement.Together searches) is = is
-no_statement words searched import_ wait until kept signature players doubles game report retire (statement.Kept query) is = kept query is
-no_statement words searched import_ wait until kept signature players doubles game report retire (statement.Signature pattern) is = signature pattern is
-no_statement words searched import_ wait until kept signature players doubles game report retire statement.Players is = players is
-no_statement words searched import_ wait until kept signature players doubles game report retire statement.Doubles is = doubles is
-no_statement words searched import_ wait until kept signature players doubles game report retire (statement.Game number) is = game number is
-no_statement words searched import_ wait until kept signature players doubles game report retire statement.Report is = report is
-no_statement words searched import_ wait until kept signature players doubles game report retire (statement.Retire name) is = retire name is
+no_statement words searched import_ make wait until kept signature players doubles game report retire (statement.Import path) is = import_ path is
+no_statement words searched import_ make wait until kept signature players doubles game report retire (statement.Make games start) is = make games start is
+no_statement words searched import_ make wait until kept signature players doubles game report retire statement.Wait is = wait is
+no_statement words searched import_ make wait until kept signature players doubles game report retire (statement.Until number) is = until number is
+no_statement words searched import_ make wait until kept signature players doubles game report retire (statement.Search query filter) is = searched query filter is
+no_statement words searched import_ make wait until kept signature players doubles game report retire (statement.Together searches) is = is
+no_statement words searched import_ make wait until kept signature players doubles game report retire (statement.Kept query) is = kept query is
+no_statement words searched import_ make wait until kept signature players doubles game report retire (statement.Signature pattern) is = signature pattern is
+no_statement words searched import_ make wait until kept signature players doubles game report retire statement.Players is = players is
+no_statement words searched import_ make wait until kept signature players doubles game report retire statement.Doubles is = doubles is
+no_statement words searched import_ make wait until kept signature players doubles game report retire (statement.Game number) is = game number is
+no_statement words searched import_ make wait until kept signature players doubles game report retire statement.Report is = report is
+no_statement words searched import_ make wait until kept signature players doubles game report retire (statement.Retire name) is = retire name is
 
 -- ---- the kinds of statements, by the words with which they begin
 
 -- What a statement that takes one line does.
 pub data Kind : Type 0 where
   imports : Kind
+  makes : Kind
   waits : Kind
   awaits : Kind
   searches : Kind
@@ -76,6 +79,7 @@ pub data Kind : Type 0 where
 -- the kind of a statement; a block has none
 abbrev pub kind_of : Statement → Option Kind
 kind_of (statement.Import path) = Some imports
+kind_of (statement.Make games start) = Some makes
 kind_of statement.Wait = Some waits
 kind_of (statement.Until number) = Some awaits
 kind_of (statement.Search query filter) = Some searches
@@ -92,6 +96,7 @@ kind_of (statement.Retire name) = Some retires
 abbrev pub kind_named : List ℕ → Option Kind
 kind_named name =
     if bytes_eq name (codes "import") then Some imports
+    else (if bytes_eq name (codes "make") then Some makes
     else (if bytes_eq name (codes "wait") then Some waits
     else (if bytes_eq name (codes "until") then Some awaits
     else (if bytes_eq name (codes "search") then Some searches
@@ -102,11 +107,12 @@ kind_named name =
     else (if bytes_eq name (codes "game") then Some shows
     else (if bytes_eq name (codes "report") then Some reports
     else (if bytes_eq name (codes "retire") then Some retires
-    else None))))))))))
+    else None)))))))))))
 
 -- the statement is of this kind
 abbrev pub IsOfKind : Option Kind → Statement → Type 0
 IsOfKind (Some imports) s = (path : List ℕ) × (s ≡ statement.Import path)
+IsOfKind (Some makes) s = (games : ℕ) × (start : ℕ) × (s ≡ statement.Make games start)
 IsOfKind (Some waits) s = s ≡ statement.Wait
 IsOfKind (Some awaits) s = (number : ℕ) × (s ≡ statement.Until number)
 IsOfKind (Some searches) s = IsSearch s
@@ -121,6 +127,7 @@ IsOfKind None s = Unit {0}
 
 of_kind : (s : Statement) → IsOfKind (kind_of s) s
 of_kind (statement.Import path) = (path, refl)
+of_kind (statement.Make games start) = (games, start, refl)
 of_kind statement.Wait = refl
 of_kind (statement.Until number) = (number, refl)
 of_kind (statement.Search query filter) = (query, filter, refl)
@@ -144,6 +151,7 @@ record IsNamed (words : List Word) (s : Statement) : Type 0 where
 
 name_of : (words : List Word) (s : Statement) → IsStatement words s → IsNamed words s
 name_of words (statement.Import path) (w, is, path_is) = record { name = codes "import"; rest = w ∷ []; kind = imports; begins = is; names = refl; is_kind = refl }
+name_of words (statement.Make games start) (w, v, is, numbers) = record { name = codes "make"; rest = w ∷ v ∷ []; kind = makes; begins = is; names = refl; is_kind = refl }
 name_of words statement.Wait is = record { name = codes "wait"; rest = []; kind = waits; begins = is; names = refl; is_kind = refl }
 name_of words (statement.Until number) (w, is, number_is, bound) = record { name = codes "until"; rest = w ∷ []; kind = awaits; begins = is; names = refl; is_kind = refl }
 name_of words (statement.Search query filter) (body, is, spelled) = record { name = codes "search"; rest = body; kind = searches; begins = is; names = refl; is_kind = refl }

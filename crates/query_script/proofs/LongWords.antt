@@ -1,9 +1,9 @@
 -- The words `--name` and `--name=value`, as the library that reads the command line takes them apart.
 use Rattle.std.proofs.Common.{◌≡◌, ◌∙◌, ◌+◌, ℕ, suc, Bool, true, false, cond, List, [], ◌∷◌, ◌++◌, take, drop, Option, Some, None, refl, sym, ap, ap₂, arith, true≢false}
-use Rattle.std.specs.Prelude.{◌==◌, option_and_then, is_some}
-use Rattle.std.specs.List.{after_first, before_first, list_any, position_or_len}
+use Rattle.std.specs.Prelude.{◌==◌, is_some}
+use Rattle.std.specs.List.{after_first, before_first, position_or_len}
 use Rattle.std.proofs.lemmas.Bool.{eqb-true}
-use Rattle.clap.specs.Lexer.{has_byte, long_of, long_of_rest, name_and_value, strip_byte}
+use Rattle.clap.specs.Lexer.{has_byte, long_of, long_of_rest, name_and_value}
 
 -- what stands behind `--`
 abbrev pub behind_hyphens : List ℕ → Option (List ℕ) → List ℕ

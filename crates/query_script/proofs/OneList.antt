@@ -92,6 +92,7 @@ module _ (lines : List (List ℕ)) where
   -- what stands alone at a line is its statement, and no block
   alone_once : (k : ℕ) (s t : Statement) → StandsAlone lines k s → IsStatementAt lines k t → s ≡ t
   alone_once k s (statement.Import path) one other = spells_once (line_at lines k) s (statement.Import path) one.spelled other.spelled
+  alone_once k s (statement.Make games start) one other = spells_once (line_at lines k) s (statement.Make games start) one.spelled other.spelled
   alone_once k s statement.Wait one other = spells_once (line_at lines k) s statement.Wait one.spelled other.spelled
   alone_once k s (statement.Until number) one other = spells_once (line_at lines k) s (statement.Until number) one.spelled other.spelled
   alone_once k s (statement.Search query filter) one other = spells_once (line_at lines k) s (statement.Search query filter) one.spelled other.spelled
@@ -107,6 +108,7 @@ module _ (lines : List (List ℕ)) where
   block_once : (k : ℕ) (searches : List PlacedSearch) (t : Statement) → IsStatementAt lines k (statement.Together searches) → IsStatementAt lines k t →
       statement.Together searches ≡ t
   block_once k searches (statement.Import path) one other = absurd (not_both (line_at lines k) (statement.Import path) one.0 other.spelled)
+  block_once k searches (statement.Make games start) one other = absurd (not_both (line_at lines k) (statement.Make games start) one.0 other.spelled)
   block_once k searches statement.Wait one other = absurd (not_both (line_at lines k) statement.Wait one.0 other.spelled)
   block_once k searches (statement.Until number) one other = absurd (not_both (line_at lines k) (statement.Until number) one.0 other.spelled)
   block_once k searches (statement.Search query filter) one other = absurd (not_both (line_at lines k) (statement.Search query filter) one.0 other.spelled)
@@ -121,6 +123,7 @@ module _ (lines : List (List ℕ)) where
 
   stands_once : (k : ℕ) (s t : Statement) → IsStatementAt lines k s → IsStatementAt lines k t → s ≡ t
   stands_once k (statement.Import path) t one other = alone_once k (statement.Import path) t one other
+  stands_once k (statement.Make games start) t one other = alone_once k (statement.Make games start) t one other
   stands_once k statement.Wait t one other = alone_once k statement.Wait t one other
   stands_once k (statement.Until number) t one other = alone_once k (statement.Until number) t one other
   stands_once k (statement.Search query filter) t one other = alone_once k (statement.Search query filter) t one other

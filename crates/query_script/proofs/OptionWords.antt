@@ -1,13 +1,13 @@
 -- One word of the command line, as the library reads it.
-use Rattle.std.proofs.Common.{◌≡◌, ◌≢◌, ◌∙◌, ◌||◌, ℕ, suc, zero, Bool, true, false, cond, List, [], ◌∷◌, ◌++◌, length, Option, Some, None, codes, refl, sym, ap, ap₂, subst, arith}
-use Rattle.std.specs.Prelude.{encode_utf8, slice_get, drop, if◌then◌else◌}
+use Rattle.std.proofs.Common.{◌≡◌, ◌≢◌, ◌∙◌, ◌||◌, ℕ, suc, zero, Bool, true, false, cond, List, [], ◌∷◌, ◌++◌, length, Option, Some, None, codes, refl, sym, ap, subst, arith}
+use Rattle.std.specs.Prelude.{slice_get}
 use Rattle.std.specs.Str.{bytes_eq, chars}
 use Rattle.std.proofs.lemmas.Slice.Eq.{bytes_eq-Decides}
 use Rattle.clap.specs.Lexer.{long_of, short_of}
 use Rattle.clap.specs.Kinds.{Kinds, or_else}
 use Rattle.clap.specs.Simple.{Shape, built, filled}
-use Rattle.clap.specs.Walk.{Held, Outcome, Row, Rule, Step, Text, Waiting, Walk, after_flag, after_step, bundle_met, idle, long_met, long_or_other, option, plain, plain_word, reacted, settled, short_or_plain, trailing, walk_from, walked}
-use Rattle.clap.specs.Faults.{bundle_step_fault, flag_word_fault, flags_fault, long_fault, react_fault, settle_fault, short_fault, step_fault, turn_fault}
+use Rattle.clap.specs.Walk.{Held, Row, Rule, Step, Text, Waiting, Walk, after_flag, after_step, bundle_met, idle, long_met, long_or_other, option, plain, reacted, settled, short_or_plain, walk_from, walked}
+use Rattle.clap.specs.Faults.{flag_word_fault, flags_fault, long_fault, react_fault, settle_fault, step_fault, turn_fault}
 use Rattle.query_script.specs.CommandLine.{batch_option, command_line, serial_option}
 use Rattle.query_script.proofs.LongWords.{behind_hyphens, long_is}
 

@@ -16,6 +16,7 @@ use Rattle.query_script.proofs.PlacedLists.{placed_before, placed_in_order}
 -- what stands at a line stands there alone or is a block that begins there
 pub stands_cases : {lines : List (List ℕ)} {k : ℕ} (s : Statement) → IsStatementAt lines k s → StandsAlone lines k s ⊎ SpellsTogether (line_at lines k)
 stands_cases (statement.Import path) h = inl h
+stands_cases (statement.Make games start) h = inl h
 stands_cases statement.Wait h = inl h
 stands_cases (statement.Until number) h = inl h
 stands_cases (statement.Search query filter) h = inl h
@@ -31,6 +32,7 @@ stands_cases (statement.Retire name) h = inl h
 -- what a line outside blocks spells stands there alone
 stands_there : {lines : List (List ℕ)} {k : ℕ} (s : Statement) → SpellsStatement (line_at lines k) s → ((j : ℕ) → ¬ IsInBlock lines j k) → IsStatementAt lines k s
 stands_there (statement.Import path) h outside = record { spelled = h; outside = outside }
+stands_there (statement.Make games start) h outside = record { spelled = h; outside = outside }
 stands_there statement.Wait h outside = record { spelled = h; outside = outside }
 stands_there (statement.Until number) h outside = record { spelled = h; outside = outside }
 stands_there (statement.Search query filter) h outside = record { spelled = h; outside = outside }

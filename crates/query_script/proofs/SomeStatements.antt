@@ -100,6 +100,8 @@ module _ (lines : List (List ℕ)) where
   ]
   step_statement k placed first searches h (statement.Import path) at =
       inl (broken placed first k (other_statement lines k placed first searches h (statement.Import path) (λ is. absurd (cc is.2)) at))
+  step_statement k placed first searches h (statement.Make games start) at =
+      inl (broken placed first k (other_statement lines k placed first searches h (statement.Make games start) (λ is. absurd (cc is.2)) at))
   step_statement k placed first searches h statement.Wait at =
       inl (broken placed first k (other_statement lines k placed first searches h statement.Wait (λ is. absurd (cc is.2)) at))
   step_statement k placed first searches h (statement.Until number) at =

@@ -17,13 +17,13 @@ use Rattle.query_script.specs.declared.word.Word.TheVariants as word
 use Rattle.query_script.specs.Conditions.{IsFilteredBody}
 use Rattle.query_script.specs.Reading.{BeginsOtherwise}
 use Rattle.query_script.specs.Search.{IsKeptBody}
-use Rattle.query_script.specs.Statements.{IsPath, IsSignaturePattern, IsStatement, most_number}
+use Rattle.query_script.specs.Statements.{IsPath, IsSignaturePattern, IsStatement, AreMakeNumbers, greatest_start, most_games_made, most_number}
 use Rattle.query_script.specs.Words.{IsNumber, bare, bytes_of}
 use Rattle.query_script.proofs.LineStatements.{of_name}
 use Rattle.query_script.proofs.Numbers.{IsNumber-once}
 use Rattle.query_script.proofs.FilteredBodies.{told_filtered_body}
 use Rattle.query_script.proofs.KeptBodies.{told_kept_body}
-use Rattle.query_script.proofs.ToldSearches.{behind_name, same_bare, same_first, told_name, told_up_to}
+use Rattle.query_script.proofs.ToldSearches.{behind_name, same_bare, same_first, same_rest, told_name, told_up_to}
 
 -- the statement that words spell, and no other
 abbrev pub HasStatement : List Word → Type 0
@@ -132,6 +132,67 @@ import_there words rest name = elim (told_single rest) [
           let (v, both, is_path) = subst (IsStatement words) same is in
           let one : v ≡ w = behind_single (codes "import") words rest w v name single both in
           same ∙ ap (λ p. statement.Import p) (sym is_path.bytes ∙ ap bytes_of one),
+    )
+  ]
+]
+
+-- two words, or not
+told_double : (words : List Word) → ((w : Word) × (v : Word) × (words ≡ w ∷ v ∷ [])) ⊎ ((w v : Word) → words ≢ w ∷ v ∷ [])
+told_double [] = inr (λ w v e. absurd (cc e))
+told_double (w ∷ []) = inr (λ a b e. let none : [] ≡ b ∷ [] = same_rest w a [] (b ∷ []) e in absurd (cc none))
+told_double (w ∷ v ∷ []) = inl (w, v, refl)
+told_double (w ∷ v ∷ u ∷ rest) = inr (λ a b e.
+    let behind : v ∷ u ∷ rest ≡ b ∷ [] = same_rest w a (v ∷ u ∷ rest) (b ∷ []) e in
+    let none : u ∷ rest ≡ [] = same_rest v b (u ∷ rest) [] behind in
+    absurd (cc none))
+
+-- a number of games to make
+told_games : (w : Word) → ((n : ℕ) × IsNumber w n × (1 ≤ n) × (n ≤ most_games_made)) ⊎ ((n : ℕ) → IsNumber w n → 1 ≤ n → n ≤ most_games_made → ⊥)
+told_games w = elim (told_up_to w most_games_made) [
+  | inr never ↦ inr (λ n is some few. never n is few)
+  | inl (n, is, few) ↦ elim (cases_lt 0 n) [
+    | inr none ↦ inr (λ m is_m some _. omega (arith, IsNumber-once w n m is is_m))
+    | inl some ↦ inl (n, is, some, few)
+  ]
+]
+
+told_make_numbers : (w v : Word) → ((games : ℕ) × (start : ℕ) × AreMakeNumbers w v games start) ⊎ ((games start : ℕ) → AreMakeNumbers w v games start → ⊥)
+told_make_numbers w v = elim (told_games w) [
+  | inr never ↦ inr (λ games start h. never games h.games_are h.some h.few)
+  | inl (games, games_are, some, few) ↦ elim (told_up_to v greatest_start) [
+    | inr never ↦ inr (λ games start h. never start h.start_is h.bound)
+    | inl (start, start_is, bound) ↦ inl (games, start, record { games_are = games_are; some = some; few = few; start_is = start_is; bound = bound })
+  ]
+]
+
+-- what a statement that makes games is, where its two words are known
+make_behind : (words rest : List Word) (w v : Word) (s : Statement) → words ≡ bare (codes "make") ∷ rest → rest ≡ w ∷ v ∷ [] → IsStatement words s →
+    (games : ℕ) × (start : ℕ) × (s ≡ statement.Make games start) × AreMakeNumbers w v games start
+make_behind words rest w v s name double is =
+    let (games, start, same) = of_name words rest (codes "make") s name is in
+    let (a, b, both, numbers) = subst (IsStatement words) same is in
+    let tails : a ∷ b ∷ [] ≡ w ∷ v ∷ [] = sym (behind_name (codes "make") words rest (a ∷ b ∷ []) name both) ∙ double in
+    let first : a ≡ w = same_first a w (b ∷ []) (v ∷ []) tails in
+    let second : b ≡ v = same_first b v [] [] (same_rest a w (b ∷ []) (v ∷ []) tails) in
+    (games, start, same, subst (λ u. AreMakeNumbers w u games start) second (subst (λ u. AreMakeNumbers u b games start) first numbers))
+
+make_there : (words rest : List Word) → words ≡ bare (codes "make") ∷ rest → ToldStatement words
+make_there words rest name = elim (told_double rest) [
+  | inr never ↦ inr (λ s is.
+      let (games, start, same) = of_name words rest (codes "make") s name is in
+      let (w, v, both, numbers) = subst (IsStatement words) same is in
+      never w v (behind_name (codes "make") words rest (w ∷ v ∷ []) name both))
+  | inl (w, v, double) ↦ elim (told_make_numbers w v) [
+    | inr never ↦ inr (λ s is.
+        let (games, start, same, numbers) = make_behind words rest w v s name double is in
+        never games start numbers)
+    | inl (games, start, numbers) ↦ inl (
+      statement.Make games start,
+      (w, v, name ∙ ap (λ l. bare (codes "make") ∷ l) double, numbers),
+      λ s is.
+          let (other, other_start, same, here) = make_behind words rest w v s name double is in
+          same ∙ ap (λ n. statement.Make n other_start) (IsNumber-once w other games here.games_are numbers.games_are)
+          ∙ ap (λ n. statement.Make games n) (IsNumber-once v other_start start here.start_is numbers.start_is),
     )
   ]
 ]
@@ -299,28 +360,29 @@ game_there words rest name = elim (told_single rest) [
 ]
 
 -- words without such a name spell nothing
-none_there : (words : List Word) → BeginsOtherwise (codes "import") words → BeginsOtherwise (codes "wait") words →
+none_there : (words : List Word) → BeginsOtherwise (codes "import") words → BeginsOtherwise (codes "make") words → BeginsOtherwise (codes "wait") words →
     BeginsOtherwise (codes "until") words → BeginsOtherwise (codes "search") words → BeginsOtherwise (codes "kept") words → BeginsOtherwise (codes "signature") words →
     BeginsOtherwise (codes "players") words → BeginsOtherwise (codes "doubles") words → BeginsOtherwise (codes "game") words →
     BeginsOtherwise (codes "report") words → BeginsOtherwise (codes "retire") words → NoStatement words
-none_there words import_ wait until searched kept signature players doubles game report retire (statement.Import path) (w, is, _) = import_ (w ∷ []) is
-none_there words import_ wait until searched kept signature players doubles game report retire statement.Wait is = wait [] is
-none_there words import_ wait until searched kept signature players doubles game report retire (statement.Until number) (w, is, _, _) = until (w ∷ []) is
-none_there words import_ wait until searched kept signature players doubles game report retire (statement.Search query filter) (body, is, _) = searched body is
-none_there words import_ wait until searched kept signature players doubles game report retire (statement.Kept query) (body, is, _) = kept body is
-none_there words import_ wait until searched kept signature players doubles game report retire (statement.Signature pattern) (is, _) = signature (bare pattern.bytes ∷ []) is
-none_there words import_ wait until searched kept signature players doubles game report retire statement.Players is = players [] is
-none_there words import_ wait until searched kept signature players doubles game report retire statement.Doubles is = doubles [] is
-none_there words import_ wait until searched kept signature players doubles game report retire (statement.Game number) (w, is, _, _) = game (w ∷ []) is
-none_there words import_ wait until searched kept signature players doubles game report retire (statement.Together searches) is = is
-none_there words import_ wait until searched kept signature players doubles game report retire statement.Report is = report [] is
-none_there words import_ wait until searched kept signature players doubles game report retire (statement.Retire name) (is, _) = retire (bare name ∷ []) is
+none_there words import_ make wait until searched kept signature players doubles game report retire (statement.Import path) (w, is, _) = import_ (w ∷ []) is
+none_there words import_ make wait until searched kept signature players doubles game report retire (statement.Make games start) (w, v, is, _) = make (w ∷ v ∷ []) is
+none_there words import_ make wait until searched kept signature players doubles game report retire statement.Wait is = wait [] is
+none_there words import_ make wait until searched kept signature players doubles game report retire (statement.Until number) (w, is, _, _) = until (w ∷ []) is
+none_there words import_ make wait until searched kept signature players doubles game report retire (statement.Search query filter) (body, is, _) = searched body is
+none_there words import_ make wait until searched kept signature players doubles game report retire (statement.Kept query) (body, is, _) = kept body is
+none_there words import_ make wait until searched kept signature players doubles game report retire (statement.Signature pattern) (is, _) = signature (bare pattern.bytes ∷ []) is
+none_there words import_ make wait until searched kept signature players doubles game report retire statement.Players is = players [] is
+none_there words import_ make wait until searched kept signature players doubles game report retire statement.Doubles is = doubles [] is
+none_there words import_ make wait until searched kept signature players doubles game report retire (statement.Game number) (w, is, _, _) = game (w ∷ []) is
+none_there words import_ make wait until searched kept signature players doubles game report retire (statement.Together searches) is = is
+none_there words import_ make wait until searched kept signature players doubles game report retire statement.Report is = report [] is
+none_there words import_ make wait until searched kept signature players doubles game report retire (statement.Retire name) (is, _) = retire (bare name ∷ []) is
 
--- of words that begin with the name of none of the first six kinds it can be told
-told_later : (words : List Word) → BeginsOtherwise (codes "import") words → BeginsOtherwise (codes "wait") words →
+-- of words that begin with the name of none of the first seven kinds it can be told
+told_later : (words : List Word) → BeginsOtherwise (codes "import") words → BeginsOtherwise (codes "make") words → BeginsOtherwise (codes "wait") words →
     BeginsOtherwise (codes "until") words → BeginsOtherwise (codes "search") words → BeginsOtherwise (codes "kept") words → BeginsOtherwise (codes "signature") words →
     ToldStatement words
-told_later words import_ wait until searched kept signature = elim (told_name (codes "players") words) [
+told_later words import_ make wait until searched kept signature = elim (told_name (codes "players") words) [
   | inl (rest, is) ↦ players_there words rest is
   | inr players ↦ elim (told_name (codes "doubles") words) [
     | inl (rest, is) ↦ doubles_there words rest is
@@ -330,7 +392,7 @@ told_later words import_ wait until searched kept signature = elim (told_name (c
         | inl (rest, is) ↦ report_there words rest is
         | inr report ↦ elim (told_name (codes "retire") words) [
           | inl (rest, is) ↦ retire_there words rest is
-          | inr retire ↦ inr (none_there words import_ wait until searched kept signature players doubles game report retire)
+          | inr retire ↦ inr (none_there words import_ make wait until searched kept signature players doubles game report retire)
         ]
       ]
     ]
@@ -340,17 +402,20 @@ told_later words import_ wait until searched kept signature = elim (told_name (c
 pub told_statement : (words : List Word) → ToldStatement words
 told_statement words = elim (told_name (codes "import") words) [
   | inl (rest, is) ↦ import_there words rest is
-  | inr import_ ↦ elim (told_name (codes "wait") words) [
-    | inl (rest, is) ↦ wait_there words rest is
-    | inr wait ↦ elim (told_name (codes "until") words) [
-      | inl (rest, is) ↦ until_there words rest is
-      | inr until ↦ elim (told_name (codes "search") words) [
-        | inl (rest, is) ↦ search_there words rest is
-        | inr searched ↦ elim (told_name (codes "kept") words) [
-          | inl (rest, is) ↦ kept_there words rest is
-          | inr kept ↦ elim (told_name (codes "signature") words) [
-            | inl (rest, is) ↦ signature_there words rest is
-            | inr signature ↦ told_later words import_ wait until searched kept signature
+  | inr import_ ↦ elim (told_name (codes "make") words) [
+    | inl (rest, is) ↦ make_there words rest is
+    | inr make ↦ elim (told_name (codes "wait") words) [
+      | inl (rest, is) ↦ wait_there words rest is
+      | inr wait ↦ elim (told_name (codes "until") words) [
+        | inl (rest, is) ↦ until_there words rest is
+        | inr until ↦ elim (told_name (codes "search") words) [
+          | inl (rest, is) ↦ search_there words rest is
+          | inr searched ↦ elim (told_name (codes "kept") words) [
+            | inl (rest, is) ↦ kept_there words rest is
+            | inr kept ↦ elim (told_name (codes "signature") words) [
+              | inl (rest, is) ↦ signature_there words rest is
+              | inr signature ↦ told_later words import_ make wait until searched kept signature
+            ]
           ]
         ]
       ]

@@ -138,6 +138,8 @@ pub record StandsAlone (lines : List (List ℕ)) (k : ℕ) (s : Statement) : Typ
 -- The statement is that of line k: it stands there alone, or it is the block that begins there.
 abbrev pub IsStatementAt : List (List ℕ) → ℕ → Statement → Type 0
 IsStatementAt lines k (statement.Import path) = StandsAlone lines k (statement.Import path)
+IsStatementAt lines k (statement.Make games start) =
+    StandsAlone lines k (statement.Make games start)
 IsStatementAt lines k statement.Wait = StandsAlone lines k statement.Wait
 IsStatementAt lines k (statement.Until number) = StandsAlone lines k (statement.Until number)
 IsStatementAt lines k (statement.Search query filter) =

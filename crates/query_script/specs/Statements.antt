@@ -15,11 +15,28 @@ use Rattle.query_script.specs.Words.{AreBlanks, AreWords, IsNumber, bare, bytes_
 abbrev pub most_number : ℕ
 most_number = 4294967295
 
+-- the most games that a statement makes
+abbrev pub most_games_made : ℕ
+most_games_made = 400000
+
+-- the greatest number with which the generator of made games begins
+abbrev pub greatest_start : ℕ
+greatest_start = 2147483647
+
 -- the bare or quoted word is a path: text in UTF-8, not empty
 pub record IsPath (w : Word) (path : List ℕ) : Type 0 where
   pub bytes : bytes_of w ≡ path
   pub some : 1 ≤ length path
   pub utf8 : IsUtf8 path
+
+-- The two words are numbers: how many games are made, which is one at least, and with which number
+-- their generator begins.
+pub record AreMakeNumbers (w v : Word) (games start : ℕ) : Type 0 where
+  pub games_are : IsNumber w games
+  pub some : 1 ≤ games
+  pub few : games ≤ most_games_made
+  pub start_is : IsNumber v start
+  pub bound : start ≤ greatest_start
 
 -- a signature pattern: 12 bytes, each a letter, `?` or `*`
 pub record IsSignaturePattern (bytes : List ℕ) : Type 0 where
@@ -30,6 +47,8 @@ pub record IsSignaturePattern (bytes : List ℕ) : Type 0 where
 abbrev pub IsStatement : List Word → Statement → Type 0
 IsStatement words (statement.Import path) = (w : Word) × (words ≡ bare (codes "import") ∷ w ∷ [])
     × IsPath w path
+IsStatement words (statement.Make games start) = (w : Word) × (v : Word)
+    × (words ≡ bare (codes "make") ∷ w ∷ v ∷ []) × AreMakeNumbers w v games start
 IsStatement words statement.Wait = words ≡ bare (codes "wait") ∷ []
 IsStatement words (statement.Until number) = (w : Word) × (words ≡ bare (codes "until") ∷ w ∷ [])
     × IsNumber w number × (number ≤ most_number)

@@ -22,6 +22,11 @@ line_text (piece ∷ pieces) = piece ++ line_text pieces
 abbrev pub import_text : ℕ → List ℕ → List ℕ
 import_text line path = line_text (decimal line ∷ codes " import " ∷ path ∷ [])
 
+-- `LINE make N START`
+abbrev pub make_text : ℕ → ℕ → ℕ → List ℕ
+make_text line games start = line_text (decimal line ∷ codes " make " ∷ decimal games ∷ codes " "
+    ∷ decimal start ∷ [])
+
 -- `LINE wait version V`
 abbrev pub wait_text : ℕ → ℕ → List ℕ
 wait_text line version = line_text (decimal line ∷ codes " wait version " ∷ decimal version ∷ [])

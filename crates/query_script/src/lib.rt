@@ -36,8 +36,8 @@ pub use list_text::{
     print_signature_head,
 };
 pub use print::{
-    print_game, print_import, print_no_game, print_no_retire, print_report_head, print_retire,
-    print_until, print_wait,
+    print_game, print_import, print_make, print_no_game, print_no_retire, print_report_head,
+    print_retire, print_until, print_wait,
 };
 pub use script::read_script;
 pub use search_text::print_hits;

@@ -6,6 +6,7 @@ ghost use Rattle.query_script.specs.Texts.{
   game_head,
   import_text,
   line_text,
+  make_text,
   no_game_text,
   no_retire_text,
   report_head,
@@ -35,6 +36,28 @@ fn append_import(out: &mut Vec<u8>, line: u32, path: &str) -> Result<(), NoMemor
     append(out, b" import ")?;
     append(out, path.as_bytes())?;
     append(out, b"\n")?;
+    Ok(())
+}
+
+/// Appends the text of a statement that makes games: `LINE make N START`. The only error is
+/// `NoMemory`, and then `out` is as before.
+pub fn print_make(line: u32, games: u32, start: u32, out: &mut Vec<u8>) -> Result<(), NoMemory>
+    ensures ok { OnOk result (out.new.items ≡ out.old.items ++ make_text line games start) }
+    ensures refused { OnErr result (out.new.items ≡ out.old.items) }
+{
+    let len = out.len();
+    let done = append_make(out, line, games, start);
+    cut_back(out, len, done)
+}
+
+fn append_make(out: &mut Vec<u8>, line: u32, games: u32, start: u32) -> Result<(), NoMemory>
+    ensures ok { OnOk result (out.new.items ≡ out.old.items ++ make_text line games start) }
+    ensures refused { OnErr result (IsPrefix out.old.items out.new.items) }
+{
+    append_decimal(out, u64::from(line))?;
+    append(out, b" make ")?;
+    append_decimal_and(out, u64::from(games), b' ')?;
+    append_decimal_and(out, u64::from(start), b'\n')?;
     Ok(())
 }
 

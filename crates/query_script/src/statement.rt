@@ -18,6 +18,9 @@ pub const MAX_SCRIPT: usize = 1_048_576;
 pub enum Statement {
     /// `import PATH`: imports the files of a folder.
     Import { path: Text },
+    /// `make N START`: makes so many games by a generator whose numbers begin with START, as an
+    /// import of N files.
+    Make { games: u32, start: u32 },
     /// `wait`: waits for the import, and tells the version after it.
     Wait,
     /// `until K`: waits for the version with this number.

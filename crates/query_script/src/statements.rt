@@ -27,9 +27,11 @@ ghost use Rattle.query_script.specs.declared.statement.Statement.TheVariants as 
 ghost use Rattle.query_script.specs.declared.word.Word.{Word};
 ghost use Rattle.query_script.specs.Conditions.{IsFilteredBody};
 ghost use Rattle.query_script.specs.Statements.{
+  AreMakeNumbers,
   IsPath,
   IsSignaturePattern,
   IsStatement,
+  most_games_made,
   most_number,
 };
 ghost use Rattle.query_script.specs.Words.{IsNumber, bare};
@@ -46,6 +48,12 @@ use kb_geometry::{NoMemory, Text};
 use pattern_images::Query;
 use std::alloc::Global;
 
+// The most games that a statement makes.
+const MAX_MADE: u32 = 400_000;
+
+// The greatest number with which the generator of made games begins.
+const MAX_START: u32 = 2_147_483_647;
+
 // The statement that the words spell, if they spell one that takes one line. The only error is
 // `NoMemory`.
 pub(crate) fn statement_of(alloc: Global, words: &[Word]) -> Result<Option<Statement>, NoMemory>
@@ -58,6 +66,9 @@ pub(crate) fn statement_of(alloc: Global, words: &[Word]) -> Result<Option<State
     }
     if let Some(path) = import_of(alloc, words)? {
         return Ok(Some(Statement::Import { path }));
+    }
+    if let Some((games, start)) = make_of(words) {
+        return Ok(Some(Statement::Make { games, start }));
     }
     if let Some(number) = until_of(words) {
         return Ok(Some(Statement::Until { number }));
@@ -137,6 +148,37 @@ fn text_of(alloc: Global, bytes: &[u8]) -> Result<Option<Text>, NoMemory>
         Ok(text) => Ok(Some(Text::new(String::from_str(alloc, text)?))),
         Err(_) => Ok(None),
     }
+}
+
+// How many games `make N START` makes, and with which number their generator begins.
+fn make_of(words: &[Word]) -> Option<(u32, u32)>
+    ensures some { IfSome result (λ r. IsStatement words.now (statement.Make r.0 r.1)) }
+    ensures none { result ≡ None → (games start : ℕ) →
+        ¬ IsStatement words.now (statement.Make games start) }
+{
+    let (games, start) = only_two_behind(words, b"make")?;
+    make_numbers(games, start)
+}
+
+// How many games two words tell to make, and with which number their generator begins.
+fn make_numbers(games: &Word, start: &Word) -> Option<(u32, u32)>
+    ensures some { IfSome result (λ r. AreMakeNumbers games.now start.now r.0 r.1) }
+    ensures none { result ≡ None → (n s : ℕ) → ¬ AreMakeNumbers games.now start.now n s }
+{
+    let games = games_made(games)?;
+    let start = number_up_to(start, u64::from(MAX_START))?;
+    Some((games, start as u32))
+}
+
+// The number of games to make that a word names, one at least.
+fn games_made(word: &Word) -> Option<u32>
+    ensures some { IfSome result (λ games. IsNumber word.now games × (1 ≤ games)
+        × (games ≤ most_games_made)) }
+    ensures none { result ≡ None → (games : ℕ) → 1 ≤ games → games ≤ most_games_made →
+        ¬ IsNumber word.now games }
+{
+    let games = number_up_to(word, u64::from(MAX_MADE))?;
+    if games == 0 { None } else { Some(games as u32) }
 }
 
 // The number of `until K`.
@@ -267,6 +309,21 @@ fn only_word_behind<'a>(words: &'a [Word], name: &[u8]) -> Option<&'a Word>
     };
     if first.is_bare(name) {
         Some(word)
+    } else {
+        None
+    }
+}
+
+// The only two words behind this bare word, if the words are these three.
+fn only_two_behind<'a>(words: &'a [Word], name: &[u8]) -> Option<(&'a Word, &'a Word)>
+    ensures some { IfSome result (λ r. words.now ≡ bare name.now ∷ r.0.now ∷ r.1.now ∷ []) }
+    ensures none { result ≡ None → (w v : Word) → words.now ≢ bare name.now ∷ w ∷ v ∷ [] }
+{
+    let [first, second, third] = words else {
+        return None;
+    };
+    if first.is_bare(name) {
+        Some((second, third))
     } else {
         None
     }

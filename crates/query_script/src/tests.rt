@@ -3,6 +3,7 @@ mod collectors;
 mod command_words;
 mod conditions;
 mod kept;
+mod made;
 mod printed;
 
 use crate::{MAX_SCRIPT, Placed, PlacedSearch, ScriptError, Statement, read_script};
@@ -88,6 +89,7 @@ fn show_statement(alloc: Global, statement: &Statement, shown: &mut String) -> R
             let path = path.as_str();
             write!(shown, "import <{path}>")?;
         }
+        Statement::Make { games, start } => write!(shown, "make {games} {start}")?,
         Statement::Wait => write!(shown, "wait")?,
         Statement::Until { number } => write!(shown, "until {number}")?,
         Statement::Search { query, filter } => {
@@ -348,7 +350,7 @@ fn other_lines_are_bad(rt: HostRuntime) -> Result<(), Fail> {
             "import \"a\" # b",
             "import \"a\"#",
             "\"import\" a",
-            "make 1 1",
+            "mark 1 1",
         ],
     )
 }

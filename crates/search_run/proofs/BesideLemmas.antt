@@ -10,7 +10,6 @@ use Rattle.query_script.specs.declared.statement.Placed.{Placed}
 use Rattle.query_script.specs.declared.statement.PlacedSearch.{PlacedSearch}
 use Rattle.query_script.specs.declared.statement.Statement.{Statement}
 use Rattle.query_script.specs.declared.statement.Statement.TheVariants as statement
-use Rattle.query_script.specs.Texts.{import_text}
 use Rattle.hit_collectors.specs.Tallies.{BoxTally}
 use Rattle.node_position.specs.Games.{Game}
 use Rattle.session_core.specs.Answers.{IsAnswer, IsSearched, View}
@@ -19,13 +18,15 @@ use Rattle.version_publisher.specs.declared.state.SearcherState.{SearcherState}
 use Rattle.version_publisher.specs.declared.state.VersionState.{VersionState}
 use Rattle.import_work.specs.Course.{ImportCourse}
 use Rattle.import_work.specs.Log.{Segment, games_in, segments_of}
+use Rattle.import_work.specs.declared.source.Source.{Source}
 use Rattle.search_run.specs.Beside.{GoesOnBeside, HasAnswered, HasAnsweredAll, PrintsBeside, Reaches, block_at}
 use Rattle.serial_run.specs.Lawful.{AreSearched, HasPrinted, IsNamed, IsPassed, Rules, State, after_import, last_of, one_more, view_at, waiting_text, with_boxes, with_floor}
 use Rattle.search_run.specs.Run.{beside_rules}
 use Rattle.search_run.specs.Seen.{HaveSeenOf, IsLookedAt, IsVersionOf}
 use Rattle.serial_run.specs.Steps.{AreAnsweredFrom, IsKept, IsTextByKept, IsTextTo, LeavesBase, import_at, kept_at}
+use Rattle.serial_run.specs.Texts.{opening_text}
 use Rattle.import_segments.proofs.PushedSegments.{items_in-games_in}
-use Rattle.serial_run.proofs.StatementLemmas.{AreAnsweredFrom-searched, AreNamed, floor-joined, greatest_of}
+use Rattle.serial_run.proofs.StatementLemmas.{AreAnsweredFrom-searched, AreNamed, floor-joined, greatest_of, opens-passed}
 
 -- ---- a state with a longer log
 
@@ -86,6 +87,7 @@ module _ (files : List File) (rules : Rules) (beside : ¬ IsTrue rules.serial) (
 
   pub passed-longer : (line : ℕ) (own : Statement) (text : List ℕ) (told : List BoxTally) → LeavesBase own → Reaches own (length seen) → IsTextTo files rules (as_seen s seen) line own text told → IsPassedOn line own text told
   passed-longer line (statement.Import path) text told leaves reaches of = absurd leaves
+  passed-longer line (statement.Make games start) text told leaves reaches of = absurd leaves
   passed-longer line statement.Wait text told leaves reaches of = absurd leaves
   passed-longer line (statement.Until number) text told leaves reaches (used, next, of, tells) = record {
     next = with_floor s of.0;
@@ -139,11 +141,12 @@ module _ (files : List File) (rules : Rules) (beside : ¬ IsTrue rules.serial) (
 -- ---- beside an import
 
 -- an import's statement is printed, and it is under way
-pub prints-first : (files : List File) (rules : Rules) (start : List BoxTally) (course : List ImportCourse) (placed : List Placed) (began : State) (printed : List ℕ) → HasPrinted files rules start course placed began printed → began.floor ≤ last_of began → (floor : ℕ) → last_of began ≤ floor → (line : ℕ) (path : List ℕ) (IsSeen : List Segment → Type 0) (boxes : List BoxTally) → began.boxes ≡ boxes → (text : List ℕ) → text ≡ waiting_text began ++ import_text line path →
-    PrintsBeside files rules start began line path course IsSeen floor boxes (placed ++ import_at line path ∷ []) (printed ++ text)
-prints-first files rules start course placed began printed so_far low floor last line path IsSeen boxes told text text_is = λ entry finding imported seen. record {
+pub prints-first : (files : List File) (rules : Rules) (start : List BoxTally) (course : List ImportCourse) (placed : List Placed) (began : State) (printed : List ℕ) → HasPrinted files rules start course placed began printed → began.floor ≤ last_of began → (floor : ℕ) → last_of began ≤ floor → (line : ℕ) (from : Source) (IsSeen : List Segment → Type 0) (boxes : List BoxTally) → began.boxes ≡ boxes → (text : List ℕ) → text ≡ waiting_text began ++ opening_text line from →
+    PrintsBeside files rules start began line from course IsSeen floor boxes (placed ++ import_at line from ∷ []) (printed ++ text)
+prints-first files rules start course placed began printed so_far low floor last line from IsSeen boxes told text text_is = λ entry finding imported seen. record {
   state = after_import rules began line finding;
-  printed = one_more (entry ∷ []) (import_at line path) (after_import rules began line finding) text so_far (entry, finding, refl, imported, text_is, refl);
+  printed = one_more (entry ∷ []) (import_at line from) (after_import rules began line finding) text so_far
+      (opens-passed files rules began line from (entry ∷ []) text (after_import rules began line finding) (entry, finding, refl, imported, text_is, refl));
   log_is = refl;
   waiting_is = refl;
   floor_at_most = omega (arith, floor-joined began.waiting began.floor (length began.log) low, last);
@@ -154,7 +157,7 @@ prints-first files rules start course placed began printed so_far low floor last
 module _ (batch : ℕ) (WasSeen IsSeen : List Segment → Type 0) (floor : ℕ) (boxes told : List BoxTally) (p : Placed) (text : List ℕ) (version : VersionState Game) (seen : List Segment) where
   pub goes-on : ((log : List Segment) → IsSeen log → WasSeen log) → ((log : List Segment) → IsSeen log → IsPrefix seen log) → IsVersionOf version seen → floor ≤ length seen → LeavesBase p.statement → Reaches p.statement (length seen) → ((rules : Rules) (waiting : Option (List ℕ)) → IsTextByKept rules (kept_at version waiting) boxes p.line p.statement text told) →
       GoesOnBeside (beside_rules batch) WasSeen floor boxes (p ∷ []) text IsSeen version.number told
-  goes-on weaker seen_prefix of floor_seen leaves reaches text_is = λ files start began line path course placed printed h. λ entry finding imported is_seen.
+  goes-on weaker seen_prefix of floor_seen leaves reaches text_is = λ files start began line from course placed printed h. λ entry finding imported is_seen.
       let log : List Segment = began.log ++ segments_of batch finding in
       let r = h entry finding imported (weaker log is_seen) in
       let s = r.state in
@@ -223,7 +226,7 @@ module _ (rules : Rules) (beside : ¬ IsTrue rules.serial) (s : State) (seen : L
 module _ (batch : ℕ) (WasSeen IsSeen : List Segment → Type 0) (floor : ℕ) (boxes told : List BoxTally) (line : ℕ) (searches : List PlacedSearch) (text : List ℕ) (version : VersionState Game) (seen : List Segment) where
   pub block-goes-on : ((log : List Segment) → IsSeen log → WasSeen log) → ((log : List Segment) → IsSeen log → IsPrefix seen log) → IsVersionOf version seen → floor ≤ length seen → (versions : List (VersionState Game)) → All (IsBetween floor seen) versions → AreAnsweredFrom (map seen_in versions) searches boxes text told →
       GoesOnBeside (beside_rules batch) WasSeen floor boxes (block_at line searches ∷ []) text IsSeen version.number told
-  block-goes-on weaker seen_prefix of floor_seen versions all answers = λ files start began at path course placed printed h. λ entry finding imported is_seen.
+  block-goes-on weaker seen_prefix of floor_seen versions all answers = λ files start began at from course placed printed h. λ entry finding imported is_seen.
       let log : List Segment = began.log ++ segments_of batch finding in
       let r = h entry finding imported (weaker log is_seen) in
       let s = r.state in
@@ -250,27 +253,27 @@ placed_block p searches is = λ i. record { line = p.line; statement = (sym is) 
 -- ---- one statement behind another
 
 -- what is printed by these statements and this text, in other words for them
-printed-as : (files : List File) (rules : Rules) (start : List BoxTally) (began : State) (line : ℕ) (path : List ℕ) (course : List ImportCourse) (IsSeen : List Segment → Type 0) (floor : ℕ) (boxes : List BoxTally) (placed other : List Placed) (text more : List ℕ) → placed ≡ other → text ≡ more → PrintsBeside files rules start began line path course IsSeen floor boxes placed text → PrintsBeside files rules start began line path course IsSeen floor boxes other more
-printed-as files rules start began line path course IsSeen floor boxes placed other text more same too h =
-    subst (λ t. PrintsBeside files rules start began line path course IsSeen floor boxes other t) too
-    (subst (λ ps. PrintsBeside files rules start began line path course IsSeen floor boxes ps text) same h)
+printed-as : (files : List File) (rules : Rules) (start : List BoxTally) (began : State) (line : ℕ) (from : Source) (course : List ImportCourse) (IsSeen : List Segment → Type 0) (floor : ℕ) (boxes : List BoxTally) (placed other : List Placed) (text more : List ℕ) → placed ≡ other → text ≡ more → PrintsBeside files rules start began line from course IsSeen floor boxes placed text → PrintsBeside files rules start began line from course IsSeen floor boxes other more
+printed-as files rules start began line from course IsSeen floor boxes placed other text more same too h =
+    subst (λ t. PrintsBeside files rules start began line from course IsSeen floor boxes other t) too
+    (subst (λ ps. PrintsBeside files rules start began line from course IsSeen floor boxes ps text) same h)
 
 -- nothing is printed
 pub goes-on-none : (rules : Rules) (WasSeen IsSeen : List Segment → Type 0) (floor : ℕ) (boxes : List BoxTally) → ((log : List Segment) → IsSeen log → WasSeen log) → GoesOnBeside rules WasSeen floor boxes [] [] IsSeen floor boxes
-goes-on-none rules WasSeen IsSeen floor boxes weaker = λ files start began line path course placed printed h.
-    printed-as files rules start began line path course IsSeen floor boxes placed (placed ++ []) printed (printed ++ []) (sym (append-nil placed)) (sym (append-nil printed))
+goes-on-none rules WasSeen IsSeen floor boxes weaker = λ files start began line from course placed printed h.
+    printed-as files rules start began line from course IsSeen floor boxes placed (placed ++ []) printed (printed ++ []) (sym (append-nil placed)) (sym (append-nil printed))
     (λ entry finding imported seen. h entry finding imported (weaker (began.log ++ segments_of rules.batch finding) seen))
 
 -- one thing is printed, and then another
 pub goes-on-then : (rules : Rules) (WasSeen IsSeen SeenNow : List Segment → Type 0) (floor between now : ℕ) (boxes told after : List BoxTally) (more rest : List Placed) (text behind : List ℕ) → GoesOnBeside rules WasSeen floor boxes more text IsSeen between told → GoesOnBeside rules IsSeen between told rest behind SeenNow now after → GoesOnBeside rules WasSeen floor boxes (more ++ rest) (text ++ behind) SeenNow now after
-goes-on-then rules WasSeen IsSeen SeenNow floor between now boxes told after more rest text behind first then = λ files start began line path course placed printed h.
-    printed-as files rules start began line path course SeenNow now after ((placed ++ more) ++ rest) (placed ++ (more ++ rest)) ((printed ++ text) ++ behind) (printed ++ (text ++ behind)) (append_assoc placed more rest) (append_assoc printed text behind)
-    (then files start began line path course (placed ++ more) (printed ++ text) (first files start began line path course placed printed h))
+goes-on-then rules WasSeen IsSeen SeenNow floor between now boxes told after more rest text behind first then = λ files start began line from course placed printed h.
+    printed-as files rules start began line from course SeenNow now after ((placed ++ more) ++ rest) (placed ++ (more ++ rest)) ((printed ++ text) ++ behind) (printed ++ (text ++ behind)) (append_assoc placed more rest) (append_assoc printed text behind)
+    (then files start began line from course (placed ++ more) (printed ++ text) (first files start began line from course placed printed h))
 
 -- the same with what was seen before, seen later
 pub goes-on-weaker : (rules : Rules) (WasSeen IsSeen SeenNow : List Segment → Type 0) (floor now : ℕ) (boxes told : List BoxTally) (more : List Placed) (text : List ℕ) → ((log : List Segment) → SeenNow log → IsSeen log) → GoesOnBeside rules WasSeen floor boxes more text IsSeen now told → GoesOnBeside rules WasSeen floor boxes more text SeenNow now told
-goes-on-weaker rules WasSeen IsSeen SeenNow floor now boxes told more text weaker on = λ files start began line path course placed printed h.
-    λ entry finding imported seen. on files start began line path course placed printed h entry finding imported (weaker (began.log ++ segments_of rules.batch finding) seen)
+goes-on-weaker rules WasSeen IsSeen SeenNow floor now boxes told more text weaker on = λ files start began line from course placed printed h.
+    λ entry finding imported seen. on files start began line from course placed printed h entry finding imported (weaker (began.log ++ segments_of rules.batch finding) seen)
 
 -- ---- statements that are answered one after another
 

@@ -1,22 +1,22 @@
 -- How an import by an order ends: the log, the report, and what the folder's count says of losses.
-use Rattle.std.proofs.Common.{◌≡◌, ◌⊎◌, inl, inr, ℕ, ◌≤◌, ◌+◌, List, [], ◌++◌, Option, Some, length, length-append, refl, sym, ap, ◌∙◌, subst, append_assoc, arith}
-use Rattle.std.specs.Prelude.{IfOk, Result, string_bytes}
+use Rattle.std.proofs.Common.{◌≡◌, ◌⊎◌, inl, inr, ℕ, ◌≤◌, ◌+◌, List, [], ◌++◌, Option, Some, length, length-append, refl, sym, ap, ◌∙◌, subst, arith}
+use Rattle.std.specs.Prelude.{IfOk, Result}
 use Rattle.std.proofs.lemmas.List.{append-nil}
 use Rattle.std.proofs.lemmas.Result.{IfOk-weaker}
 use Rattle.kb_geometry.specs.declared.memory.NoMemory.{NoMemory}
 use Rattle.kb_edges.specs.Faults.{Rose}
-use Rattle.kb_edges.specs.Files.{File, HasPath}
+use Rattle.kb_edges.specs.Files.{File}
 use Rattle.kb_edges.specs.Told.{IfTold}
 use Rattle.version_publisher.specs.Contents.{Opening, items_in}
 use Rattle.version_publisher.specs.declared.state.PublisherState.{PublisherState}
 use Rattle.node_position.specs.Games.{Game}
-use Rattle.import_work.specs.Batches.{games_told, line_reports}
 use Rattle.import_work.specs.Course.{IsImported, nothing_lost, trees_in}
-use Rattle.import_work.specs.Imports.{FindsIn, ImportState, IsListed, IsOpened, lines_in}
+use Rattle.import_work.specs.Imports.{FindsIn, ImportState, IsListed, IsNotThere, IsOpened, games_reported}
 use Rattle.import_work.specs.Log.{Segment, games_in, segments_of}
 use Rattle.import_work.specs.Outcome.{counts_of}
 use Rattle.import_work.specs.declared.report.Report.{Report}
 use Rattle.import_work.specs.declared.report.ReportBody.TheVariants as report
+use Rattle.import_work.specs.declared.source.Source.{Source}
 use Rattle.import_work.proofs.FileLemmas.{rose_by_none}
 use Rattle.import_work.proofs.ImportsExist.{import-found}
 use Rattle.import_work.proofs.GivenSegments.{adds_up}
@@ -28,29 +28,29 @@ use Rattle.import_segments.specs.Publishing.{IsIdle, IsOpenedWith, IsWithinLimit
 use Rattle.serial_run.specs.Reports.{told_text}
 use Rattle.search_run.specs.declared.importer.Order.{Order}
 use Rattle.import_work.proofs.SegmentLemmas.{games_in-append}
-use Rattle.serial_run.proofs.ImportReports.{few_left, no_lines, text_told}
+use Rattle.serial_run.proofs.ImportReports.{few_left, no_games, text_told}
 use Rattle.import_segments.proofs.PushedSegments.{items_in-games_in}
 
 -- the path is there, or the count rose
-cause_there : (files : List File) (told : Option (List File)) (path : List ℕ) (faults now : ℕ) → told ≡ Some files → Rose faults now ⊎ ((all : List File) × (told ≡ Some all) × (¬ HasPath all path)) → Rose faults now ⊎ (¬ HasPath files path)
-cause_there files told path faults now here (inl rose) = inl rose
-cause_there files told path faults now here (inr (all, also, gone)) =
+cause_there : (files : List File) (told : Option (List File)) (from : Source) (faults now : ℕ) → told ≡ Some files → Rose faults now ⊎ ((all : List File) × (told ≡ Some all) × IsNotThere all from) → Rose faults now ⊎ IsNotThere files from
+cause_there files told from faults now here (inl rose) = inl rose
+cause_there files told from faults now here (inr (all, also, gone)) =
     let both : Some files ≡ Some all = sym here ∙ also in
     let same : files ≡ all = cc in
-    inr (subst (λ fs. ¬ HasPath fs path) (sym same) gone)
+    inr (subst (λ fs. IsNotThere fs from) (sym same) gone)
 
 -- An import by an order was opened with this log, at a time when the count of faults was this.
 pub record WasOpened (told : Option (List File)) (order : Order) (log : List Segment) (first opened_at : ℕ) (start : ImportState) : Type 0 where
-  pub opened : IsOpened (string_bytes order.path) order.line order.before (length log) start
-  pub listed : IsListed start.body start.left
-  pub unlisted : start.body ≡ report.Unlisted → Rose first opened_at ⊎ ((all : List File) × (told ≡ Some all) × (¬ HasPath all (string_bytes order.path)))
+  pub opened : IsOpened order.source order.line order.before (length log) start
+  pub listed : IsListed order.source start.body start.left
+  pub unlisted : start.body ≡ report.Unlisted → Rose first opened_at ⊎ ((all : List File) × (told ≡ Some all) × IsNotThere all order.source)
   pub counted : order.before ≡ counts_of (trees_in (items_in log))
   pub few : length log ≤ 9000000000000000000
   pub later : first ≤ opened_at
 
 module _ (told : Option (List File)) (order : Order) (some : 1 ≤ order.batch) (log : List Segment) (first opened_at : ℕ) (start : ImportState) (was : WasOpened told order log first opened_at start) where
-  path_is : start.path ≡ string_bytes order.path
-  path_is = ap (λ (i : ImportState). i.path) was.opened
+  source_is : start.source ≡ order.source
+  source_is = ap (λ (i : ImportState). i.source) was.opened
 
   counts_are : start.counts ≡ order.before
   counts_are = ap (λ (i : ImportState). i.counts) was.opened
@@ -62,18 +62,18 @@ module _ (told : Option (List File)) (order : Order) (some : 1 ≤ order.batch) 
     number = ap (λ (i : ImportState). i.number) was.opened;
     few = was.few;
     counts = counts_are ∙ was.counted;
-    listed = was.listed;
+    listed = subst (λ s. IsListed s start.body start.left) (sym source_is) was.listed;
   }
 
   -- what it finds in a folder that tells its files
-  finds : (files : List File) → told ≡ Some files → (last : ℕ) → opened_at ≤ last → FindsIn files start opened_at last → Finds files (string_bytes order.path) log first last
+  finds : (files : List File) → told ≡ Some files → (last : ℕ) → opened_at ≤ last → FindsIn files start opened_at last → Finds files order.source log first last
   finds files here last after f = record {
     entry = f.entry;
     finding = f.finding;
-    imported = subst (λ c. IsImported files (string_bytes order.path) c f.entry f.finding) (counts_are ∙ was.counted ∙ ap (λ gs. counts_of (trees_in gs)) (items_in-games_in log))
-        (subst (λ p. IsImported files p start.counts f.entry f.finding) path_is f.imported);
+    imported = subst (λ c. IsImported files order.source c f.entry f.finding) (counts_are ∙ was.counted ∙ ap (λ gs. counts_of (trees_in gs)) (items_in-games_in log))
+        (subst (λ p. IsImported files p start.counts f.entry f.finding) source_is f.imported);
     paid = loses files start first opened_at last f
-        (λ is. subst (λ p. Rose first opened_at ⊎ (¬ HasPath files p)) (sym path_is) (cause_there files told (string_bytes order.path) first opened_at here (was.unlisted is)))
+        (λ is. subst (λ p. Rose first opened_at ⊎ (IsNotThere files p)) (sym source_is) (cause_there files told order.source first opened_at here (was.unlisted is)))
         was.later after;
   }
 
@@ -89,11 +89,11 @@ module _ (told : Option (List File)) (order : Order) (some : 1 ≤ order.batch) 
       }
 
   module _ (log_now : List Segment) (last : ℕ) (after : opened_at ≤ last) (report : Report) (h : PublishesAll told order.batch start log log_now report opened_at last) where
-    games_are : games_told (line_reports (lines_in report.body)) ≡ length (games_in h.segments)
-    games_are = omega (arith, ap (λ b. games_told (line_reports (lines_in b))) h.body, (adds_up told order.batch start opened_at h.now h.segments last some h.given).told, no_lines start.body start.left was.listed)
+    games_are : games_reported report.body ≡ length (games_in h.segments)
+    games_are = omega (arith, ap games_reported h.body, (adds_up told order.batch start opened_at h.now h.segments last some h.given).told, no_games order.source start.body start.left was.listed)
 
     -- the report tells few games
-    pub few_games : IsWithinLimits log_now → games_told (line_reports (lines_in report.body)) ≤ 400000
+    pub few_games : IsWithinLimits log_now → games_reported report.body ≤ 400000
     few_games limits =
         let all : length (items_in log_now) ≡ length (games_in log) + length (games_in h.segments) =
         ap length (items_in-games_in log_now ∙ ap games_in h.grown ∙ games_in-append log h.segments) ∙ length-append (games_in log) (games_in h.segments) in
@@ -118,7 +118,7 @@ module _ (told : Option (List File)) (order : Order) (some : 1 ≤ order.batch) 
       PublishesFirst told order.batch start log publisher.log opened_at last → IfOk result (λ r. IsIdle publisher × PublishesAll told order.batch start log publisher.log r opened_at last) → IfOk result (λ r. AreMerged publisher.parts) → HasEnded told first order opening log told_now last publisher result
   ended opening told_now last publisher result opened few limits same after first_of all merged = record {
     opened = opened;
-    few = omega (arith, few, few_left start.body start.left was.listed);
+    few = omega (arith, few, few_left order.source start.body start.left was.listed);
     limits = limits;
     same = same;
     later = omega (arith, was.later, after);
@@ -132,7 +132,7 @@ module _ (told : Option (List File)) (order : Order) (some : 1 ≤ order.batch) 
 -- an import that couldn't be opened has found something by which nothing is lost
 pub not_opened : (told : Option (List File)) (order : Order) (log : List Segment) (faults now : ℕ) → faults ≤ now → IfTold told (λ files. EndsWithFirst files order log log faults now)
 not_opened told order log faults now later = λ files here.
-    let found = import-found files (string_bytes order.path) (counts_of (trees_in (games_in log))) in record {
+    let found = import-found files order.source (counts_of (trees_in (games_in log))) in record {
       finds = record {
         entry = nothing_lost;
         finding = found.0;

@@ -8,8 +8,6 @@ use Rattle.kb_edges.specs.Faults.{Rose}
 use Rattle.kb_edges.specs.Files.{File}
 use Rattle.hit_collectors.specs.Tallies.{BoxTally}
 use Rattle.query_script.specs.declared.statement.Placed.{Placed}
-use Rattle.query_script.specs.declared.statement.Statement.TheVariants as statement
-use Rattle.query_script.specs.Texts.{import_text}
 use Rattle.version_publisher.specs.Contents.{Opening, items_in}
 use Rattle.version_publisher.specs.declared.state.PublisherState.{PublisherState}
 use Rattle.version_publisher.specs.declared.state.SearcherState.{SearcherState}
@@ -18,6 +16,7 @@ use Rattle.import_work.specs.Course.{IsImported, losses_of, trees_in}
 use Rattle.import_work.specs.Log.{Segment, games_in, segments_of}
 use Rattle.import_work.specs.Outcome.{counts_of}
 use Rattle.import_work.specs.declared.report.Report.{Report}
+use Rattle.import_work.specs.declared.source.Source.{Source}
 use Rattle.import_work.proofs.FileLemmas.{RoseBy-then}
 use Rattle.import_work.proofs.Losses.{losses_of-append}
 use Rattle.search_run.specs.Beside.{EndsWith, HasAnsweredAll, HasRunTo, IsJoined, IsOrdered, StandsStill}
@@ -26,8 +25,8 @@ use Rattle.import_segments.specs.Merged.{AreMerged}
 use Rattle.import_segments.specs.Publishing.{IsIdle, IsWithinLimits}
 use Rattle.search_run.specs.Run.{WritesPublished, beside_rules}
 use Rattle.serial_run.specs.Reports.{told_text}
-use Rattle.serial_run.specs.Steps.{IsNoImport, Kept, PassesText, import_at, kept_report, nothing_kept}
-use Rattle.serial_run.specs.Texts.{report_text}
+use Rattle.serial_run.specs.Steps.{IsNoImport, Kept, PassesText, import_at, kept_report, nothing_kept, statement_of}
+use Rattle.serial_run.specs.Texts.{opening_text, report_text}
 use Rattle.search_run.specs.declared.importer.Order.{Order}
 use Rattle.search_run.proofs.BesideLemmas.{prints-first}
 use Rattle.import_segments.proofs.PushedSegments.{items_in-games_in}
@@ -41,29 +40,29 @@ ok_both (Err e) P Q W p q both = tt
 
 -- An import was joined: the run goes on from the state behind the statements that were answered
 -- beside it.
-module _ (files : List File) (batch line : ℕ) (path : List ℕ) (order : Order) (kept after : Kept) (log log_now : List Segment) (first second third : ℕ) (told : Report) (ordered : IsOrdered order batch line path kept) (ends : EndsWith files order log log_now second third told) where
+module _ (files : List File) (batch line : ℕ) (from : Source) (order : Order) (kept after : Kept) (log log_now : List Segment) (first second third : ℕ) (told : Report) (ordered : IsOrdered order batch line from kept) (ends : EndsWith files order log log_now second third told) where
   module _ (start : List BoxTally) (done answered : List Placed) (boxes boxes_now : List BoxTally) (before : List ℕ) (was written : Option (List ℕ)) (WasSeen IsSeen : List Segment → Type 0) (floor : ℕ) (h : HasRunTo (beside_rules batch) files start done kept boxes log before was first second) where
     abbrev own : List ℕ
-    own = kept_report kept ++ import_text line path
+    own = kept_report kept ++ opening_text line from
 
     -- the log is that of the state with what was found
     log_is : log_now ≡ h.run.state.log ++ segments_of batch ends.finds.finding
     log_is = ends.grown ∙ ap (λ b. log ++ segments_of b ends.finds.finding) ordered.batch_is ∙ ap (λ (l : List Segment). l ++ segments_of batch ends.finds.finding) (sym h.log_is)
 
-    found : IsImported files path (counts_of (trees_in (games_in h.run.state.log))) ends.finds.entry ends.finds.finding
-    found = subst (λ (l : List Segment). IsImported files path (counts_of (trees_in (games_in l))) ends.finds.entry ends.finds.finding) (sym h.log_is)
-        (subst (λ p. IsImported files p (counts_of (trees_in (games_in log))) ends.finds.entry ends.finds.finding) ordered.path_is ends.finds.imported)
+    found : IsImported files from (counts_of (trees_in (games_in h.run.state.log))) ends.finds.entry ends.finds.finding
+    found = subst (λ (l : List Segment). IsImported files from (counts_of (trees_in (games_in l))) ends.finds.entry ends.finds.finding) (sym h.log_is)
+        (subst (λ p. IsImported files p (counts_of (trees_in (games_in log))) ends.finds.entry ends.finds.finding) ordered.source_is ends.finds.imported)
 
-    pub joined-run : floor ≡ length log → HasAnsweredAll WasSeen floor boxes answered IsSeen boxes_now ((before ++ h.run.text) ++ own) written → IsSeen log_now → IsJoined log_now (Ok told) after → HasRunTo (beside_rules batch) files start (done ++ import_at line path ∷ answered) after boxes_now log_now before written first third
+    pub joined-run : floor ≡ length log → HasAnsweredAll WasSeen floor boxes answered IsSeen boxes_now ((before ++ h.run.text) ++ own) written → IsSeen log_now → IsJoined log_now (Ok told) after → HasRunTo (beside_rules batch) files start (done ++ import_at line from ∷ answered) after boxes_now log_now before written first third
     joined-run floor_is all seen joined =
         let run = h.run in
         let finding = ends.finds.finding in
         let same : Ok told ≡ Ok joined.told = joined.report_is in
         let told_is : told ≡ joined.told = cc in
-        let own_is : own ≡ waiting_text run.state ++ import_text line path = ap (λ t. t ++ import_text line path) (waiting_is run.state kept boxes run.is_kept) in
-        let started = prints-first files (beside_rules batch) start run.course done run.state run.text run.printed run.is_kept.floor floor (omega (arith, floor_is, ap length h.log_is)) line path WasSeen boxes run.is_kept.tallies own own_is in
+        let own_is : own ≡ waiting_text run.state ++ opening_text line from = ap (λ t. t ++ opening_text line from) (waiting_is run.state kept boxes run.is_kept) in
+        let started = prints-first files (beside_rules batch) start run.course done run.state run.text run.printed run.is_kept.floor floor (omega (arith, floor_is, ap length h.log_is)) line from WasSeen boxes run.is_kept.tallies own own_is in
         let answers = all.answered batch in
-        let r = answers.goes_on files start run.state line path run.course (done ++ import_at line path ∷ []) (run.text ++ own) started ends.finds.entry finding found (subst IsSeen log_is seen) in
+        let r = answers.goes_on files start run.state line from run.course (done ++ import_at line from ∷ []) (run.text ++ own) started ends.finds.entry finding found (subst IsSeen log_is seen) in
         let now : log_now ≡ r.state.log = log_is ∙ sym r.log_is in record {
           run = record {
             state = r.state;
@@ -80,7 +79,7 @@ module _ (files : List File) (batch line : ℕ) (path : List ℕ) (order : Order
             };
             course = run.course ++ ends.finds.entry ∷ [];
             text = (run.text ++ own) ++ answers.text;
-            printed = subst (λ ps. HasPrinted files (beside_rules batch) start (run.course ++ ends.finds.entry ∷ []) ps r.state ((run.text ++ own) ++ answers.text)) (append_assoc done (import_at line path ∷ []) answered) r.printed;
+            printed = subst (λ ps. HasPrinted files (beside_rules batch) start (run.course ++ ends.finds.entry ∷ []) ps r.state ((run.text ++ own) ++ answers.text)) (append_assoc done (import_at line from ∷ []) answered) r.printed;
             written_is = answers.written_is ∙ ap Some (ap (λ t. t ++ answers.text) (append_assoc before run.text own) ∙ append_assoc before (run.text ++ own) answers.text);
             paid = rw losses_of-append (RoseBy-then (losses_of run.course) (losses_of (ends.finds.entry ∷ [])) first second third run.paid ends.finds.paid);
           };
@@ -104,9 +103,9 @@ still-ran rules files boxes told p rest kept log was written second (Ok r) no_im
     (still-run rules files start boxes told done p kept r.0 log before was written first second h no_import (passes (before ++ h.run.text) h.run.written_is))
 still-ran rules files boxes told p rest kept log was written second (Err e) no_import passes alone = tt
 
--- an import's statement, by its line and its path
-pub placed_as : (p : Placed) (path : List ℕ) → p.statement ≡ statement.Import path → import_at p.line path ≡ p
-placed_as p path is = λ i. record { line = p.line; statement = (sym is) i }
+-- a statement that begins an import, by its line and its source
+pub placed_as : (p : Placed) (from : Source) → p.statement ≡ statement_of from → import_at p.line from ≡ p
+placed_as p from is = λ i. record { line = p.line; statement = (sym is) i }
 
 -- the closing report is written
 pub WritesPublished-end : (rules : Rules) (files : List File) (start boxes : List BoxTally) (placed : List Placed) (kept : Kept) (publisher : PublisherState Game) (before : List ℕ) (between written : Option (List ℕ)) (first second : ℕ) (h : HasRunTo rules files start placed kept boxes publisher.log before between first second) → IsIdle publisher → AreMerged publisher.parts → written ≡ Some ((before ++ h.run.text) ++ kept_report kept) → WritesPublished rules files start placed before written first second publisher

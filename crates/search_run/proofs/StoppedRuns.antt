@@ -1,8 +1,7 @@
 -- A run that stopped: what was written is a prefix of a lawful output, and what was published a
 -- prefix of its log.
-use Rattle.std.proofs.Common.{◌≡◌, inr, ℕ, suc, ◌+◌, ◌-◌, ◌<◌, ◌≤◌, List, [], ◌∷◌, ◌++◌, Option, Some, Ok, Err, Result, length, drop, get_or, take, refl, sym, ap, ◌∙◌, subst, append_assoc, arith}
-use Rattle.std.specs.Prelude.{IfOk, MatchResult, OnErr, OnOk}
-use Rattle.std.specs.Result.{IsOk}
+use Rattle.std.proofs.Common.{◌≡◌, inl, inr, ℕ, suc, ◌+◌, ◌-◌, ◌<◌, List, [], ◌∷◌, ◌++◌, Option, Some, Ok, Err, Result, length, drop, get_or, take, refl, sym, ap, ◌∙◌, subst, append_assoc, arith}
+use Rattle.std.specs.Prelude.{IfOk, MatchResult, OnErr}
 use Rattle.std.proofs.Math.Seq.{split_at}
 use Rattle.std.proofs.lemmas.List.{append-nil, length-drop, take-append-drop, take_all}
 use mathlib.Core.List.{IsPrefix}
@@ -11,15 +10,17 @@ use Rattle.kb_edges.specs.Faults.{RoseBy}
 use Rattle.kb_edges.specs.Files.{File}
 use Rattle.hit_collectors.specs.Tallies.{BoxTally}
 use Rattle.query_script.specs.declared.statement.Placed.{Placed}
-use Rattle.query_script.specs.Texts.{import_text}
 use Rattle.import_work.specs.Course.{ImportCourse, IsImported, losses_of, trees_in}
 use Rattle.import_work.specs.Log.{Segment, games_in, segments_of}
 use Rattle.import_work.specs.Outcome.{counts_of}
+use Rattle.import_work.specs.declared.source.Source.{Source}
+use Rattle.import_work.specs.declared.source.Source.TheVariants as source
 use Rattle.import_work.proofs.FileLemmas.{RoseBy-then, rose_by_none}
 use Rattle.import_work.proofs.Losses.{losses_of-append}
-use Rattle.serial_run.specs.Lawful.{Rules, State, waiting_text}
-use Rattle.serial_run.specs.Steps.{Kept, StopsInStatement, import_at, kept_report}
-use Rattle.serial_run.proofs.RunLemmas.{next_prefix, split_here}
+use Rattle.serial_run.specs.Lawful.{IsStatementText, Rules, State, waiting_text}
+use Rattle.serial_run.specs.Steps.{Kept, StopsInStatement, import_at, kept_report, statement_of}
+use Rattle.serial_run.specs.Texts.{opening_text}
+use Rattle.serial_run.proofs.RunLemmas.{next_prefix}
 use Rattle.serial_run.proofs.StatementLemmas.{same_begins, waiting_is}
 use Rattle.serial_run.proofs.WholeOutputs.{IsCompleted, begun-next, completed, prefix_behind, whole-output}
 use Rattle.search_run.specs.Beside.{EndsWithFirst, GoesOnBeside, HasAnswered, HasAnsweredAll, HasRunTo, IsOrdered, StopsBeside}
@@ -27,6 +28,11 @@ use Rattle.search_run.specs.Run.{beside_rules}
 use Rattle.search_run.specs.Stopped.{WritesPublishedPrefix}
 use Rattle.search_run.specs.declared.importer.Order.{Order}
 use Rattle.search_run.proofs.BesideLemmas.{goes-on-none, goes-on-then, prints-first}
+
+-- the text of a statement that begins an import
+opens-statement : (files : List File) (rules : Rules) (s : State) (line : ℕ) (from : Source) (text : List ℕ) → text ≡ waiting_text s ++ opening_text line from → IsStatementText files rules s line (statement_of from) text
+opens-statement files rules s line (source.Under path) text is = is
+opens-statement files rules s line (source.Made games start) text is = is
 
 -- a part of a text with which a lawful output begins is written
 pub stops-with : (rules : Rules) (files : List File) (start : List BoxTally) (course : List ImportCourse) (placed : List Placed) (log published : List Segment) (before text part : List ℕ) (written : Option (List ℕ)) (first last : ℕ) → IsCompleted files rules start course placed log text → IsPrefix part text → IsPrefix published log → RoseBy (losses_of course) first last → written ≡ Some (before ++ part) →
@@ -62,12 +68,12 @@ module _ (rules : Rules) (files : List File) (start boxes : List BoxTally) (done
       (begun-next files rules start (p ∷ left) h.run.course done h.run.state h.run.text stop.more h.run.printed (next_prefix rules files h.run.state kept boxes p left stop.more h.run.is_kept stop.prefix)) stop.written_is
 
   -- a prefix of an import's text
-  pub import-stopped : (line : ℕ) (path : List ℕ) (left : List Placed) (more : List ℕ) → IsPrefix more (kept_report kept ++ import_text line path) → written ≡ Some ((before ++ h.run.text) ++ more) → WritesPublishedPrefix rules files start (done ++ import_at line path ∷ left) before written first second log
-  import-stopped line path left more prefix is =
-      let own : List ℕ = waiting_text h.run.state ++ import_text line path in
-      let prefix_own = subst (λ w. IsPrefix more (w ++ import_text line path)) (waiting_is h.run.state kept boxes h.run.is_kept) prefix in
-      next-stopped (done ++ import_at line path ∷ left) more
-      (begun-next files rules start (import_at line path ∷ left) h.run.course done h.run.state h.run.text more h.run.printed (inr (own, refl, prefix_own))) is
+  pub import-stopped : (line : ℕ) (from : Source) (left : List Placed) (more : List ℕ) → IsPrefix more (kept_report kept ++ opening_text line from) → written ≡ Some ((before ++ h.run.text) ++ more) → WritesPublishedPrefix rules files start (done ++ import_at line from ∷ left) before written first second log
+  import-stopped line from left more prefix is =
+      let own : List ℕ = waiting_text h.run.state ++ opening_text line from in
+      let prefix_own = subst (λ w. IsPrefix more (w ++ opening_text line from)) (waiting_is h.run.state kept boxes h.run.is_kept) prefix in
+      next-stopped (done ++ import_at line from ∷ left) more
+      (begun-next files rules start (import_at line from ∷ left) h.run.course done h.run.state h.run.text more h.run.printed (inr (own, opens-statement files rules h.run.state line from own refl, prefix_own))) is
 
   -- a prefix of the closing report
   pub close-stopped : (more : List ℕ) → IsPrefix more (kept_report kept) → written ≡ Some ((before ++ h.run.text) ++ more) → WritesPublishedPrefix rules files start done before written first second log
@@ -81,6 +87,12 @@ pub still-stops : {T E : Type 0} (rules : Rules) (files : List File) (boxes : Li
 still-stops rules files boxes p rest kept log was written second (Ok r) stops = tt
 still-stops rules files boxes p rest kept log was written second (Err e) stops = λ start done before first h.
     still-stopped rules files start boxes done kept log before was written first second h p rest (stops (before ++ h.run.text) h.run.written_is rules)
+
+-- a statement for which memory was wanted before anything of it was written
+pub nothing-written : (rules : Rules) (files : List File) (boxes : List BoxTally) (p : Placed) (rest : List Placed) (kept : Kept) (log : List Segment) (was : Option (List ℕ)) (second : ℕ) (start : List BoxTally) (done : List Placed) (before : List ℕ) (first : ℕ) → HasRunTo rules files start done kept boxes log before was first second → WritesPublishedPrefix rules files start (done ++ p ∷ rest) before was first second log
+nothing-written rules files boxes p rest kept log was second start done before first h =
+    still-stopped rules files start boxes done kept log before was was first second h p rest
+    (record { more = []; prefix = inl refl; written_is = h.run.written_is ∙ ap Some (sym (append-nil (before ++ h.run.text))) })
 
 -- ---- answers that stopped beside an import
 
@@ -156,10 +168,10 @@ pub stops-either : {E : Type 0} (result : Result ℕ E) (batch : ℕ) (WasSeen I
 stops-either (Ok count) batch WasSeen IsSeen floor boxes boxes_now placed before written all stops = stops-answered batch WasSeen IsSeen floor boxes boxes_now placed count before written all
 stops-either (Err e) batch WasSeen IsSeen floor boxes boxes_now placed before written all stops = stops batch
 
-module _ (files : List File) (batch line : ℕ) (path : List ℕ) (order : Order) (kept : Kept) (log log_now : List Segment) (first second third : ℕ) (ordered : IsOrdered order batch line path kept) (ends : EndsWithFirst files order log log_now second third) where
+module _ (files : List File) (batch line : ℕ) (from : Source) (order : Order) (kept : Kept) (log log_now : List Segment) (first second third : ℕ) (ordered : IsOrdered order batch line from kept) (ends : EndsWithFirst files order log log_now second third) where
   module _ (start : List BoxTally) (done rest : List Placed) (boxes : List BoxTally) (before : List ℕ) (was written : Option (List ℕ)) (WasSeen IsSeen : List Segment → Type 0) (floor : ℕ) (h : HasRunTo (beside_rules batch) files start done kept boxes log before was first second) where
     abbrev own : List ℕ
-    own = kept_report kept ++ import_text line path
+    own = kept_report kept ++ opening_text line from
 
     -- the log behind the import
     abbrev behind : List Segment
@@ -172,27 +184,27 @@ module _ (files : List File) (batch line : ℕ) (path : List ℕ) (order : Order
         (subst (λ (l : List Segment). IsPrefix (l ++ ends.segments) behind) h.log_is
         (begins_with h.run.state.log ends.segments (segments_of batch ends.finds.finding) first))
 
-    found : IsImported files path (counts_of (trees_in (games_in h.run.state.log))) ends.finds.entry ends.finds.finding
-    found = subst (λ (l : List Segment). IsImported files path (counts_of (trees_in (games_in l))) ends.finds.entry ends.finds.finding) (sym h.log_is)
-        (subst (λ p. IsImported files p (counts_of (trees_in (games_in log))) ends.finds.entry ends.finds.finding) ordered.path_is ends.finds.imported)
+    found : IsImported files from (counts_of (trees_in (games_in h.run.state.log))) ends.finds.entry ends.finds.finding
+    found = subst (λ (l : List Segment). IsImported files from (counts_of (trees_in (games_in l))) ends.finds.entry ends.finds.finding) (sym h.log_is)
+        (subst (λ p. IsImported files p (counts_of (trees_in (games_in log))) ends.finds.entry ends.finds.finding) ordered.source_is ends.finds.imported)
 
     -- the statements of the script, with those that were answered set apart
-    all_placed : (answered left : List Placed) → rest ≡ answered ++ left → ((done ++ import_at line path ∷ []) ++ answered) ++ left ≡ done ++ import_at line path ∷ rest
+    all_placed : (answered left : List Placed) → rest ≡ answered ++ left → ((done ++ import_at line from ∷ []) ++ answered) ++ left ≡ done ++ import_at line from ∷ rest
     all_placed answered left split =
-        append_assoc (done ++ import_at line path ∷ []) answered left
-        ∙ ap (λ (ps : List Placed). (done ++ import_at line path ∷ []) ++ ps) (sym split)
-        ∙ append_assoc done (import_at line path ∷ []) rest
+        append_assoc (done ++ import_at line from ∷ []) answered left
+        ∙ ap (λ (ps : List Placed). (done ++ import_at line from ∷ []) ++ ps) (sym split)
+        ∙ append_assoc done (import_at line from ∷ []) rest
 
     pub joined-stopped : floor ≡ length log → StopsBeside batch WasSeen floor boxes rest IsSeen ((before ++ h.run.text) ++ own) written → ((whole : List Segment) → IsPrefix log_now whole → IsSeen whole) →
-        WritesPublishedPrefix (beside_rules batch) files start (done ++ import_at line path ∷ rest) before written first third log_now
+        WritesPublishedPrefix (beside_rules batch) files start (done ++ import_at line from ∷ rest) before written first third log_now
     joined-stopped floor_is stop seen =
         let run = h.run in
         let entry = ends.finds.entry in
-        let own_is : own ≡ waiting_text run.state ++ import_text line path = ap (λ t. t ++ import_text line path) (waiting_is run.state kept boxes run.is_kept) in
-        let started = prints-first files (beside_rules batch) start run.course done run.state run.text run.printed run.is_kept.floor floor (omega (arith, floor_is, ap length h.log_is)) line path WasSeen boxes run.is_kept.tallies own own_is in
-        let r = stop.goes_on files start run.state line path run.course (done ++ import_at line path ∷ []) (run.text ++ own) started entry ends.finds.finding found (seen behind published) in
-        let whole = completed files (beside_rules batch) start stop.left (run.course ++ entry ∷ []) ((done ++ import_at line path ∷ []) ++ stop.first) r.state ((run.text ++ own) ++ stop.text) r.printed in
-        stops-with (beside_rules batch) files start (run.course ++ entry ∷ []) (done ++ import_at line path ∷ rest) r.state.log log_now before ((run.text ++ own) ++ stop.text) ((run.text ++ own) ++ stop.part) written first third
+        let own_is : own ≡ waiting_text run.state ++ opening_text line from = ap (λ t. t ++ opening_text line from) (waiting_is run.state kept boxes run.is_kept) in
+        let started = prints-first files (beside_rules batch) start run.course done run.state run.text run.printed run.is_kept.floor floor (omega (arith, floor_is, ap length h.log_is)) line from WasSeen boxes run.is_kept.tallies own own_is in
+        let r = stop.goes_on files start run.state line from run.course (done ++ import_at line from ∷ []) (run.text ++ own) started entry ends.finds.finding found (seen behind published) in
+        let whole = completed files (beside_rules batch) start stop.left (run.course ++ entry ∷ []) ((done ++ import_at line from ∷ []) ++ stop.first) r.state ((run.text ++ own) ++ stop.text) r.printed in
+        stops-with (beside_rules batch) files start (run.course ++ entry ∷ []) (done ++ import_at line from ∷ rest) r.state.log log_now before ((run.text ++ own) ++ stop.text) ((run.text ++ own) ++ stop.part) written first third
         (subst (λ ps. IsCompleted files (beside_rules batch) start (run.course ++ entry ∷ []) ps r.state.log ((run.text ++ own) ++ stop.text)) (all_placed stop.first stop.left stop.split) whole)
         (prefix_behind (run.text ++ own) stop.part stop.text stop.prefix) (subst (IsPrefix log_now) (sym r.log_is) published)
         (rw losses_of-append (RoseBy-then (losses_of run.course) (losses_of (entry ∷ [])) first second third run.paid ends.finds.paid))

@@ -1,6 +1,6 @@
 -- What is printed while an import is under way, and how an import ends: words of the private
 -- functions.
-use Rattle.std.specs.Prelude.{◌≡◌, ◌≤◌, ◌+◌, ℕ, List, [], ◌∷◌, ◌++◌, length, Option, Some, Result, Ok, IfOk, string_bytes}
+use Rattle.std.specs.Prelude.{◌≡◌, ◌≤◌, ◌+◌, ℕ, List, [], ◌∷◌, ◌++◌, length, Option, Some, Result, Ok, IfOk}
 use mathlib.Core.List.{IsPrefix}
 use Rattle.kb_edges.specs.Faults.{RoseBy}
 use Rattle.kb_edges.specs.Files.{File}
@@ -15,12 +15,12 @@ use Rattle.node_position.specs.Games.{Game}
 use Rattle.version_publisher.specs.Contents.{Opening, items_in}
 use Rattle.version_publisher.specs.declared.state.PublisherState.{PublisherState}
 use Rattle.version_publisher.specs.declared.state.SearcherState.{SearcherState}
-use Rattle.import_work.specs.Batches.{games_told, line_reports}
 use Rattle.import_work.specs.Course.{Finding, ImportCourse, IsImported, losses_of, trees_in}
-use Rattle.import_work.specs.Imports.{lines_in}
+use Rattle.import_work.specs.Imports.{games_reported}
 use Rattle.import_work.specs.Log.{Segment, games_in, segments_of}
 use Rattle.import_work.specs.Outcome.{counts_of}
 use Rattle.import_work.specs.declared.report.Report.{Report}
+use Rattle.import_work.specs.declared.source.Source.{Source}
 use Rattle.serial_run.specs.Lawful.{HasPrinted, Rules, State}
 use Rattle.import_segments.specs.Merged.{AreMerged}
 use Rattle.import_segments.specs.Publishing.{IsIdle, IsWithinLimits}
@@ -44,14 +44,14 @@ pub record IsPrintedWith (files : List File) (rules : Rules) (start : List BoxTa
   pub floor_at_most : state.floor ≤ floor
   pub boxes_are : state.boxes ≡ boxes
 
--- An import of this path, whose report has this line, is under way. It began in this state, by this
+-- An import from this source, whose report has this line, is under way. It began in this state, by this
 -- course. Whatever it finds, if the log with its segments agrees with all that was seen of it, these
 -- statements, the import among them, print this text.
-abbrev pub PrintsBeside : List File → Rules → List BoxTally → State → ℕ → List ℕ →
+abbrev pub PrintsBeside : List File → Rules → List BoxTally → State → ℕ → Source →
     List ImportCourse → (List Segment → Type 0) → ℕ → List BoxTally → List Placed → List ℕ → Type 0
-PrintsBeside files rules start began line path course IsSeen floor boxes placed text =
+PrintsBeside files rules start began line source course IsSeen floor boxes placed text =
     (entry : ImportCourse) (finding : Finding) →
-    IsImported files path (counts_of (trees_in (games_in began.log))) entry finding →
+    IsImported files source (counts_of (trees_in (games_in began.log))) entry finding →
     IsSeen (began.log ++ segments_of rules.batch finding) →
     IsPrintedWith files rules start (course ++ entry ∷ []) placed
     (began.log ++ segments_of rules.batch finding)
@@ -63,27 +63,27 @@ PrintsBeside files rules start began line path course IsSeen floor boxes placed 
 abbrev pub GoesOnBeside : Rules → (List Segment → Type 0) → ℕ → List BoxTally → List Placed →
     List ℕ → (List Segment → Type 0) → ℕ → List BoxTally → Type 0
 GoesOnBeside rules WasSeen floor boxes more text IsSeen floor_now boxes_now =
-    (files : List File) (start : List BoxTally) (began : State) (line : ℕ) (path : List ℕ)
+    (files : List File) (start : List BoxTally) (began : State) (line : ℕ) (source : Source)
     (course : List ImportCourse) (placed : List Placed) (printed : List ℕ) →
-    PrintsBeside files rules start began line path course WasSeen floor boxes placed printed →
-    PrintsBeside files rules start began line path course IsSeen floor_now boxes_now
+    PrintsBeside files rules start began line source course WasSeen floor boxes placed printed →
+    PrintsBeside files rules start began line source course IsSeen floor_now boxes_now
     (placed ++ more) (printed ++ text)
 
 -- ---- how an import ends
 
--- what an import of this path, in a base with this log, finds in these files, by an entry of the
+-- what an import from this source, in a base with this log, finds in these files, by an entry of the
 -- course whose losses are at most the rise of the folder's count
-pub record Finds (files : List File) (path : List ℕ) (log : List Segment)
+pub record Finds (files : List File) (source : Source) (log : List Segment)
     (faults_before faults_now : ℕ) : Type 0 where
   pub entry : ImportCourse
   pub finding : Finding
-  pub imported : IsImported files path (counts_of (trees_in (games_in log))) entry finding
+  pub imported : IsImported files source (counts_of (trees_in (games_in log))) entry finding
   pub paid : RoseBy (losses_of (entry ∷ [])) faults_before faults_now
 
 -- the log has grown by the segments of what it found, and the report tells that
 pub record EndsWith (files : List File) (order : Order) (log_before log_now : List Segment)
     (faults_before faults_now : ℕ) (report : Report) : Type 0 where
-  pub finds : Finds files (string_bytes order.path) log_before faults_before faults_now
+  pub finds : Finds files order.source log_before faults_before faults_now
   pub grown : log_now ≡ log_before ++ segments_of order.batch finds.finding
   pub text : told_text report.line report.body report.version
       ≡ report_text order.line finds.finding (length log_now)
@@ -91,7 +91,7 @@ pub record EndsWith (files : List File) (order : Order) (log_before log_now : Li
 -- the log has grown by the first segments of what it found, or by all or none
 pub record EndsWithFirst (files : List File) (order : Order) (log_before log_now : List Segment)
     (faults_before faults_now : ℕ) : Type 0 where
-  pub finds : Finds files (string_bytes order.path) log_before faults_before faults_now
+  pub finds : Finds files order.source log_before faults_before faults_now
   pub segments : List Segment
   pub grown : log_now ≡ log_before ++ segments
   pub first : IsPrefix segments (segments_of order.batch finds.finding)
@@ -101,13 +101,13 @@ pub record HasEnded (told : Option (List File)) (faults_before : ℕ) (order : O
     (opening : Opening) (log : List Segment) (told_now : Option (List File)) (faults_now : ℕ)
     (publisher : PublisherState Game) (report : Result Report NoMemory) : Type 0 where
   pub opened : publisher.opening ≡ opening
-  pub few : length publisher.log ≤ length log + 100000
+  pub few : length publisher.log ≤ length log + 4294967295
   pub limits : IsWithinLimits publisher.log
   pub same : told_now ≡ told
   pub later : faults_before ≤ faults_now
   pub idle : IfOk report (λ r. IsIdle publisher)
   pub merged : IfOk report (λ r. AreMerged publisher.parts)
-  pub few_told : IfOk report (λ r. games_told (line_reports (lines_in r.body)) ≤ 400000)
+  pub few_told : IfOk report (λ r. games_reported r.body ≤ 400000)
   pub ends : IfTold told (λ files. IfOk report
       (EndsWith files order log publisher.log faults_before faults_now))
   pub first : IfTold told (λ files.
@@ -147,11 +147,11 @@ pub record MayBegin (opening : Opening) (publisher : PublisherState Game) (order
   pub few : length publisher.log ≤ 9000000000000000000
   pub counted : order.before ≡ counts_of (trees_in (items_in publisher.log))
 
--- the order is that of an import by batches of this size, at this line and of this path, where this
--- is kept
-pub record IsOrdered (order : Order) (batch line : ℕ) (path : List ℕ) (kept : Kept)
+-- the order is that of an import by batches of this size, at this line and from this source, where
+-- this is kept
+pub record IsOrdered (order : Order) (batch line : ℕ) (source : Source) (kept : Kept)
     : Type 0 where
-  pub path_is : string_bytes order.path ≡ path
+  pub source_is : order.source ≡ source
   pub line_is : order.line ≡ line
   pub batch_is : order.batch ≡ batch
   pub before : order.before ≡ counts_of (trees_in kept.games)

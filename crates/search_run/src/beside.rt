@@ -232,7 +232,7 @@ fn version_for<J: OpenName, R: Wait>(
     ensures block { searchers.new.block.items ≡ searchers.old.block.items }
 {
     match statement {
-        Statement::Import { .. } | Statement::Wait => Ok(None),
+        Statement::Import { .. } | Statement::Make { .. } | Statement::Wait => Ok(None),
         Statement::Until { number } => version_awaited(rt, alloc, searchers, held, *number),
         // These are answered from the boxes alone.
         Statement::Report | Statement::Retire { .. } => Ok(Some(held)),

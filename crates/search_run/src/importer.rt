@@ -3,7 +3,7 @@ ghost use Rattle.search_run.specs.Beside.{HasEnded, MayBegin};
 
 use crate::carried::Carried;
 use import_segments::{OpenName, Receipts, publish_import};
-use import_work::{Counts, Import, Report};
+use import_work::{Counts, Import, Report, Source};
 use kb_edges::{Folder, Gate};
 use kb_geometry::NoMemory;
 use segment_store::Segment;
@@ -21,11 +21,11 @@ pub(crate) struct Tools<R: Wait + Drop, F: Folder, G: Gate> {
     pub gate: G,
 }
 
-// What is to be imported: the files of a path, so many at a time, and the line of its report; and
+// What is to be imported: the source, so many of its files at a time, and the line of the report; and
 // the games and nodes of the base before it.
 #[derive(Drop)]
 pub(crate) struct Order {
-    pub path: String,
+    pub source: Source,
     pub line: u32,
     pub batch: u32,
     pub before: Counts,
@@ -108,8 +108,8 @@ fn publish_order<J: OpenName + Send + Sync, R: Threads + Wait + Sync, F: Folder,
         publisher.old.log (F.files folder.new) (F.faults folder.new) publisher.new result }
 {
     let number = publisher.number();
-    let path = order.path.as_str();
-    let import = match Import::open(alloc, folder, path, order.line, order.before, number) {
+    let source = &order.source;
+    let import = match Import::open_from(alloc, folder, source, order.line, order.before, number) {
         Ok(import) => import,
         Err(NoMemory) => return Err(NoMemory),
     };

@@ -21,7 +21,6 @@ ghost use Rattle.std.specs.Prelude.{
   drop,
   length,
   map,
-  string_bytes,
   take,
 };
 ghost use Rattle.std.specs.Result.{IsOk};
@@ -31,10 +30,8 @@ ghost use Rattle.kb_edges.specs.Faults.{Rose};
 ghost use Rattle.kb_edges.specs.Told.{IfTold};
 ghost use Rattle.query_script.specs.declared.statement.Placed.{Placed};
 ghost use Rattle.query_script.specs.declared.statement.Statement.{Statement};
-ghost use Rattle.query_script.specs.Texts.{import_text};
 ghost use Rattle.version_publisher.specs.Contents.{IsNewSearcher, items_in};
-ghost use Rattle.import_work.specs.Batches.{games_told, line_reports};
-ghost use Rattle.import_work.specs.Imports.{lines_in};
+ghost use Rattle.import_work.specs.Imports.{games_reported};
 ghost use Rattle.search_run.specs.Beside.{
   HasAnsweredAll,
   HasEnded,
@@ -58,6 +55,7 @@ ghost use Rattle.serial_run.specs.Steps.{
   import_at,
   kept_report,
 };
+ghost use Rattle.serial_run.specs.Texts.{opening_text};
 
 use crate::beside::answer_beside;
 use crate::carried::Carried;
@@ -65,12 +63,12 @@ use crate::importer::{Ended, Importing, Order, Tools, import};
 use crate::searchers::Searchers;
 use hit_collectors::Collector;
 use import_segments::{OpenName, Receipts};
-use import_work::Report;
+use import_work::{Report, Source};
 use kb_edges::{Folder, Gate, Sink};
 use kb_geometry::NoMemory;
-use query_script::{Placed, Statement};
+use query_script::Placed;
 use segment_store::Segment;
-use serial_run::{Standing, Stopped, write_all};
+use serial_run::{Standing, Stopped, source_of, write_all};
 use session_core::Session;
 use std::alloc::Global;
 use std::snapshot::Snapshot;
@@ -302,7 +300,7 @@ fn run_next<
         StandsStill J.opening result.tools.carried.publisher searchers.new.own r.0) }
     ensures count { IfOk result.outcome (λ r. r.1 ≤ length rest.now) }
     ensures few { length result.tools.carried.publisher.log
-        ≤ length tools.carried.publisher.log + 100000 }
+        ≤ length tools.carried.publisher.log + 4294967295 }
     ensures sink_fault { IsErrOf result.outcome Stopped.SinkFault →
         Rose (K.faults out.old) (K.faults out.new) }
     ensures opening { result.tools.carried.publisher.opening ≡ J.opening }
@@ -310,8 +308,8 @@ fn run_next<
     ensures later { F.faults tools.folder ≤ F.faults result.tools.folder }
     ensures sink_later { K.faults out.old ≤ K.faults out.new }
 {
-    match &placed.statement {
-        Statement::Import { path } => run_import(
+    match source_of(alloc, &placed.statement) {
+        Ok(Some(source)) => run_import(
             rt,
             alloc,
             batch,
@@ -319,15 +317,19 @@ fn run_next<
             searchers,
             standing,
             placed.line,
-            path.as_str(),
+            source,
             rest,
             tools,
             out,
         ),
-        _ => {
+        Ok(None) => {
             let outcome = answer_still(rt, alloc, session, standing, placed, out);
             Passed { tools, outcome }
         }
+        Err(NoMemory) => Passed {
+            tools,
+            outcome: Err(Stopped::NoMemory),
+        },
     }
 }
 
@@ -373,7 +375,7 @@ fn run_import<
     searchers: &mut Searchers<J>,
     standing: Standing,
     line: u32,
-    path: &str,
+    source: Source,
     rest: &[Placed],
     tools: Tools<R, F, G>,
     out: &mut K,
@@ -386,7 +388,7 @@ fn run_import<
         HasRunTo (beside_rules batch) files start done standing session.old
         tools.carried.publisher.log before (K.written out.old) first (F.faults tools.folder) →
         HasRunTo (beside_rules batch) files start
-        (done ++ import_at line path.now ∷ take r.1 rest.now) r.0 session.new
+        (done ++ import_at line source ∷ take r.1 rest.now) r.0 session.new
         result.tools.carried.publisher.log before (K.written out.new) first
         (F.faults result.tools.folder))) }
     ensures stopped { IfTold (F.files tools.folder) (λ files. OnErr result.outcome (
@@ -394,13 +396,13 @@ fn run_import<
         HasRunTo (beside_rules batch) files start done standing session.old
         tools.carried.publisher.log before (K.written out.old) first (F.faults tools.folder) →
         WritesPublishedPrefix (beside_rules batch) files start
-        (done ++ import_at line path.now ∷ rest.now) before (K.written out.new) first
+        (done ++ import_at line source ∷ rest.now) before (K.written out.new) first
         (F.faults result.tools.folder) result.tools.carried.publisher.log)) }
     ensures stands { IfOk result.outcome (λ r.
         StandsStill J.opening result.tools.carried.publisher searchers.new.own r.0) }
     ensures count { IfOk result.outcome (λ r. r.1 ≤ length rest.now) }
     ensures few { length result.tools.carried.publisher.log
-        ≤ length tools.carried.publisher.log + 100000 }
+        ≤ length tools.carried.publisher.log + 4294967295 }
     ensures sink_fault { IsErrOf result.outcome Stopped.SinkFault →
         Rose (K.faults out.old) (K.faults out.new) }
     ensures opening { result.tools.carried.publisher.opening ≡ J.opening }
@@ -408,7 +410,7 @@ fn run_import<
     ensures later { F.faults tools.folder ≤ F.faults result.tools.folder }
     ensures sink_later { K.faults out.old ≤ K.faults out.new }
 {
-    let (order, theirs) = match begin(alloc, batch, searchers, &standing, line, path, out) {
+    let (order, theirs) = match begin(alloc, batch, searchers, &standing, line, source, out) {
         Ok(begun) => begun,
         Err(stopped) => {
             return Passed {
@@ -428,21 +430,21 @@ fn run_import<
     Passed { tools, outcome }
 }
 
-// Writes the text of an import, and makes its order.
+// Writes the text of a statement that begins an import, and makes its order.
 fn begin<J: OpenName, K: Sink>(
     alloc: Global,
     batch: u32,
     searchers: &Searchers<J>,
     standing: &Standing,
     line: u32,
-    path: &str,
+    source: Source,
     out: &mut K,
 ) -> Result<(Order, Arc<Receipts<J>>), Stopped>
-    ensures order { IfOk result (λ t. IsOrdered t.0 batch line path.now standing.now) }
+    ensures order { IfOk result (λ t. IsOrdered t.0 batch line source standing.now) }
     ensures written { IfTold (K.written out.old) (λ before. OnOk result (K.written out.new
-        ≡ Some (before ++ (kept_report standing.now ++ import_text line path.now)))) }
+        ≡ Some (before ++ (kept_report standing.now ++ opening_text line source)))) }
     ensures part { IfTold (K.written out.old) (λ before. OnErr result ((more : List ℕ)
-        × IsPrefix more (kept_report standing.now ++ import_text line path.now)
+        × IsPrefix more (kept_report standing.now ++ opening_text line source)
         × (K.written out.new ≡ Some (before ++ more)))) }
     ensures sink_fault { IsErrOf result Stopped.SinkFault →
         Rose (K.faults out.old) (K.faults out.new) }
@@ -451,17 +453,14 @@ fn begin<J: OpenName, K: Sink>(
     let Ok(theirs) = Arc::try_clone(&searchers.receipts) else {
         return Err(Stopped::NoMemory);
     };
-    let Ok(own_path) = String::from_str(alloc, path) else {
-        return Err(Stopped::NoMemory);
-    };
+    let text = standing.import_text(alloc, line, &source)?;
+    write_all(out, &text)?;
     let order = Order {
-        path: own_path,
+        source,
         line,
         batch,
         before: standing.counts(),
     };
-    let text = standing.import_text(alloc, line, path)?;
-    write_all(out, &text)?;
     Ok((order, theirs))
 }
 
@@ -541,7 +540,7 @@ fn join<J: OpenName, R: Wait>(
 ) -> Result<(Standing, usize), Stopped>
     requires opening { publisher.now.opening ≡ J.opening }
     requires limits { IsWithinLimits publisher.now.log }
-    requires few { IfOk report (λ r. games_told (line_reports (lines_in r.body)) ≤ 400000) }
+    requires few { IfOk report (λ r. games_reported r.body ≤ 400000) }
     ensures seen { HaveSeen searchers.old.own searchers.old.block.items publisher.now.log }
     ensures joined { IfOk result (λ r. IsJoined publisher.now.log report r.0) }
     ensures answered { IfOk result (λ r. answered ≡ Ok r.1) }

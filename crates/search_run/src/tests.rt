@@ -8,6 +8,7 @@ use std::test::Fail;
 
 mod beside;
 mod gate;
+mod made;
 mod stops;
 
 // A file: its path, its name and its text.

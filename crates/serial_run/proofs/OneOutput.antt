@@ -12,10 +12,12 @@ use Rattle.session_core.specs.Answers.{IsAnswer, IsSearched}
 use Rattle.kb_geometry.proofs.Lists.{push_not_nil, push_same}
 use Rattle.session_core.proofs.OneAnswer.{answer-unique, retired-one, search-one}
 use Rattle.import_work.specs.Course.{ImportCourse, IsImported, losses_of, nothing_lost, trees_in}
-use Rattle.serial_run.specs.Lawful.{AreSearched, HasPrinted, IsLawful, IsNamed, IsPassed, Rules, State, after_import, last_of, view_at, waiting_text, with_boxes, with_floor}
+use Rattle.serial_run.specs.Lawful.{AreSearched, HasPrinted, IsLawful, IsNamed, OpensImport, IsPassed, Rules, State, after_import, last_of, view_at, waiting_text, with_boxes, with_floor}
 use Rattle.import_work.specs.Log.{games_in}
 use Rattle.import_work.specs.Outcome.{counts_of}
 use Rattle.import_work.proofs.Losses.{losses_of-append}
+use Rattle.import_work.specs.declared.source.Source.{Source}
+use Rattle.import_work.specs.declared.source.Source.TheVariants as source
 use Rattle.import_work.proofs.OneFinding.{finding-one}
 use Rattle.serial_run.proofs.WholeOutputs.{IsReached, reached, trees-at}
 
@@ -76,16 +78,21 @@ module _ (files : List File) (rules : Rules) (serial : IsTrue rules.serial) (s :
       let state = is ∙ (λ i. with_boxes (with_floor s (one-number m n named also i)) (answer.1 i)) ∙ sym is_too in
       λ i. passed_by (answer.0 i) (state i)
 
-  -- a statement is passed in one way
-  one-passing : (line : ℕ) (own : Statement) (used more : List ImportCourse) (a b : List ℕ) (next after : State) → IsPassed files rules s line own used a next → losses_of used ≡ 0 → IsPassed files rules s line own more b after → losses_of more ≡ 0 → passed_by a next ≡ passed_by b after
-  one-passing line (statement.Import path) used more a b next after one none other too =
+  -- an import is begun in one way
+  one-opening : (line : ℕ) (from : Source) (used more : List ImportCourse) (a b : List ℕ) (next after : State) → OpensImport files rules s line from used a next → losses_of used ≡ 0 → OpensImport files rules s line from more b after → losses_of more ≡ 0 → passed_by a next ≡ passed_by b after
+  one-opening line from used more a b next after one none other too =
       let counts = counts_of (trees_in (games_in s.log)) in
-      let found = finding-one files path counts one.1 other.1
-      (subst (λ e. IsImported files path counts e one.1) (no_loss_is one.0 (ap losses_of (sym one.2) ∙ none)) one.3)
-      (subst (λ e. IsImported files path counts e other.1) (no_loss_is other.0 (ap losses_of (sym other.2) ∙ too)) other.3) in
+      let found = finding-one files from counts one.1 other.1
+      (subst (λ e. IsImported files from counts e one.1) (no_loss_is one.0 (ap losses_of (sym one.2) ∙ none)) one.3)
+      (subst (λ e. IsImported files from counts e other.1) (no_loss_is other.0 (ap losses_of (sym other.2) ∙ too)) other.3) in
       let text = one.4 ∙ sym other.4 in
       let state = one.5 ∙ ap (after_import rules s line) found ∙ sym other.5 in
       λ i. passed_by (text i) (state i)
+
+  -- a statement is passed in one way
+  one-passing : (line : ℕ) (own : Statement) (used more : List ImportCourse) (a b : List ℕ) (next after : State) → IsPassed files rules s line own used a next → losses_of used ≡ 0 → IsPassed files rules s line own more b after → losses_of more ≡ 0 → passed_by a next ≡ passed_by b after
+  one-passing line (statement.Import path) used more a b next after one none other too = one-opening line (source.Under path) used more a b next after one none other too
+  one-passing line (statement.Make games start) used more a b next after one none other too = one-opening line (source.Made games start) used more a b next after one none other too
   one-passing line statement.Wait used more a b next after one none other too =
       let text = one.1 ∙ sym other.1 in
       let state = one.2 ∙ sym other.2 in

@@ -11,16 +11,18 @@ use Rattle.kb_edges.specs.Files.{File}
 use Rattle.query_script.specs.declared.statement.PlacedSearch.{PlacedSearch}
 use Rattle.query_script.specs.declared.statement.Statement.{Statement}
 use Rattle.query_script.specs.declared.statement.Statement.TheVariants as statement
-use Rattle.query_script.specs.Texts.{import_text, until_text, wait_text}
+use Rattle.query_script.specs.Texts.{until_text, wait_text}
 use Rattle.hit_collectors.specs.Tallies.{BoxTally}
 use Rattle.session_core.specs.Answers.{IsAnswer, IsSearched, View, boxes_text}
 use Rattle.node_position.specs.Games.{Game}
 use Rattle.import_work.specs.Course.{Finding, ImportCourse, IsImported, losses_of, trees_in}
-use Rattle.serial_run.specs.Lawful.{AreSearched, IsNamed, IsPassed, IsStatementText, Rules, State, after_import, report_printed, last_of, view_at, waiting_text, with_boxes, with_floor}
+use Rattle.import_work.specs.declared.source.Source.{Source}
+use Rattle.import_work.specs.declared.source.Source.TheVariants as source
+use Rattle.serial_run.specs.Lawful.{AreSearched, IsNamed, IsPassed, IsStatementText, OpensImport, Rules, State, after_import, report_printed, last_of, view_at, waiting_text, with_boxes, with_floor}
 use Rattle.import_work.specs.Log.{Segment, games_in, segments_of}
 use Rattle.import_work.specs.Outcome.{counts_of}
-use Rattle.serial_run.specs.Steps.{AreAnswered, AreAnsweredFrom, IsKept, IsNoImport, IsTextTo, Kept, LeadsOn, LeavesBase, kept_report, view_of}
-use Rattle.serial_run.specs.Texts.{report_text}
+use Rattle.serial_run.specs.Steps.{AreAnswered, AreAnsweredFrom, IsKept, IsNoImport, IsTextTo, Kept, LeadsOn, LeavesBase, kept_report, statement_of, view_of}
+use Rattle.serial_run.specs.Texts.{opening_text, report_text}
 use Rattle.import_work.proofs.FileLemmas.{rose_by_none}
 
 -- the last version may be named, and it is seen as it is kept
@@ -102,6 +104,7 @@ floor-joined (Some report) floor last le = omega arith
 -- a text with which the boxes tell something is a text
 pub text-told : (files : List File) (rules : Rules) (s : State) (line : ℕ) (own : Statement) (text : List ℕ) (told : List BoxTally) → IsTextTo files rules s line own text told → IsStatementText files rules s line own text
 text-told files rules s line (statement.Import path) text told of = of.0
+text-told files rules s line (statement.Make games start) text told of = of.0
 text-told files rules s line statement.Wait text told of = (of.0, of.1, of.2)
 text-told files rules s line (statement.Until number) text told of = (of.0, of.1, of.2)
 text-told files rules s line (statement.Search query filter) text told of = (of.0, of.1, of.2)
@@ -117,8 +120,9 @@ text-told files rules s line (statement.Retire name) text told of = (of.0, of.1,
 module _ (rules : Rules) (files : List File) (s : State) (kept : Kept) (boxes told : List BoxTally) (is : IsKept s kept boxes) (line : ℕ) (text : List ℕ) where
   -- ---- the text of a statement
 
-  pub text-import : (path : List ℕ) → text ≡ kept_report kept ++ import_text line path → told ≡ boxes → IsTextTo files rules s line (statement.Import path) text told
-  text-import path of same = (of ∙ ap (λ t. t ++ import_text line path) (waiting_is s kept boxes is), same ∙ sym is.tallies)
+  pub text-import : (from : Source) → text ≡ kept_report kept ++ opening_text line from → told ≡ boxes → IsTextTo files rules s line (statement_of from) text told
+  text-import (source.Under path) of same = (of ∙ ap (λ t. t ++ opening_text line (source.Under path)) (waiting_is s kept boxes is), same ∙ sym is.tallies)
+  text-import (source.Made games start) of same = (of ∙ ap (λ t. t ++ opening_text line (source.Made games start)) (waiting_is s kept boxes is), same ∙ sym is.tallies)
 
   pub text-wait : text ≡ kept_report kept ++ wait_text line kept.version → told ≡ boxes → IsTextTo files rules s line statement.Wait text told
   text-wait of same = (
@@ -155,49 +159,33 @@ module _ (rules : Rules) (files : List File) (s : State) (kept : Kept) (boxes to
   text-answered statement.Report of = ([], s, (of.0 ∙ ap (boxes_text line) (sym is.tallies), refl, refl), is.tallies ∙ sym of.1)
   text-answered (statement.Retire name) of = ([], with_boxes s told, (told, rw is.tallies of, refl, refl), refl)
   text-answered (statement.Import path) of = absurd of
+  text-answered (statement.Make games start) of = absurd of
   text-answered statement.Wait of = absurd of
   text-answered (statement.Until number) of = absurd of
   text-answered (statement.Together searches) of = absurd of
 
 -- ---- where a statement leads
 
--- each statement but an import is no import
-pub no-import : (own : Statement) → ((path : List ℕ) → own ≢ statement.Import path) → IsNoImport own
-no-import (statement.Import path) not = absurd (not path refl)
-no-import statement.Wait not = tt
-no-import (statement.Until number) not = tt
-no-import (statement.Together searches) not = tt
-no-import (statement.Search query filter) not = tt
-no-import (statement.Kept query) not = tt
-no-import (statement.Signature pattern) not = tt
-no-import statement.Players not = tt
-no-import statement.Doubles not = tt
-no-import (statement.Game number) not = tt
-no-import statement.Report not = tt
-no-import (statement.Retire name) not = tt
-
 -- one that is no import and no wait leaves the base
-pub leaves-base_of : (own : Statement) → IsNoImport own → own ≢ statement.Wait → LeavesBase own
-leaves-base_of (statement.Import path) no_import no_wait = absurd no_import
-leaves-base_of statement.Wait no_import no_wait = absurd (no_wait refl)
-leaves-base_of (statement.Until number) no_import no_wait = tt
-leaves-base_of (statement.Together searches) no_import no_wait = tt
-leaves-base_of (statement.Search query filter) no_import no_wait = tt
-leaves-base_of (statement.Kept query) no_import no_wait = tt
-leaves-base_of (statement.Signature pattern) no_import no_wait = tt
-leaves-base_of statement.Players no_import no_wait = tt
-leaves-base_of statement.Doubles no_import no_wait = tt
-leaves-base_of (statement.Game number) no_import no_wait = tt
-leaves-base_of statement.Report no_import no_wait = tt
-leaves-base_of (statement.Retire name) no_import no_wait = tt
-
--- each statement but an import and a wait is such a one
-pub leaves-base : (own : Statement) → ((path : List ℕ) → own ≢ statement.Import path) → own ≢ statement.Wait → LeavesBase own
-leaves-base own no_import no_wait = leaves-base_of own (no-import own no_import) no_wait
+pub leaves-base : (own : Statement) → IsNoImport own → own ≢ statement.Wait → LeavesBase own
+leaves-base (statement.Import path) no_import no_wait = absurd no_import
+leaves-base (statement.Make games start) no_import no_wait = absurd no_import
+leaves-base statement.Wait no_import no_wait = absurd (no_wait refl)
+leaves-base (statement.Until number) no_import no_wait = tt
+leaves-base (statement.Together searches) no_import no_wait = tt
+leaves-base (statement.Search query filter) no_import no_wait = tt
+leaves-base (statement.Kept query) no_import no_wait = tt
+leaves-base (statement.Signature pattern) no_import no_wait = tt
+leaves-base statement.Players no_import no_wait = tt
+leaves-base statement.Doubles no_import no_wait = tt
+leaves-base (statement.Game number) no_import no_wait = tt
+leaves-base statement.Report no_import no_wait = tt
+leaves-base (statement.Retire name) no_import no_wait = tt
 
 -- a statement that is no import leaves the log
 pub log_kept : (rules : Rules) (files : List File) (s next : State) (line : ℕ) (own : Statement) (used : List ImportCourse) (text : List ℕ) → IsNoImport own → IsPassed files rules s line own used text next → next.log ≡ s.log
 log_kept rules files s next line (statement.Import path) used text not of = absurd not
+log_kept rules files s next line (statement.Make games start) used text not of = absurd not
 log_kept rules files s next line statement.Wait used text not of = ap (λ (t : State). t.log) of.2
 log_kept rules files s next line (statement.Until number) used text not of = ap (λ (t : State). t.log) of.4
 log_kept rules files s next line (statement.Together searches) used text not of = ap (λ (t : State). t.log) of.4
@@ -217,6 +205,7 @@ same_begins log now same = ([], append-nil log ∙ sym same)
 -- the log behind a statement begins with the one before it
 pub log_grows : (rules : Rules) (files : List File) (s next : State) (line : ℕ) (own : Statement) (used : List ImportCourse) (text : List ℕ) → IsPassed files rules s line own used text next → IsPrefix s.log next.log
 log_grows rules files s next line (statement.Import path) used text of = (segments_of rules.batch of.1, sym (ap (λ (t : State). t.log) of.5))
+log_grows rules files s next line (statement.Make games start) used text of = (segments_of rules.batch of.1, sym (ap (λ (t : State). t.log) of.5))
 log_grows rules files s next line statement.Wait used text of = same_begins s.log next.log (log_kept rules files s next line statement.Wait used text tt of)
 log_grows rules files s next line (statement.Until number) used text of = same_begins s.log next.log (log_kept rules files s next line (statement.Until number) used text tt of)
 log_grows rules files s next line (statement.Together searches) used text of = same_begins s.log next.log (log_kept rules files s next line (statement.Together searches) used text tt of)
@@ -241,6 +230,7 @@ module _ (rules : Rules) (files : List File) (kept : Kept) (line : ℕ) (text : 
 
   led : (s next : State) (boxes : List BoxTally) (used : List ImportCourse) → IsKept s kept boxes → (own : Statement) → LeavesBase own → IsPassed files rules s line own used text next → IsLed s used next
   led s next boxes used is (statement.Import path) still of = absurd still
+  led s next boxes used is (statement.Make games start) still of = absurd still
   led s next boxes used is statement.Wait still of = absurd still
   led s next boxes used is (statement.Until number) still of = (of.2, named s next of.0 boxes s.boxes is of.1.named.to of.4)
   led s next boxes used is (statement.Together searches) still of = (of.3, named s next of.0 boxes of.1 is (greatest-le rules s searches s.boxes of.1 of.0 text of.2) of.4)
@@ -264,6 +254,7 @@ module _ (rules : Rules) (files : List File) (kept : Kept) (line : ℕ) (text : 
 
   pub leads-still : (own : Statement) → LeavesBase own → LeadsOn files rules kept line own text kept before now
   leads-still (statement.Import path) still = absurd still
+  leads-still (statement.Make games start) still = absurd still
   leads-still statement.Wait still = absurd still
   leads-still (statement.Until number) still = λ boxes told s is of. led_on (statement.Until number) s boxes told still is of.0 of.1 of.2 of.3
   leads-still (statement.Together searches) still = λ boxes told s is of. led_on (statement.Together searches) s boxes told still is of.0 of.1 of.2 of.3
@@ -285,12 +276,24 @@ module _ (rules : Rules) (files : List File) (kept : Kept) (line : ℕ) (text : 
     rose_by_none before now later,
   )
 
+-- ---- a statement that begins an import
+
+module _ (files : List File) (rules : Rules) (s : State) (line : ℕ) where
+  pub opens-passed : (from : Source) (used : List ImportCourse) (text : List ℕ) (next : State) → OpensImport files rules s line from used text next → IsPassed files rules s line (statement_of from) used text next
+  opens-passed (source.Under path) used text next of = of
+  opens-passed (source.Made games start) used text next of = of
+
+  pub opens-text : (from : Source) (text : List ℕ) (told : List BoxTally) → IsTextTo files rules s line (statement_of from) text told → (text ≡ waiting_text s ++ opening_text line from) × (told ≡ s.boxes)
+  opens-text (source.Under path) text told of = of
+  opens-text (source.Made games start) text told of = of
+
 -- an import that found this leads on to what is kept with its games and its report
-pub leads-import : (rules : Rules) (files : List File) (kept : Kept) (line : ℕ) (path text : List ℕ) (before now : ℕ) (entry : ImportCourse) (finding : Finding) (games : List Game) (report : List ℕ) (version : ℕ) →
-    IsImported files path (counts_of (trees_in kept.games)) entry finding → version ≡ kept.version + length (segments_of rules.batch finding) → games ≡ kept.games ++ games_in (segments_of rules.batch finding) → report ≡ report_text line finding version →
+pub leads-import : (rules : Rules) (files : List File) (kept : Kept) (line : ℕ) (from : Source) (text : List ℕ) (before now : ℕ) (entry : ImportCourse) (finding : Finding) (games : List Game) (report : List ℕ) (version : ℕ) →
+    IsImported files from (counts_of (trees_in kept.games)) entry finding → version ≡ kept.version + length (segments_of rules.batch finding) → games ≡ kept.games ++ games_in (segments_of rules.batch finding) → report ≡ report_text line finding version →
     RoseBy (losses_of (entry ∷ [])) before now →
-    LeadsOn files rules kept line (statement.Import path) text (record { version = version; games = games; waiting = Some report }) before now
-leads-import rules files kept line path text before now entry finding games report version found version_is games_are report_is paid = λ boxes told s is of.
+    LeadsOn files rules kept line (statement_of from) text (record { version = version; games = games; waiting = Some report }) before now
+leads-import rules files kept line from text before now entry finding games report version found version_is games_are report_is paid = λ boxes told s is of.
+    let own = opens-text files rules s line from text told of in
     let counted : version ≡ length (s.log ++ segments_of rules.batch finding) = version_is ∙ ap (λ n. n + length (segments_of rules.batch finding)) is.version ∙ sym (length-append s.log (segments_of rules.batch finding)) in (
       entry ∷ [],
       after_import rules s line finding,
@@ -299,8 +302,8 @@ leads-import rules files kept line path text before now entry finding games repo
         games = games_are ∙ ap (λ gs. gs ++ games_in (segments_of rules.batch finding)) is.games ∙ sym (flat_map-append (λ (g : List Game). g) s.log (segments_of rules.batch finding));
         waiting = ap (λ r. Some r) (report_is ∙ ap (λ n. report_text line finding n) counted);
         floor = rw length-append (omega (arith, floor-joined s.waiting s.floor (last_of s) is.floor));
-        tallies = sym of.1;
+        tallies = sym own.1;
       },
-      (entry, finding, refl, subst (λ gs. IsImported files path (counts_of (trees_in gs)) entry finding) is.games found, of.0, refl),
+      opens-passed files rules s line from (entry ∷ []) text (after_import rules s line finding) (entry, finding, refl, subst (λ gs. IsImported files from (counts_of (trees_in gs)) entry finding) is.games found, own.0, refl),
       paid,
     )

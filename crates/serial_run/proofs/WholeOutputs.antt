@@ -13,7 +13,7 @@ use Rattle.query_script.specs.declared.statement.Placed.{Placed}
 use Rattle.query_script.specs.declared.statement.PlacedSearch.{PlacedSearch}
 use Rattle.query_script.specs.declared.statement.Statement.{Statement}
 use Rattle.query_script.specs.declared.statement.Statement.TheVariants as statement
-use Rattle.query_script.specs.Texts.{import_text, until_text, wait_text}
+use Rattle.query_script.specs.Texts.{until_text, wait_text}
 use Rattle.hit_collectors.specs.Tallies.{BoxTally}
 use Rattle.session_core.specs.Answers.{IsAnswer, IsAnswered, boxes_text}
 use Rattle.session_core.proofs.OneAnswer.{answer-found, retired-found, search-found}
@@ -21,9 +21,13 @@ use Rattle.import_work.specs.Course.{Finding, ImportCourse, IsImported, losses_o
 use Rattle.serial_run.specs.Lawful.{AreSearched, HasPrinted, IsBegun, IsLawful, IsNamed, IsNextPrefix, IsPassed, IsStatementText, Rules, State, after_import, at_start, report_printed, last_of, view_at, waiting_text, with_boxes, with_floor}
 use Rattle.import_work.specs.Log.{Segment, games_at, games_in, segments_of}
 use Rattle.import_work.specs.Outcome.{counts_of}
+use Rattle.import_work.specs.declared.source.Source.{Source}
+use Rattle.import_work.specs.declared.source.Source.TheVariants as source
+use Rattle.serial_run.specs.Steps.{statement_of}
+use Rattle.serial_run.specs.Texts.{opening_text}
 use Rattle.import_work.proofs.Losses.{losses_of-append}
 use Rattle.import_work.proofs.ImportsExist.{HasTree, import-found, imported-trees}
-use Rattle.serial_run.proofs.StatementLemmas.{floor-joined, floor-named, greatest-le, last_named, log_grows}
+use Rattle.serial_run.proofs.StatementLemmas.{floor-joined, floor-named, greatest-le, last_named, log_grows, opens-passed}
 
 -- ---- prefixes
 
@@ -51,16 +55,17 @@ module _ (files : List File) (rules : Rules) where
   waited : (s : State) → IsReached s → IsReached (with_floor (report_printed s) (last_of s))
   waited s h = record { floor = max-le (floor-joined s.waiting s.floor (last_of s) h.floor) (omega arith); trees = h.trees }
 
-  imported : (s : State) (line : ℕ) (path : List ℕ) (entry : ImportCourse) (finding : Finding) → IsReached s → IsImported files path (counts_of (trees_in (games_in s.log))) entry finding → IsReached (after_import rules s line finding)
-  imported s line path entry finding h is = record {
+  imported : (s : State) (line : ℕ) (from : Source) (entry : ImportCourse) (finding : Finding) → IsReached s → IsImported files from (counts_of (trees_in (games_in s.log))) entry finding → IsReached (after_import rules s line finding)
+  imported s line from entry finding h is = record {
     floor = rw length-append (omega (arith, floor-joined s.waiting s.floor (last_of s) h.floor));
     trees = subst (All HasTree) (sym (flat_map-append (λ (g : Segment). g) s.log (segments_of rules.batch finding)))
         (All-append HasTree (games_in s.log) (games_in (segments_of rules.batch finding)) h.trees
-        (imported-trees files path (counts_of (trees_in (games_in s.log))) entry rules.batch finding is));
+        (imported-trees files from (counts_of (trees_in (games_in s.log))) entry rules.batch finding is));
   }
 
   pub passed-on : (s next : State) (line : ℕ) (own : Statement) (used : List ImportCourse) (text : List ℕ) → IsReached s → IsPassed files rules s line own used text next → IsReached next
-  passed-on s next line (statement.Import path) used text h is = rw is.5 (imported s line path is.0 is.1 h is.3)
+  passed-on s next line (statement.Import path) used text h is = rw is.5 (imported s line (source.Under path) is.0 is.1 h is.3)
+  passed-on s next line (statement.Make games start) used text h is = rw is.5 (imported s line (source.Made games start) is.0 is.1 h is.3)
   passed-on s next line statement.Wait used text h is = rw is.2 (waited s h)
   passed-on s next line (statement.Until number) used text h is = rw is.4 (named s is.0 s.boxes h is.1.named.to)
   passed-on s next line (statement.Together searches) used text h is = rw is.4 (named s is.0 is.1 h (greatest-le rules s searches s.boxes is.1 is.0 text is.2))
@@ -91,10 +96,11 @@ module _ (files : List File) (rules : Rules) where
       let rest = searches-found s h ps first.1 in
       (max (last_of s) rest.0, first.0 ++ rest.1, rest.2, (last_of s, first.0, first.1, rest.0, rest.1, last_named rules s h.floor, first.2, rest.3, refl, refl))
 
-  import-passes : (s : State) (line : ℕ) (path : List ℕ) (text : List ℕ) → text ≡ waiting_text s ++ import_text line path → Passes s line (statement.Import path) text
-  import-passes s line path text of =
-      let found = import-found files path (counts_of (trees_in (games_in s.log))) in
-      (nothing_lost ∷ [], after_import rules s line found.0, (nothing_lost, found.0, refl, found.1, of, refl), refl)
+  import-passes : (s : State) (line : ℕ) (from : Source) (text : List ℕ) → text ≡ waiting_text s ++ opening_text line from → Passes s line (statement_of from) text
+  import-passes s line from text of =
+      let found = import-found files from (counts_of (trees_in (games_in s.log))) in
+      let next = after_import rules s line found.0 in
+      (nothing_lost ∷ [], next, opens-passed files rules s line from (nothing_lost ∷ []) text next (nothing_lost, found.0, refl, found.1, of, refl), refl)
 
   -- a statement that is answered from the games of a version passes by the last one
   answered-passes : (s : State) (line : ℕ) (own : Statement) → IsReached s → IsAnswered own →
@@ -105,7 +111,9 @@ module _ (files : List File) (rules : Rules) where
 
   pub statement-passes : (s : State) (line : ℕ) (own : Statement) → IsReached s → (text : List ℕ) × Passes s line own text
   statement-passes s line (statement.Import path) h =
-      (waiting_text s ++ import_text line path, import-passes s line path (waiting_text s ++ import_text line path) refl)
+      (waiting_text s ++ opening_text line (source.Under path), import-passes s line (source.Under path) (waiting_text s ++ opening_text line (source.Under path)) refl)
+  statement-passes s line (statement.Make games start) h =
+      (waiting_text s ++ opening_text line (source.Made games start), import-passes s line (source.Made games start) (waiting_text s ++ opening_text line (source.Made games start)) refl)
   statement-passes s line statement.Wait h =
       (waiting_text s ++ wait_text line (last_of s), ([], with_floor (report_printed s) (last_of s), (refl, refl, refl), refl))
   statement-passes s line (statement.Until number) h =
@@ -124,7 +132,8 @@ module _ (files : List File) (rules : Rules) where
 
   -- a statement whose text is begun passes with that text
   text-passes : (s : State) (line : ℕ) (own : Statement) (text : List ℕ) → IsStatementText files rules s line own text → Passes s line own text
-  text-passes s line (statement.Import path) text of = import-passes s line path text of
+  text-passes s line (statement.Import path) text of = import-passes s line (source.Under path) text of
+  text-passes s line (statement.Make games start) text of = import-passes s line (source.Made games start) text of
   text-passes s line statement.Wait text (used, next, is) = (used, next, is, rw is.0 refl)
   text-passes s line (statement.Until number) text (used, next, is) = (used, next, is, rw is.2 refl)
   text-passes s line (statement.Together searches) text (used, next, is) = (used, next, is, rw is.3 refl)

@@ -8,13 +8,15 @@ use Rattle.query_script.specs.declared.statement.Placed.{Placed}
 use Rattle.query_script.specs.declared.statement.PlacedSearch.{PlacedSearch}
 use Rattle.query_script.specs.declared.statement.Statement.{Statement}
 use Rattle.query_script.specs.declared.statement.Statement.TheVariants as statement
-use Rattle.query_script.specs.Texts.{import_text, until_text, wait_text}
+use Rattle.query_script.specs.Texts.{until_text, wait_text}
 use Rattle.hit_collectors.specs.Tallies.{BoxTally}
 use Rattle.session_core.specs.Answers.{IsAnswer, IsRetiredBy, IsSearched, View, boxes_text}
 use Rattle.import_work.specs.Course.{Finding, ImportCourse, IsImported, trees_in}
 use Rattle.import_work.specs.Log.{Segment, games_at, games_in, segments_of}
 use Rattle.import_work.specs.Outcome.{counts_of}
-use Rattle.serial_run.specs.Texts.{report_text}
+use Rattle.import_work.specs.declared.source.Source.{Source}
+use Rattle.import_work.specs.declared.source.Source.TheVariants as source
+use Rattle.serial_run.specs.Texts.{opening_text, report_text}
 
 -- How a run names versions: how many files make one, and whether each statement is done before the
 -- next begins.
@@ -110,16 +112,26 @@ AreSearched rules s (p ∷ ps) boxes greatest text after =
     × AreSearched rules s ps between behind rest after
     × (greatest ≡ max n behind) × (text ≡ first ++ rest)
 
+-- A statement that begins an import from this source prints this text and leads to the next state, by
+-- an entry of the course. It prints a report that waits first.
+abbrev pub OpensImport : List File → Rules → State → ℕ → Source → List ImportCourse → List ℕ →
+    State → Type 0
+OpensImport files rules s line source used text next =
+    (entry : ImportCourse) × (finding : Finding) × (used ≡ entry ∷ [])
+    × IsImported files source (counts_of (trees_in (games_in s.log))) entry finding
+    × (text ≡ waiting_text s ++ opening_text line source)
+    × (next ≡ after_import rules s line finding)
+
 -- A statement at a line prints this text and leads to the next state, by these entries of the
--- course. An import and a wait print a report that waits first. A statement that is answered from
--- the games of a version names it in its text. Searches and retirements alone change what the boxes
--- tell.
+-- course. An import, also of made games, and a wait print a report that waits first. A statement
+-- that is answered from the games of a version names it in its text. Searches and retirements alone
+-- change what the boxes tell.
 abbrev pub IsPassed : List File → Rules → State → ℕ → Statement → List ImportCourse → List ℕ →
     State → Type 0
 IsPassed files rules s line (statement.Import path) used text next =
-    (entry : ImportCourse) × (finding : Finding) × (used ≡ entry ∷ [])
-    × IsImported files path (counts_of (trees_in (games_in s.log))) entry finding
-    × (text ≡ waiting_text s ++ import_text line path) × (next ≡ after_import rules s line finding)
+    OpensImport files rules s line (source.Under path) used text next
+IsPassed files rules s line (statement.Make games start) used text next =
+    OpensImport files rules s line (source.Made games start) used text next
 IsPassed files rules s line statement.Wait used text next =
     (used ≡ []) × (text ≡ waiting_text s ++ wait_text line (last_of s))
     × (next ≡ with_floor (report_printed s) (last_of s))
@@ -161,7 +173,9 @@ IsLawful files rules boxes course placed out =
 -- the text of a statement; that of an import is known before the folder is asked
 abbrev pub IsStatementText : List File → Rules → State → ℕ → Statement → List ℕ → Type 0
 IsStatementText files rules s line (statement.Import path) text =
-    text ≡ waiting_text s ++ import_text line path
+    text ≡ waiting_text s ++ opening_text line (source.Under path)
+IsStatementText files rules s line (statement.Make games start) text =
+    text ≡ waiting_text s ++ opening_text line (source.Made games start)
 IsStatementText files rules s line other text =
     (used : List ImportCourse) × (next : State) × IsPassed files rules s line other used text next
 

@@ -8,14 +8,16 @@ use Rattle.query_script.specs.declared.statement.Placed.{Placed}
 use Rattle.query_script.specs.declared.statement.PlacedSearch.{PlacedSearch}
 use Rattle.query_script.specs.declared.statement.Statement.{Statement}
 use Rattle.query_script.specs.declared.statement.Statement.TheVariants as statement
-use Rattle.query_script.specs.Texts.{import_text}
 use Rattle.hit_collectors.specs.Tallies.{BoxTally}
 use Rattle.session_core.specs.Answers.{IsSearched, View}
 use Rattle.node_position.specs.Games.{Game}
 use Rattle.version_publisher.specs.Contents.{items_in}
 use Rattle.version_publisher.specs.declared.state.VersionState.{VersionState}
 use Rattle.import_work.specs.Course.{ImportCourse, losses_of}
+use Rattle.import_work.specs.declared.source.Source.{Source}
+use Rattle.import_work.specs.declared.source.Source.TheVariants as source
 use Rattle.serial_run.specs.Lawful.{HasPrinted, IsPassed, Rules, State, last_of, waiting_text}
+use Rattle.serial_run.specs.Texts.{opening_text}
 use Rattle.import_work.specs.Log.{games_in}
 
 -- what the code keeps of a state: the number and the games of the last version, and the report that
@@ -70,21 +72,25 @@ AreAnswered view searches boxes text after =
 abbrev pub kept_report : Kept → List ℕ
 kept_report kept = option_map_or (λ report. report) kept.waiting []
 
--- the statement is no import
+-- the statement is no import, also of made games
 abbrev pub IsNoImport : Statement → Type 0
 IsNoImport (statement.Import path) = ⊥
+IsNoImport (statement.Make games start) = ⊥
 IsNoImport other = Unit {0}
 
 -- the statement changes neither the base nor the report that waits
 abbrev pub LeavesBase : Statement → Type 0
 LeavesBase (statement.Import path) = ⊥
+LeavesBase (statement.Make games start) = ⊥
 LeavesBase statement.Wait = ⊥
 LeavesBase other = Unit {0}
 
 -- the text is that of the statement, and the boxes tell this behind it
 abbrev pub IsTextTo : List File → Rules → State → ℕ → Statement → List ℕ → List BoxTally → Type 0
 IsTextTo files rules s line (statement.Import path) text after =
-    (text ≡ waiting_text s ++ import_text line path) × (after ≡ s.boxes)
+    (text ≡ waiting_text s ++ opening_text line (source.Under path)) × (after ≡ s.boxes)
+IsTextTo files rules s line (statement.Make games start) text after =
+    (text ≡ waiting_text s ++ opening_text line (source.Made games start)) × (after ≡ s.boxes)
 IsTextTo files rules s line other text after =
     (used : List ImportCourse) × (next : State)
     × IsPassed files rules s line other used text next × (next.boxes ≡ after)
@@ -116,9 +122,14 @@ pub record PassesStatement (files : List File) (rules : Rules) (kept : Kept)
   pub written_is : written ≡ Some (before ++ text)
   pub leads : LeadsOn files rules kept p.line p.statement text after faults_before faults_now
 
--- an import of this path at this line
-abbrev pub import_at : ℕ → List ℕ → Placed
-import_at line path = record { line = line; statement = statement.Import path }
+-- the statement that begins an import from this source
+abbrev pub statement_of : Source → Statement
+statement_of (source.Under path) = statement.Import path
+statement_of (source.Made games start) = statement.Make games start
+
+-- it stands at this line
+abbrev pub import_at : ℕ → Source → Placed
+import_at line source = record { line = line; statement = statement_of source }
 
 -- a statement that is no import was passed, under whatever rules: its text is written, it leads on,
 -- and the boxes tell this behind it

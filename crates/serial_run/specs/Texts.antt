@@ -1,13 +1,22 @@
--- The printed report of an import. Numbers are decimal, and each line ends with a line feed.
+-- The printed text of a statement that begins an import, and the printed report of the import. Numbers
+-- are decimal, and each line ends with a line feed.
 use Rattle.std.specs.Prelude.{ℕ, Bool, true, false, List, [], ◌∷◌, ◌++◌, length, codes, count_by}
 use Rattle.std.specs.Fmt.{decimal}
 use Rattle.std.specs.List.{flat_map}
 use Rattle.sgf_reader.specs.declared.fault.FaultKind.{FaultKind}
 use Rattle.sgf_reader.specs.declared.fault.FaultKind.TheVariants as kind
-use Rattle.query_script.specs.Texts.{line_text}
-use Rattle.import_work.specs.Course.{FileReport, Files, Finding, TooMany, Unlisted, games_of_files, reports_of}
+use Rattle.query_script.specs.Texts.{import_text, line_text, make_text}
+use Rattle.import_work.specs.Batches.{full_told}
+use Rattle.import_work.specs.Course.{FileReport, Files, Finding, Made, TooMany, Unlisted, games_of_files, reports_of}
 use Rattle.import_work.specs.declared.outcome.FileOutcome.{FileOutcome}
 use Rattle.import_work.specs.declared.outcome.FileOutcome.TheVariants as file
+use Rattle.import_work.specs.declared.source.Source.{Source}
+use Rattle.import_work.specs.declared.source.Source.TheVariants as source
+
+-- the text of a statement that begins an import from this source
+abbrev pub opening_text : ℕ → Source → List ℕ
+opening_text line (source.Under path) = import_text line path
+opening_text line (source.Made games start) = make_text line games start
 
 -- the word of a fault's kind
 abbrev pub kind_word : FaultKind → List ℕ
@@ -116,9 +125,16 @@ abbrev pub too_many_text : ℕ → ℕ → List ℕ
 too_many_text line names = line_text (decimal line ∷ codes " imported too many files "
     ∷ decimal names ∷ [])
 
+-- `LINE made games M full F version V`
+abbrev pub made_text : ℕ → ℕ → ℕ → ℕ → List ℕ
+made_text line games full version = line_text (decimal line ∷ codes " made games " ∷ decimal games
+    ∷ codes " full " ∷ decimal full ∷ codes " version " ∷ decimal version ∷ [])
+
 -- the report of an import: what was found, and the version after it
 abbrev pub report_text : ℕ → Finding → ℕ → List ℕ
 report_text line Unlisted version = unlisted_text line
 report_text line (TooMany names) version = too_many_text line names
 report_text line (Files files) version =
     listed_text line (reports_of files) (length (games_of_files files)) version
+report_text line (Made files) version =
+    made_text line (length (games_of_files files)) (full_told (reports_of files)) version

@@ -12,6 +12,7 @@
 mod block;
 mod counts;
 mod laws;
+mod opening;
 mod print;
 mod read;
 mod script;
@@ -27,6 +28,7 @@ pub use laws::{
     a_begun_text_is_a_prefix_of_a_lawful_output, a_serial_run_without_a_loss_has_one_output,
     each_script_has_a_lawful_output,
 };
+pub use opening::source_of;
 pub use script::{NoStatements, read_statements};
 pub use serial::run_serial;
 pub use standing::Standing;

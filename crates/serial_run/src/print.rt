@@ -2,7 +2,7 @@
 ghost use Rattle.std.specs.Prelude.{◌≡◌, ◌≤◌, ◌++◌, OnOk, count_by, length};
 ghost use Rattle.std.specs.List.{flat_map};
 ghost use Rattle.import_work.specs.Batches.{games_added, games_told, line_report, line_reports};
-ghost use Rattle.import_work.specs.Imports.{lines_in};
+ghost use Rattle.import_work.specs.Imports.{games_reported};
 ghost use Rattle.serial_run.specs.Reports.{told_text};
 ghost use Rattle.serial_run.specs.Texts.{
   counts_head,
@@ -16,6 +16,7 @@ ghost use Rattle.serial_run.specs.Texts.{
   is_unread,
   kind_word,
   listed_text,
+  made_text,
   refused_text,
   too_many_text,
   unlisted_text,
@@ -285,9 +286,31 @@ fn print_too_many(out: &mut Vec<u8>, line: u32, names: u64) -> Result<(), NoMemo
     Ok(())
 }
 
+// Prints the report of made games: how many were added, for how many there was no room, and the
+// version after them.
+fn print_made(
+    out: &mut Vec<u8>,
+    line: u32,
+    games: u32,
+    full: u32,
+    version: u64,
+) -> Result<(), NoMemory>
+    ensures { OnOk result (out.new.items
+        ≡ out.old.items ++ made_text line games full version) }
+{
+    append_decimal(out, u64::from(line))?;
+    append(out, b" made games ")?;
+    append_decimal(out, u64::from(games))?;
+    append(out, b" full ")?;
+    append_decimal(out, u64::from(full))?;
+    append(out, b" version ")?;
+    append_decimal_and(out, version, b'\n')?;
+    Ok(())
+}
+
 // Prints the report of an import: what it tells of its files, and the version after it.
 pub(crate) fn print_report(out: &mut Vec<u8>, report: &Report) -> Result<(), NoMemory>
-    requires { games_told (line_reports (lines_in report.now.body)) ≤ 400000 }
+    requires { games_reported report.now.body ≤ 400000 }
     ensures { OnOk result (out.new.items ≡ out.old.items
         ++ told_text report.now.line report.now.body report.now.version) }
 {
@@ -299,6 +322,9 @@ pub(crate) fn print_report(out: &mut Vec<u8>, report: &Report) -> Result<(), NoM
         }
         ReportBody::Unlisted => print_unlisted(out, line)?,
         ReportBody::TooMany { listed } => print_too_many(out, line, *listed)?,
+        ReportBody::Made { games, full } => {
+            print_made(out, line, *games, *full, report.version)?;
+        }
     }
     Ok(())
 }

@@ -2,14 +2,15 @@
 ghost use Rattle.std.specs.Prelude.{◌≡◌, ◌≤◌, ◌+◌, ◌++◌, List, Some, ℕ, IfOk};
 
 use crate::counts::counts_in;
+use crate::opening::{print_opening, source_of};
 use crate::print::print_report;
 use crate::statement_text::version_text;
 use hit_collectors::Collector;
 use import_segments::take_segments;
-use import_work::{Counts, Import, Report};
+use import_work::{Counts, Import, Report, Source};
 use kb_edges::Folder;
 use kb_geometry::NoMemory;
-use query_script::{Placed, Statement, print_import, print_wait};
+use query_script::{Placed, Statement, print_wait};
 use segment_store::Segment;
 use session_core::Session;
 use std::alloc::Global;
@@ -47,13 +48,12 @@ impl Model for Standing {
 impl Standing {
     ghost use Rattle.kb_edges.specs.Files.{File};
     ghost use Rattle.kb_edges.specs.Told.{IfTold};
-    ghost use Rattle.import_work.specs.Batches.{games_told, line_reports};
     ghost use Rattle.import_work.specs.Course.{trees_in};
-    ghost use Rattle.import_work.specs.Imports.{lines_in};
+    ghost use Rattle.import_work.specs.Imports.{games_reported};
     ghost use Rattle.import_work.specs.Outcome.{counts_of};
     ghost use Rattle.import_work.specs.Rooms.{AreWithinLimits};
     ghost use Rattle.version_publisher.specs.Contents.{items_in};
-    ghost use Rattle.query_script.specs.Texts.{import_text, wait_text};
+    ghost use Rattle.query_script.specs.Texts.{wait_text};
     ghost use Rattle.serial_run.specs.Lawful.{Rules};
     ghost use Rattle.serial_run.specs.Reports.{told_text};
     ghost use Rattle.serial_run.specs.Run.{serial_rules};
@@ -64,7 +64,9 @@ impl Standing {
       kept_at,
       kept_report,
       nothing_kept,
+      statement_of,
     };
+    ghost use Rattle.serial_run.specs.Texts.{opening_text};
 
     /// The empty base.
     pub fn new(alloc: Global) -> Self
@@ -95,7 +97,7 @@ impl Standing {
         report: &Report,
     ) -> Result<Standing, NoMemory>
         requires limits { AreWithinLimits (counts_of (trees_in (items_in version.parts))) }
-        requires few { games_told (line_reports (lines_in report.now.body)) ≤ 400000 }
+        requires few { games_reported report.now.body ≤ 400000 }
         ensures { IfOk result (λ standing. standing ≡ kept_at version
             (Some (told_text report.now.line report.now.body report.now.version))) }
     {
@@ -137,21 +139,28 @@ impl Standing {
             session.new) }
     {
         let line = placed.line;
+        if let Some(source) = source_of(alloc, &placed.statement)? {
+            return self.import_text(alloc, line, &source);
+        }
         match &placed.statement {
-            Statement::Import { path } => self.import_text(alloc, line, path.as_str()),
             Statement::Wait => self.wait_text(alloc, line),
             _ => version_text(rt, alloc, session, placed, &self.version),
         }
     }
 
-    /// The text of an import at a line. An import waits for the one before it, so that one's report is
-    /// printed first.
-    pub fn import_text(&self, alloc: Global, line: u32, path: &str) -> Result<Vec<u8>, NoMemory>
+    /// The text of a statement that begins an import at a line. It waits for the import before it, so
+    /// that one's report is printed first.
+    pub fn import_text(
+        &self,
+        alloc: Global,
+        line: u32,
+        source: &Source,
+    ) -> Result<Vec<u8>, NoMemory>
         ensures { IfOk result (λ text.
-            text.items ≡ kept_report self.now ++ import_text line path.now) }
+            text.items ≡ kept_report self.now ++ opening_text line source.now) }
     {
         let mut text = self.report().to_vec(alloc)?;
-        print_import(line, path, &mut text)?;
+        print_opening(line, source, &mut text)?;
         Ok(text)
     }
 
@@ -196,15 +205,13 @@ impl Standing {
         ensures passed { IfTold (F.files folder.old) (λ files. IfOk result (λ next. (text : List ℕ) →
             LeadsOn files (serial_rules batch) self placed.now.line placed.now.statement text next
             (F.faults folder.old) (F.faults folder.new))) }
-        ensures version { IfOk result (λ next. next.version ≤ self.version + 100000) }
+        ensures version { IfOk result (λ next. next.version ≤ self.version + 4294967295) }
         ensures same { F.files folder.new ≡ F.files folder.old }
         ensures later { F.faults folder.old ≤ F.faults folder.new }
     {
-        match &placed.statement {
-            Statement::Import { path } => {
-                self.pass_import(rt, alloc, folder, batch, placed.line, path.as_str())
-            }
-            other => Ok(self.leave(other)),
+        match source_of(alloc, &placed.statement)? {
+            Some(source) => self.pass_import(rt, alloc, folder, batch, placed.line, &source),
+            None => Ok(self.leave(&placed.statement)),
         }
     }
 
@@ -216,20 +223,20 @@ impl Standing {
         folder: &mut F,
         batch: u32,
         line: u32,
-        path: &str,
+        source: &Source,
     ) -> Result<Standing, NoMemory>
         requires some { 1 ≤ batch }
         requires number { self.version ≤ 9000000000000000000 }
         ensures passed { IfTold (F.files folder.old) (λ files. IfOk result (λ next. (text : List ℕ) →
-            LeadsOn files (serial_rules batch) self line (Statement.Import path.now) text next
+            LeadsOn files (serial_rules batch) self line (statement_of source.now) text next
             (F.faults folder.old) (F.faults folder.new))) }
-        ensures version { IfOk result (λ next. next.version ≤ self.version + 100000) }
+        ensures version { IfOk result (λ next. next.version ≤ self.version + 4294967295) }
         ensures same { F.files folder.new ≡ F.files folder.old }
         ensures later { F.faults folder.old ≤ F.faults folder.new }
     {
         let mut version = self.version;
         let number = version.number();
-        let mut import = Import::open(alloc, folder, path, line, self.counts, number)?;
+        let mut import = Import::open_from(alloc, folder, source, line, self.counts, number)?;
         take_segments(rt, alloc, folder, batch, &mut import, &mut version)?;
         let counts = import.counts();
         let report = import.finish();

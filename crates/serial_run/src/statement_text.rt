@@ -38,7 +38,7 @@ pub fn version_text<R: Threads + Sync, C: Collector>(
             block_at(rt, alloc, session, searches.as_slice(), version)
         }
         // The condition excludes these.
-        Statement::Import { .. } | Statement::Wait => unreachable!(),
+        Statement::Import { .. } | Statement::Make { .. } | Statement::Wait => unreachable!(),
         answered => answer_text(rt, alloc, session, line, answered, version),
     }
 }

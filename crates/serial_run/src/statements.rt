@@ -114,7 +114,7 @@ fn run_statement<R: Threads + Sync, F: Folder, K: Sink, C: Collector>(
         placed.now before (K.written out.new))) }
     ensures sink_fault { IsErrOf result Stopped.SinkFault →
         Rose (K.faults out.old) (K.faults out.new) }
-    ensures version { IfOk result (λ next. next.version ≤ standing.version + 100000) }
+    ensures version { IfOk result (λ next. next.version ≤ standing.version + 4294967295) }
     ensures same { F.files folder.new ≡ F.files folder.old }
     ensures later { F.faults folder.old ≤ F.faults folder.new }
     ensures sink_later { K.faults out.old ≤ K.faults out.new }

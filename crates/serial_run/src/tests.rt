@@ -10,6 +10,7 @@ use std::thread::Threads;
 
 mod collectors;
 mod imports;
+mod made;
 mod many_names;
 mod occurrences;
 mod positions;

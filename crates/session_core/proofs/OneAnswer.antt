@@ -124,6 +124,7 @@ module _ (line : ℕ) (view : View) (trees : All (λ (g : Game). IsTree g.tree) 
   answer-found boxes statement.Report answered = (boxes_text line boxes, boxes, (refl, refl))
   answer-found boxes (statement.Retire name) answered = retired-found line name boxes
   answer-found boxes (statement.Import path) answered = absurd answered
+  answer-found boxes (statement.Make games start) answered = absurd answered
   answer-found boxes statement.Wait answered = absurd answered
   answer-found boxes (statement.Until number) answered = absurd answered
   answer-found boxes (statement.Together searches) answered = absurd answered
@@ -138,6 +139,7 @@ module _ (line : ℕ) (view : View) (trees : All (λ (g : Game). IsTree g.tree) 
   answer-unique boxes statement.Report a b after other one too = one-same a b boxes after other (one.0 ∙ sym too.0) one.1 too.1
   answer-unique boxes (statement.Retire name) a b after other one too = retired-one line name boxes a b after other one too
   answer-unique boxes (statement.Import path) a b after other one too = absurd one
+  answer-unique boxes (statement.Make games start) a b after other one too = absurd one
   answer-unique boxes statement.Wait a b after other one too = absurd one
   answer-unique boxes (statement.Until number) a b after other one too = absurd one
   answer-unique boxes (statement.Together searches) a b after other one too = absurd one

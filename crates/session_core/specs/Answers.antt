@@ -119,6 +119,7 @@ IsAnswer line view boxes statement.Report text after =
 IsAnswer line view boxes (statement.Retire name) text after =
     IsRetiredBy line name boxes text after
 IsAnswer line view boxes (statement.Import path) text after = ⊥
+IsAnswer line view boxes (statement.Make games start) text after = ⊥
 IsAnswer line view boxes statement.Wait text after = ⊥
 IsAnswer line view boxes (statement.Until number) text after = ⊥
 IsAnswer line view boxes (statement.Together searches) text after = ⊥
@@ -134,6 +135,7 @@ IsAnswered (statement.Game number) = Unit {0}
 IsAnswered statement.Report = Unit {0}
 IsAnswered (statement.Retire name) = Unit {0}
 IsAnswered (statement.Import path) = ⊥
+IsAnswered (statement.Make games start) = ⊥
 IsAnswered statement.Wait = ⊥
 IsAnswered (statement.Until number) = ⊥
 IsAnswered (statement.Together searches) = ⊥

@@ -111,6 +111,7 @@ impl<C: Collector> Session<C> {
             Statement::Report => append_report(line, &self.boards, out),
             Statement::Retire { name } => retire_box(line, name.as_str(), &mut self.boards, out),
             Statement::Import { .. }
+            | Statement::Make { .. }
             | Statement::Wait
             | Statement::Until { .. }
             // The condition `answered` excludes these.

@@ -2,7 +2,7 @@
 ghost use Rattle.std.specs.Prelude.{◌≡◌, ◌≤◌, [], IfOk};
 
 use super::{File, GAME, folder, numbered_files, show};
-use crate::{Counts, Import, Report, ReportBody};
+use crate::{Counts, Import, Report, ReportBody, Source};
 use kb_edges::{Folder, MemoryFolder};
 use std::alloc::Global;
 use std::test::Fail;
@@ -23,6 +23,10 @@ fn told(alloc: Global, report: &Report) -> Result<String, Fail> {
         ReportBody::Unlisted => shown.push_str("unlisted")?,
         ReportBody::TooMany { listed } => {
             let text = format!(in alloc; "too many: {listed}")?;
+            shown.push_str(text.as_str())?;
+        }
+        ReportBody::Made { games, full } => {
+            let text = format!(in alloc; "made: {games}, full: {full}")?;
             shown.push_str(text.as_str())?;
         }
     }
@@ -133,5 +137,61 @@ fn an_import_of_too_many_names_reads_none(rt: HostRuntime) -> Result<(), Fail> {
     assert!(rt; told(alloc, &report)?.as_str() == "too many: 100001");
     // The list was call 0, and call 1, which fails, comes only now.
     assert!(rt; folder.read(alloc, "d", "100000.sgf", 9).is_err());
+    Ok(())
+}
+
+// Each made game has 201 nodes, and a base at most 400,000 games and 67,108,864 nodes.
+#[test]
+fn made_games_fill_a_base(rt: HostRuntime) -> Result<(), Fail> {
+    let alloc = rt.alloc();
+    // The games and nodes before, how many games are made, how many of them make a segment; how many
+    // games each segment has, the report and its version, and the games and nodes after.
+    let table = [
+        ((0, 0), 4, 64, "4 ", "made: 4, full: 0", 11, (4, 804)),
+        (
+            (399_999, 0),
+            3,
+            2,
+            "1 0 ",
+            "made: 1, full: 2",
+            12,
+            (400_000, 201),
+        ),
+        (
+            (0, 67_108_462),
+            5,
+            4,
+            "2 0 ",
+            "made: 2, full: 3",
+            12,
+            (2, 67_108_864),
+        ),
+        (
+            (400_000, 7),
+            1,
+            64,
+            "0 ",
+            "made: 0, full: 1",
+            11,
+            (400_000, 7),
+        ),
+    ];
+    // The list of the folder, which is call 0, fails, but it isn't asked.
+    let mut folder = folder(alloc, &[], &[0])?;
+    for (before, games, batch, segments, report, version, after) in table {
+        let before = Counts {
+            games: before.0,
+            nodes: before.1,
+        };
+        let source = Source::Made { games, start: 1 };
+        let mut import = Import::open_from(alloc, &mut folder, &source, 2, before, 10)?;
+        let given = games_of_segments(&rt, alloc, &mut folder, batch.max(1), &mut import)?;
+        assert!(rt; given.as_str() == segments);
+        let counts = import.counts();
+        assert!(rt; counts.games == after.0 && counts.nodes == after.1);
+        let end = import.finish();
+        assert!(rt; end.version == version);
+        assert!(rt; told(alloc, &end)?.as_str() == report);
+    }
     Ok(())
 }

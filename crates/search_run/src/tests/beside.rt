@@ -57,7 +57,7 @@ pub(super) fn run_boards<R: Threads + Wait + Abort + Clone + Drop + Send + Sync 
 }
 
 // A run without boxes.
-fn run_base<R: Threads + Wait + Abort + Clone + Drop + Send + Sync + 'static>(
+pub(super) fn run_base<R: Threads + Wait + Abort + Clone + Drop + Send + Sync + 'static>(
     rt: &R,
     alloc: Global,
     words: &str,

@@ -3,9 +3,9 @@ use Rattle.std.proofs.lemmas.Grind.{common_steps}
 use Rattle.std.proofs.lemmas.Iterator.Adapters.{YieldsList-from_vec}
 use Rattle.std.proofs.lemmas.Iterator.Consumers.{YieldsList-end}
 use Rattle.std.proofs.lemmas.List.{map-id, map_push}
+use Rattle.std.proofs.lemmas.Result.{IfOk-weaker}
 use Rattle.import_work.specs.Pieces.{group_texts}
 use Rattle.import_work.specs.Reads.{file_text, file_texts}
-use Rattle.import_work.proofs.FoundPieces.{texts-pushed}
 use Rattle.import_work.proofs.pieces.grouped.Goals as goal
 
 pub loop-file-init : goal.loop-file-init
@@ -31,4 +31,4 @@ loop-file-preserved c =
 pub returns-clause-files : goal.returns-clause-files
 returns-clause-files c =
     let all : c.loop-file.yielded ≡ c.args.files.items = sym (map-id c.loop-file.yielded) ∙ (YieldsList-end (YieldsList-from_vec {s = c.into_iter-file-iterator.result} c.args.files.items (first_of (search rules, grind (arith, common_steps))) (first_of (search rules, grind (arith, common_steps)))) c.loop-file.yielded c.loop-file.file-iterator c.loop-file.yielded_by c.next.result c.next.new.self c.in-None.is c.next.ensures.steps).0 in
-    texts-pushed c.loop-file.groups.items _ c.loop-file.group c.in_ok-push-2.ensures.items ∙ c.loop-file.invariant.files ∙ ap file_texts all
+    IfOk-weaker c.with_last.result _ _ (λ groups is. is ∙ c.loop-file.invariant.files ∙ ap file_texts all) c.with_last.ensures.files

@@ -4,7 +4,7 @@ use Rattle.std.proofs.lemmas.Iterator.Adapters.{YieldsList-from_vec}
 use Rattle.std.proofs.lemmas.Iterator.Consumers.{YieldsList-end}
 use Rattle.std.proofs.lemmas.List.{map-id}
 use Rattle.import_work.specs.Pieces.{AreJoined}
-use Rattle.import_work.proofs.FoundPieces.{AreJoined-more, AreJoined-none}
+use Rattle.import_work.proofs.Joined.{AreJoined-more, AreJoined-none}
 use Rattle.import_work.proofs.pieces.joined.Goals as goal
 
 pub loop-piece-init : goal.loop-piece-init

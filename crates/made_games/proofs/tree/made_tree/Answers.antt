@@ -3,7 +3,8 @@ use Rattle.std.proofs.lemmas.Result.{IfOk-weaker}
 use Rattle.game_tree.specs.declared.node.Move.{Move}
 use Rattle.game_tree.specs.Tree.{Tree, node_count}
 use Rattle.made_games.specs.Made.{first_number, made_moves, made_tree}
-use Rattle.made_games.proofs.MadeMoves.{LiesOn, made-nodes, moves-length, moves-on_board, shape-is, tree-is}
+use Rattle.game_tree.proofs.Lines.{LiesOn}
+use Rattle.made_games.proofs.MadeMoves.{made-nodes, moves-length, moves-on_board, shape-is, tree-is}
 use Rattle.made_games.proofs.tree.made_tree.Goals as goal
 
 pub tree_of_moves-requires-clause-few : goal.tree_of_moves-requires-clause-few

@@ -1,4 +1,4 @@
-use Rattle.std.proofs.Common.{◌≡◌, ◌∙◌, false, map, string_bytes, refl, sym, ap, subst, true≢false}
+use Rattle.std.proofs.Common.{◌∙◌, map, string_bytes, sym, ap, subst, true≢false}
 use Rattle.std.specs.Prelude.{codes}
 use Rattle.std.specs.Str.{bytes_eq}
 use Rattle.std.proofs.lemmas.Result.{IfOk-weaker}

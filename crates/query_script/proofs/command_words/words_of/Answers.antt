@@ -1,5 +1,5 @@
-use Rattle.std.proofs.Common.{◌≡◌, ◌∙◌, codes, sym, subst}
-use Rattle.clap.specs.Words.{first_of, found_of, one_text, rows_of}
+use Rattle.std.proofs.Common.{◌∙◌, codes, sym, subst}
+use Rattle.clap.specs.Words.{found_of, one_text}
 use Rattle.clap.proofs.WalkLemmas.{first_value-rows, one_text-rows}
 use Rattle.query_script.specs.CommandLine.{SaysBatch}
 use Rattle.query_script.proofs.LawfulWords.{flag_is}

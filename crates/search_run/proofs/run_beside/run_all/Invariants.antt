@@ -7,7 +7,7 @@ use Rattle.search_run.proofs.run_beside.run_all.Given as goal
 abbrev pub invariant-loop-next : goal.invariant-loop-next
 invariant-loop-next g l = record {
   inside : l.next ≤ length l.placed;
-  few : length l.tools.carried.publisher.log ≤ l.next * 100000;
+  few : length l.tools.carried.publisher.log ≤ l.next * 4294967295;
   stands : StandsStill g.J.OpenName.opening l.tools.carried.publisher l.searchers.own l.standing;
   same : g.F.Folder.files l.tools.folder ≡ g.F.Folder.files l.fn.tools.folder;
   later : g.F.Folder.faults l.fn.tools.folder ≤ g.F.Folder.faults l.tools.folder;

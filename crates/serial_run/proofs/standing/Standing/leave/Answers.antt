@@ -1,7 +1,7 @@
 use Rattle.std.proofs.Common.{arith}
 use Rattle.std.specs.Option.{option_map}
 use Rattle.serial_run.specs.Steps.{kept_at}
-use Rattle.serial_run.proofs.StatementLemmas.{leads-still, leads-wait, leaves-base_of}
+use Rattle.serial_run.proofs.StatementLemmas.{leads-still, leads-wait, leaves-base}
 use Rattle.serial_run.proofs.standing.Standing.leave.Goals as goal
 
 pub returns-in-Wait-clause-leads : goal.returns-in-Wait-clause-leads
@@ -12,4 +12,4 @@ returns-in-Wait-clause-leads c = λ rules files line text faults.
 pub returns-in_default-clause-leads : goal.returns-in_default-clause-leads
 returns-in_default-clause-leads c = λ rules files line text faults.
     leads-still rules files c.args.self line text faults faults (omega arith) c.args.statement.now
-    (leaves-base_of c.args.statement.now c.requires c.in_default.not-Wait)
+    (leaves-base c.args.statement.now c.requires c.in_default.not-Wait)
