@@ -5,6 +5,7 @@ mod PrintLemmas
 mod ReadLemmas
 pub mod RunLemmas
 pub mod ScriptLemmas
+mod SerialOutputs
 pub mod StatementLemmas
 pub mod WholeOutputs
 pub mod WordLemmas

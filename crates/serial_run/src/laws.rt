@@ -1,7 +1,7 @@
 // Laws of the words for outputs, for who reads a contract over them. Each stands as a
 // contract of a function that does nothing.
 ghost use mathlib.Core.List.{IsPrefix};
-ghost use Rattle.std.specs.Prelude.{◌≡◌, IsTrue, List, ℕ};
+ghost use Rattle.std.specs.Prelude.{◌≡◌, IsTrue, List, false, ℕ};
 ghost use Rattle.kb_edges.specs.Files.{File};
 ghost use Rattle.hit_collectors.specs.Tallies.{BoxTally};
 ghost use Rattle.query_script.specs.declared.statement.Placed.{Placed};
@@ -32,4 +32,13 @@ pub fn a_begun_text_is_a_prefix_of_a_lawful_output()
         (whole_course : List ImportCourse) × (whole : List ℕ) ×
         IsLawful files rules boxes whole_course placed whole × IsPrefix text whole ×
         (losses_of whole_course ≡ losses_of course) }
+{}
+
+/// A lawful output of a run in which each statement is done before the next begins is lawful also where
+/// imports go on beside the statements, with the same losses.
+pub fn a_serial_output_is_lawful_beside_imports()
+    ensures { (files : List File) (rules : Rules) (boxes : List BoxTally) (placed : List Placed)
+        (course : List ImportCourse) (out : List ℕ) →
+        IsLawful files rules boxes course placed out →
+        IsLawful files (record rules { serial = false }) boxes course placed out }
 {}

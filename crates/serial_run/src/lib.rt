@@ -25,8 +25,8 @@ mod write;
 
 pub use block::block_text;
 pub use laws::{
-    a_begun_text_is_a_prefix_of_a_lawful_output, a_serial_run_without_a_loss_has_one_output,
-    each_script_has_a_lawful_output,
+    a_begun_text_is_a_prefix_of_a_lawful_output, a_serial_output_is_lawful_beside_imports,
+    a_serial_run_without_a_loss_has_one_output, each_script_has_a_lawful_output,
 };
 pub use opening::source_of;
 pub use script::{NoStatements, read_statements};
