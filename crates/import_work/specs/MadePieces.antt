@@ -1,4 +1,4 @@
--- The segment of made games in pieces.
+-- The segment of made games in pieces: words of the private functions.
 use Rattle.std.specs.Prelude.{◌≡◌, ◌+◌, ◌<◌, ◌≤◌, ℕ, List, All, length}
 use Rattle.std.specs.List.{flat_map}
 use Rattle.node_position.specs.Games.{Game}
@@ -9,7 +9,7 @@ use Rattle.import_work.specs.declared.making.Piece.{Piece}
 abbrev pub piece_games : Piece → List Game
 piece_games piece = made_games piece.start piece.first piece.count
 
--- a piece has a game, and no game past the most of a base
+-- a piece has a game, and the numbers of its games have 32 bits
 abbrev pub IsInRange : Piece → Type 0
 IsInRange piece = (0 < piece.count) × (piece.first + piece.count < 4294967296)
 

@@ -18,8 +18,8 @@ pub const MAX_SCRIPT: usize = 1_048_576;
 pub enum Statement {
     /// `import PATH`: imports the files of a folder.
     Import { path: Text },
-    /// `make N START`: makes so many games by a generator whose numbers begin with START, as an
-    /// import of N files.
+    /// `make N START`: makes so many games by a generator whose numbers begin with START, at most
+    /// 400,000 games and 2,147,483,647.
     Make { games: u32, start: u32 },
     /// `wait`: waits for the import, and tells the version after it.
     Wait,
