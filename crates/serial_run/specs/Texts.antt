@@ -7,6 +7,7 @@ use Rattle.sgf_reader.specs.declared.fault.FaultKind.{FaultKind}
 use Rattle.sgf_reader.specs.declared.fault.FaultKind.TheVariants as kind
 use Rattle.query_script.specs.Texts.{import_text, line_text, make_text}
 use Rattle.import_work.specs.Batches.{full_told}
+use Rattle.import_work.specs.Batches as outcomes
 use Rattle.import_work.specs.Course.{FileReport, Files, Finding, Made, TooMany, Unlisted, games_of_files, reports_of}
 use Rattle.import_work.specs.declared.outcome.FileOutcome.{FileOutcome}
 use Rattle.import_work.specs.declared.outcome.FileOutcome.TheVariants as file
@@ -75,22 +76,10 @@ is_refused f = test f.outcome
     test file.Unread = false
 
 abbrev pub is_full : FileReport → Bool
-is_full f = test f.outcome
-  where
-    test : FileOutcome → Bool
-    test (file.Accepted games) = false
-    test (file.Refused of at) = false
-    test (file.Full games nodes) = true
-    test file.Unread = false
+is_full f = outcomes.is_full f.outcome
 
 abbrev pub is_unread : FileReport → Bool
-is_unread f = test f.outcome
-  where
-    test : FileOutcome → Bool
-    test (file.Accepted games) = false
-    test (file.Refused of at) = false
-    test (file.Full games nodes) = false
-    test file.Unread = true
+is_unread f = outcomes.is_unread f.outcome
 
 -- how many files an import has, and how many were accepted and refused
 abbrev pub counts_head : ℕ → ℕ → ℕ → ℕ → List ℕ
