@@ -1,5 +1,5 @@
 -- Words of the private functions that turn a pattern: they say cell by cell what the code writes.
-use Rattle.std.specs.Prelude.{ℕ, ◌-◌, ◌/◌, ◌%◌, ◌==◌, if◌then◌else◌, map}
+use Rattle.std.specs.Prelude.{ℕ, ◌-◌, ◌/◌, ◌%◌, ◌==◌, if◌then◌else◌, List, map}
 use Rattle.std.specs.List.{range_with_len}
 use Rattle.kb_geometry.specs.declared.shape.Shape.{Shape}
 use Rattle.kb_geometry.specs.declared.shape.Point.{Point}
@@ -21,12 +21,16 @@ abbrev pub turned_cell : ℕ → Shape → Grid → Point → PatternCell
 turned_cell label to grid p = labelled_cell label
     (cell_in grid (source label to p).x (source label to p).y)
 
+-- the first so many cells, row by row, of a rectangle of this size, each cell by its point
+abbrev pub first_cells : Shape → (Point → PatternCell) → ℕ → List PatternCell
+first_cells size f count = map (λ k. f (numbered size k)) (range_with_len 0 count)
+
 -- a rectangle of this size, each cell by its point
 abbrev pub grid_by : Shape → (Point → PatternCell) → Grid
 grid_by size f = record {
   cols = cols_of size;
   rows = rows_of size;
-  cells = map (λ k. f (numbered size k)) (range_with_len 0 (point_count size));
+  cells = first_cells size f (point_count size);
 }
 
 -- the upper left point, after a symmetry of the board, of a rectangle of this size that has its
