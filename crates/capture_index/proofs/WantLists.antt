@@ -15,7 +15,7 @@ use Rattle.pattern_images.specs.Grid.{Grid, cell_in}
 use Rattle.pattern_images.specs.ImageList.{grid_at}
 use Rattle.capture_index.specs.declared.stretch.Want.{Want}
 use Rattle.capture_index.specs.declared.wants.WantRange.{WantRange}
-use Rattle.capture_index.specs.StoredWants.{AreWantsAdded, HasLess, HasRank, HaveWantsTo, IsCellAdded, IsRangeOf, IsWantWith, cell_with, rank_of, wants_in}
+use Rattle.capture_index.specs.StoredWants.{AreWantsAdded, HasLess, HasRank, HaveWantsTo, IsCellAdded, IsRangeOf, IsWantWith, cell_with, grid_with, rank_of, wants_in}
 use Rattle.capture_index.specs.Wants.{AreWantsOf, ClassesOn, IsWantAt, IsWantIn, IsWantOf}
 
 -- ---- some element of two lists
@@ -25,6 +25,13 @@ Any-left P xs ys (k, x, below, is, holds) = (k, x, omega (arith, length-append x
 Any-right : {X : Type 0} (P : X → Type 0) (xs ys : List X) → Any P ys → Any P (xs ++ ys)
 Any-right P [] ys h = h
 Any-right P (x ∷ xs) ys h = let (k, y, below, is, holds) = Any-right P xs ys h in (suc k, y, omega arith, is, holds)
+
+-- the rectangle with the sides and the cells of another one is that one
+pub grid_with-same : (size : Shape) (cells : List PatternCell) (grid : Grid) → cols_of size ≡ grid.cols → rows_of size ≡ grid.rows → cells ≡ grid.cells → grid_with size cells ≡ grid
+grid_with-same size cells grid cols rows same =
+    ap (λ n. record { cols = n; rows = rows_of size; cells = cells }) cols
+    ∙ ap (λ n. record { cols = grid.cols; rows = n; cells = cells }) rows
+    ∙ ap (λ l. record { cols = grid.cols; rows = grid.rows; cells = l }) same
 
 -- ---- the wants of one class
 module _ (shape : Shape) (grid : Grid) where

@@ -1,6 +1,7 @@
 -- The wants of classes in one list, and how they are added to it: words for the private functions.
 use Rattle.std.specs.Prelude.{◌≡◌, ◌≢◌, ℕ, ◌+◌, ◌*◌, ◌<◌, ◌≤◌, List, [], ◌∷◌, ◌++◌, length, slice_index_or, slice_range, All, Any}
 use Rattle.kb_geometry.specs.declared.shape.Shape.{Shape}
+use Rattle.kb_geometry.specs.Board.{cols_of, rows_of}
 use Rattle.pattern_images.specs.declared.cell.PatternCell.{PatternCell}
 use Rattle.pattern_images.specs.declared.cell.PatternCell.TheVariants as cell
 use Rattle.pattern_images.specs.Grid.{Grid}
@@ -35,6 +36,10 @@ rank_of cell.NotWhite = 1
 rank_of cell.NotBlack = 1
 rank_of cell.Empty = 2
 rank_of cell.Any = 3
+
+-- the rectangle of this size with these cells
+abbrev pub grid_with : Shape → List PatternCell → Grid
+grid_with size cells = record { cols = cols_of size; rows = rows_of size; cells = cells }
 
 -- the cell with a number, row by row
 abbrev pub cell_with : Grid → ℕ → PatternCell

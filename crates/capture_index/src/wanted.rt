@@ -1,13 +1,13 @@
 // The wants of one class.
 ghost use Rattle.std.specs.Prelude.{◌≡◌, ◌+◌, ◌*◌, ◌<◌, ◌≤◌, ℕ, OnOk, length};
-ghost use Rattle.kb_geometry.specs.Board.{cols_of};
+ghost use Rattle.kb_geometry.specs.Board.{cols_of, point_count, rows_of};
 ghost use Rattle.pattern_images.specs.ImageList.{grid_at};
 ghost use Rattle.capture_index.specs.StoredWants.{
   AreWantsAdded,
   HasLess,
   HasRank,
   IsCellAdded,
-  cell_with,
+  grid_with,
   rank_of,
 };
 ghost use Rattle.capture_index.specs.Wants.{IsWantOf};
@@ -29,44 +29,50 @@ pub(crate) fn add_wants(
     ensures { OnOk result (AreWantsAdded images.now.shape (grid_at images.now.grids class)
         (HasLess (grid_at images.now.grids class) WILDCARD) wants.old.items wants.new.items) }
 {
+    let size = images.class_size(class);
+    let cells = images.class_cells(class);
     for rank in 0..WILDCARD {
-        add_rank(images, class, rank, wants)?;
+        add_rank(images.shape(), size, cells, rank, wants)?;
     }
     Ok(())
 }
 
-// Adds the wants of the cells of a class that have a rank.
-fn add_rank(images: &Images, class: usize, rank: u8, wants: &mut Vec<Want>) -> Result<(), NoMemory>
-    requires { class < length images.now.grids }
-    ensures { OnOk result (AreWantsAdded images.now.shape (grid_at images.now.grids class)
-        (HasRank (grid_at images.now.grids class) rank
-        ((grid_at images.now.grids class).cols * (grid_at images.now.grids class).rows))
-        wants.old.items wants.new.items) }
+// Adds the wants of the cells of a rectangle that have a rank.
+fn add_rank(
+    shape: Shape,
+    size: Shape,
+    cells: &[PatternCell],
+    rank: u8,
+    wants: &mut Vec<Want>,
+) -> Result<(), NoMemory>
+    requires { length cells.now ≡ point_count size }
+    ensures { OnOk result (AreWantsAdded shape (grid_with size cells.now)
+        (HasRank (grid_with size cells.now) rank (cols_of size * rows_of size)) wants.old.items
+        wants.new.items) }
 {
-    for number in 0..images.class_size(class).count() {
-        add_cell(images, class, rank, number, wants)?;
+    for number in 0..size.count() {
+        add_cell(shape, size, cells, rank, number, wants)?;
     }
     Ok(())
 }
 
-// Adds the want of a cell of a class if it has the rank.
+// Adds the want of a cell of a rectangle if it has the rank.
 fn add_cell(
-    images: &Images,
-    class: usize,
+    shape: Shape,
+    size: Shape,
+    cells: &[PatternCell],
     rank: u8,
     number: u16,
     wants: &mut Vec<Want>,
 ) -> Result<(), NoMemory>
-    requires in_range { class < length images.now.grids }
-    requires number { number < (grid_at images.now.grids class).cols
-        * (grid_at images.now.grids class).rows }
-    ensures { OnOk result (IsCellAdded images.now.shape (grid_at images.now.grids class) rank number
-        wants.old.items wants.new.items) }
+    requires count { length cells.now ≡ point_count size }
+    requires number { number < point_count size }
+    ensures { OnOk result (IsCellAdded shape (grid_with size cells.now) rank number wants.old.items
+        wants.new.items) }
 {
-    let cell = images.class_cells(class)[usize::from(number)];
+    let cell = cells[usize::from(number)];
     if rank_of(cell) == rank {
-        let at = images.class_size(class).point(number);
-        wants.push(want_of(cell, offset(images.shape(), at)))?;
+        wants.push(want_of(cell, offset(shape, size.point(number))))?;
     }
     Ok(())
 }
