@@ -1,9 +1,9 @@
 -- From the last label at a point to the next point, from the last point of a row to the next row, and from the last row
 -- to the whole list.
-use Rattle.std.proofs.Common.{◌≡◌, ℕ, ◌+◌, ◌<◌, ◌≤◌, inl, inr, Option, List, [], get_or, map, sym, subst, arith}
-use Rattle.std.specs.Prelude.{All}
+use Rattle.std.proofs.Common.{◌≡◌, ℕ, ◌+◌, ◌<◌, ◌≤◌, inl, inr, Option, List, [], length, get_or, map, refl, sym, subst, arith, Some, None}
+use Rattle.std.specs.Prelude.{All, Any}
 use Rattle.std.proofs.lemmas.Bool.{cases_lt}
-use Rattle.std.proofs.lemmas.List.{get_or-map, length-map}
+use Rattle.std.proofs.lemmas.List.{get_or-map, get_or_default, length-map}
 use Rattle.std.proofs.lemmas.List.Elements.{All-nil}
 use Rattle.kb_geometry.specs.declared.shape.Shape.{Shape}
 use Rattle.kb_geometry.specs.Board.{cols_of, rows_of}
@@ -12,9 +12,9 @@ use Rattle.pattern_images.specs.declared.query.Query.{Query}
 use Rattle.pattern_images.specs.declared.turn.Turn.{Turn}
 use Rattle.pattern_images.specs.Grid.{Grid}
 use Rattle.pattern_images.specs.ImageList.{IsPlacedOn}
-use Rattle.pattern_images.specs.Listing.{IsEarlier, IsListedTo, IsStoredOn, ListsOn, placement_in}
+use Rattle.pattern_images.specs.Listing.{IsEarlier, IsListedTo, IsStoredOn, ListsOn, Reaches, placement_in}
 use Rattle.pattern_images.specs.Placements.{ArePlacements, Placement, IsResult, IsSame}
-use Rattle.pattern_images.specs.Turns.{AreTurns, HasNoBasePlace}
+use Rattle.pattern_images.specs.Turns.{AreTurns, HasNoBasePlace, IsTurn}
 use Rattle.pattern_images.proofs.Listed.{IsListedTo-move, IsListedTo-none}
 use Rattle.pattern_images.proofs.PlacedOn.{IsPlacedOn-result}
 
@@ -42,6 +42,18 @@ row_next p y cols (inl above) = inl (omega arith)
 row_next p y cols (inr (row, inl left)) = inl (omega arith)
 row_next p y cols (inr (row, inr (column, less))) = inl (omega arith)
 
+row_on : (p : Placement) (y : ℕ) → IsEarlier p y 0 0 → IsEarlier p (y + 1) 0 0
+row_on p y (inl above) = inl (omega arith)
+row_on p y (inr (row, inl left)) = absurd (omega arith)
+row_on p y (inr (row, inr (column, less))) = absurd (omega arith)
+
+-- a result stands in a row that its turn reaches
+reached_by : (query : Query) (shape : Shape) (grids : List Grid) (p : Placement) (o : Option Turn) → IsTurn query shape grids p.label o → IsResult query shape p → Reaches p.y o
+reached_by query shape grids p None is result = is p refl result
+reached_by query shape grids p (Some turn) is result =
+    let inside = ((is.results p refl).0 result).0 in
+    (inside.2, inside.3)
+
 module _ (shape : Shape) (turns : List (Option Turn)) where
   -- nothing more
   pub ListsOn-none : (y x label : ℕ) (stored : List StoredPlace) → ListsOn shape turns y x label stored y x label stored
@@ -65,6 +77,21 @@ module _ (shape : Shape) (turns : List (Option Turn)) where
       IsListedTo-move query shape grids y (cols_of shape) 0 (y + 1) 0 0 after (lists query grids are listed)
       (λ p result earlier. let on = IsPlacedOn-result query shape p result in row_end p y (cols_of shape) (omega arith) earlier)
       (λ p earlier. row_next p y (cols_of shape) earlier)
+
+  -- a row that no turn reaches
+  pub ListsOn-passed : (y : ℕ) (stored : List StoredPlace) → length turns ≡ 16 → ¬ Any (Reaches y) turns → ListsOn shape turns y 0 0 stored (y + 1) 0 0 stored
+  ListsOn-passed y stored all none query grids are listed =
+      IsListedTo-move query shape grids y 0 0 (y + 1) 0 0 stored listed back (λ p earlier. row_on p y earlier)
+    where
+      here : (p : Placement) → IsResult query shape p → p.y ≡ y → ⊥
+      here p result row =
+          let below : p.label < length turns = omega (arith, result.label.in_range) in
+          none (p.label, get_or turns p.label None, below, get_or_default turns p.label (get_or turns p.label None) None below, subst (λ n. Reaches n (get_or turns p.label None)) row (reached_by query shape grids p (get_or turns p.label None) (are.each p.label below) result))
+
+      back : (p : Placement) → IsResult query shape p → IsEarlier p (y + 1) 0 0 → IsEarlier p y 0 0
+      back p result (inl above) = elim (cases_lt p.y y) [ inl lt ↦ inl lt | inr from ↦ absurd (here p result (omega arith)) ]
+      back p result (inr (row, inl left)) = absurd (omega arith)
+      back p result (inr (row, inr (column, less))) = absurd (omega arith)
 
 -- after the last row the list is whole
 pub ArePlacements-listed : (query : Query) (shape : Shape) (grids : List Grid) (stored : List StoredPlace) → IsListedTo query shape grids (rows_of shape) 0 0 stored →

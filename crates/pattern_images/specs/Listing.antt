@@ -54,6 +54,11 @@ abbrev pub GivesAt : ℕ → Point → Option Turn → Type 0
 GivesAt class p None = ⊥
 GivesAt class p (Some turn) = (turn.class ≡ class) × IsInside turn.corners p
 
+-- there is a turn, and some of its upper left points lie in this row
+abbrev pub Reaches : ℕ → Option Turn → Type 0
+Reaches y None = ⊥
+Reaches y (Some turn) = (turn.corners.y0 ≤ y) × (y ≤ turn.corners.y1)
+
 -- what is known of a stored place: its rectangle of cells is there, and it lies on the board
 abbrev pub IsStoredOn : Shape → List Grid → StoredPlace → Type 0
 IsStoredOn shape grids s = (s.class < length grids) × IsPlacedOn shape (placement_in grids s)

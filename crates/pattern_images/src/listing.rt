@@ -2,7 +2,7 @@
 ghost use Rattle.std.specs.Prelude.{◌≡◌, ◌↔◌, ◌+◌, ◌<◌, [], Any, IsTrue, length, IfOk};
 ghost use Rattle.kb_geometry.specs.declared.shape.Shape.{Shape};
 ghost use Rattle.kb_geometry.specs.Board.{rows_of};
-ghost use Rattle.pattern_images.specs.Listing.{GivesAt, ListsOn};
+ghost use Rattle.pattern_images.specs.Listing.{GivesAt, ListsOn, Reaches};
 
 use crate::turn::Turn;
 use kb_geometry::{Label, Point, Shape};
@@ -50,10 +50,29 @@ fn list_row(
     ensures { IfOk result (λ _. ListsOn shape turns.now y 0 0 places.old.items (y + 1) 0 0
         places.new.items) }
 {
+    if !is_reached(turns, y) {
+        return Ok(());
+    }
     for x in 0..shape.cols() {
         list_point(turns, Point { x, y }, places)?;
     }
     Ok(())
+}
+
+// Whether one of the turns gives a place in this row.
+fn is_reached(turns: &[Option<Turn>], y: u8) -> bool
+    ensures { IsTrue result ↔ Any (Reaches y) turns.now }
+{
+    turns.iter().any(|turn| reaches(*turn, y))
+}
+
+fn reaches(turn: Option<Turn>, y: u8) -> bool
+    ensures { IsTrue result ↔ Reaches y turn }
+{
+    match turn {
+        Some(turn) => turn.corners.y0 <= y && y <= turn.corners.y1,
+        None => false,
+    }
 }
 
 // Adds the places at one point.

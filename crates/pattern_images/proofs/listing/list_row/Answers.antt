@@ -1,8 +1,8 @@
 -- One point after another, and then the next row.
-use Rattle.std.proofs.Common.{◌≡◌, ◌+◌, ℕ, arith, subst}
+use Rattle.std.proofs.Common.{◌≡◌, ◌+◌, ℕ, arith, false, subst, true}
 use Rattle.kb_geometry.specs.Board.{cols_of}
 use Rattle.pattern_images.specs.Listing.{ListsOn}
-use Rattle.pattern_images.proofs.ListMoves.{ListsOn-none, ListsOn-more, ListsOn-row}
+use Rattle.pattern_images.proofs.ListMoves.{ListsOn-none, ListsOn-more, ListsOn-passed, ListsOn-row}
 use Rattle.pattern_images.proofs.listing.list_row.Goals as goal
 
 pub loop-x-init : goal.loop-x-init
@@ -18,3 +18,7 @@ returns c =
     let all : c.loop-x.x ≡ cols_of c.args.shape = omega arith in
     ListsOn-row c.args.shape c.args.turns.now c.args.y c.args.y 0 0 c.args.places.now.items c.loop-x.places.items
     (subst (λ (n : ℕ). ListsOn c.args.shape c.args.turns.now c.args.y 0 0 c.args.places.now.items c.args.y n 0 c.loop-x.places.items) all c.loop-x.invariant)
+
+pub returns-then-not-is_reached : goal.returns-then-not-is_reached
+returns-then-not-is_reached c =
+    ListsOn-passed c.args.shape c.args.turns.now c.args.y c.args.places.now.items c.requires (λ reached. let no : false ≡ true = c.if-not-is_reached.ensures.1 reached in cc)
