@@ -1,14 +1,16 @@
 -- The way down from a node by first children, as long as no move lies in the placement's rectangle and the placement holds.
 use Prim.Native.Nat.{zero}
 use Rattle.std.proofs.Common.{◌≡◌, ℕ, ◌+◌, ◌-◌, ◌<◌, ◌≤◌, ◌↔◌, suc, inl, inr, Bool, true, false, Option, Some, None, IsTrue, refl, sym, ap, subst, ◌∙◌, arith}
-use Rattle.std.specs.Prelude.{option_and_then, is_some, not}
-use Rattle.std.proofs.lemmas.Bool.{cases_lt}
+use Rattle.std.specs.Prelude.{◌==◌, option_and_then, is_some}
+use Rattle.std.proofs.lemmas.Bool.{cases_lt, eq-eqb, eqb-true}
 use Rattle.std.proofs.lemmas.Option.{same_Some}
 use Rattle.kb_geometry.specs.declared.shape.Point.{Point}
 use Rattle.kb_geometry.specs.declared.stone.Colour.{Colour}
 use Rattle.kb_geometry.specs.Symmetry.{point_of}
 use Rattle.game_tree.specs.declared.node.Move.{Move}
-use Rattle.game_tree.specs.Tree.{Tree, first_child_of, node_at}
+use Rattle.game_tree.specs.Stored.{one_if}
+use Rattle.game_tree.specs.Tree.{Tree, IsTree, first_child_of, move_number_of, node_at, parent_of}
+use Rattle.game_tree.proofs.Paths.{move_number-parent}
 use Rattle.capture_board.specs.Deltas.{Deltas}
 use Rattle.pattern_images.specs.declared.hit.Next.{Next}
 use Rattle.pattern_images.specs.Placements.{Placement}
@@ -115,13 +117,21 @@ module _ (tree : Tree) (changes : Deltas) (placement : Placement) (n : ℕ) wher
 
 -- ---- whether no move or pass came
 
--- where none came so far, the next node decides
-pub quiet-next : (now after : Bool) (played own : Option Move) → now ≡ true → played ≡ own → is_some played ≡ not after → IsTrue after ↔ (IsTrue now × (own ≡ None))
-quiet-next now true None own quiet same told = (λ t. (quiet, sym same), λ h. refl)
-quiet-next now false None own quiet same told = absurd cc
-quiet-next now true (Some m) own quiet same told = absurd cc
-quiet-next now false (Some m) own quiet same told = (λ t. absurd cc, λ h. let no : Some m ≡ None = same ∙ h.1 in absurd cc)
+-- the moves on the path to a node are those to its parent, and its own
+pub moves-more : (tree : Tree) → IsTree tree → (n m : ℕ) → parent_of tree n ≡ Some m →
+    move_number_of tree n ≡ move_number_of tree m + one_if (is_some (node_at tree n).played)
+moves-more tree is n m above = move_number-parent tree (record { most = is.most; parents = is.parents; on_board = is.on_board }) n m above
 
--- where one came it came
-pub quiet-before : (now : Bool) (own : Option Move) → now ≡ false → IsTrue now ↔ (IsTrue now × (own ≡ None))
-quiet-before now own came = (λ t. let no : false ≡ true = sym came ∙ t in absurd cc, λ h. h.0)
+-- By the moves on the paths to a first node, to a node below it and to a child of that: none came as far as to the child
+-- where none came as far as to its parent, and it plays none.
+pub quiet-more : (first parent child : ℕ) (played : Option Move) → first ≤ parent → child ≡ parent + one_if (is_some played) →
+    IsTrue (child == first) ↔ (IsTrue (parent == first) × (played ≡ None))
+quiet-more first parent child None least counted =
+    let same : child ≡ parent = omega (arith, counted) in (
+      λ t. (eq-eqb parent first (sym same ∙ eqb-true child first t), refl),
+      λ h. eq-eqb child first (same ∙ eqb-true parent first h.0),
+    )
+quiet-more first parent child (Some move) least counted = (
+  λ t. absurd (omega (arith, counted, least, eqb-true child first t)),
+  λ h. let no : Some move ≡ None = h.1 in absurd cc,
+)

@@ -1,5 +1,5 @@
 -- Words of the private functions that go down from a node.
-use Rattle.std.specs.Prelude.{◌≡◌, ◌+◌, ◌-◌, ◌<◌, ◌≤◌, List, All}
+use Rattle.std.specs.Prelude.{◌≡◌, ℕ, ◌+◌, ◌-◌, ◌<◌, ◌≤◌, List, All}
 use Rattle.kb_geometry.specs.declared.shape.Shape.{Shape}
 use Rattle.kb_geometry.specs.declared.shape.Point.{Point}
 use Rattle.kb_geometry.specs.declared.stone.Cell.{Cell}
@@ -30,3 +30,8 @@ AreAllowed shape placement changes = All (AllowsChange shape placement) changes
 abbrev pub IsInPlace : Place → Point → Type 0
 IsInPlace place p = (place.x ≤ p.x) × (p.x < place.x + place.cols) × (place.y ≤ p.y)
     × (p.y < place.y + place.rows)
+
+-- the numbers of all points in the placement's rectangle lie from the first to the last of these
+abbrev pub IsSpan : Shape → Placement → ℕ → ℕ → Type 0
+IsSpan shape placement first last = (p : Point) → Covers placement p →
+    (first ≤ number_of shape p) × (number_of shape p ≤ last)

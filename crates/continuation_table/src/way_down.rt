@@ -17,7 +17,7 @@ ghost use Rattle.continuation_table.specs.Continuation.{
   own_colour,
 };
 
-use crate::changes::{covers, still_holds};
+use crate::changes::{covers, span_of, still_holds};
 use crate::own_frame::{own_colour, own_point};
 use capture_board::NodeDeltas;
 use game_tree::{GameTree, Move};
@@ -50,16 +50,17 @@ pub fn next_below(
         ¬ IsContinuation tree.now deltas.now (placement_at images.now.placements i) node next) }
 {
     let place = images.place(i);
+    let span = span_of(tree.shape(), place);
     let mut here = node;
-    let mut now = true;
     while let Some(child) = tree.first_child(here) {
         if let Some(Inside { colour, point }) = move_inside(tree, place, child) {
+            // None played between if the path to here has no more moves than that to the node.
+            let now = tree.move_number(here) == tree.move_number(node);
             return Some(next_by(images, i, colour, point, now));
         }
-        if !still_holds(deltas, images, i, child) {
+        if !still_holds(deltas, images, i, place, span, child) {
             return None;
         }
-        now = now && tree.played(child).is_none();
         here = child;
     }
     None
