@@ -11,6 +11,7 @@ use Rattle.game_tree.specs.declared.node.Move.{Move}
 use Rattle.game_tree.specs.Stored.{one_if}
 use Rattle.game_tree.specs.Tree.{Tree, IsTree, first_child_of, move_number_of, node_at, parent_of}
 use Rattle.game_tree.proofs.Paths.{move_number-parent}
+use Rattle.game_tree.proofs.Trees.{first_child-behind}
 use Rattle.capture_board.specs.Deltas.{Deltas}
 use Rattle.pattern_images.specs.declared.hit.Next.{Next}
 use Rattle.pattern_images.specs.Placements.{Placement}
@@ -144,6 +145,13 @@ module _ (tree : Tree) (is_tree : IsTree tree) (changes : Deltas) (placement : P
       let more = moves-more tree is_tree child here above in (
         omega (arith, more, come.0),
         IsWayDown-more tree changes placement n here (move_number_of tree here == move_number_of tree n) come.1 child next outside holds
-        (move_number_of tree child == move_number_of tree n)
-        (quiet-more (move_number_of tree n) (move_number_of tree here) (move_number_of tree child) (node_at tree child).played come.0 more),
+            (move_number_of tree child == move_number_of tree n)
+            (quiet-more (move_number_of tree n) (move_number_of tree here) (move_number_of tree child) (node_at tree child).played come.0 more),
       )
+
+  -- the node behind another one, if that is its parent, is its first child
+  pub HasComeDown-behind : (here : ℕ) → HasComeDown tree changes placement n here → parent_of tree (here + 1) ≡ Some here →
+      ¬ HasMoveInside tree placement (here + 1) → HoldsAt changes placement (here + 1) → HasComeDown tree changes placement n (here + 1)
+  HasComeDown-behind here come above outside holds =
+      HasComeDown-more here come (here + 1) (first_child-behind tree (record { most = is_tree.most; parents = is_tree.parents; on_board = is_tree.on_board }) here above)
+      above outside holds

@@ -34,6 +34,10 @@ abbrev pub IsInPlace : Place → Point → Type 0
 IsInPlace place p = (place.x ≤ p.x) × (p.x < place.x + place.cols) × (place.y ≤ p.y)
     × (p.y < place.y + place.rows)
 
+-- the rectangle of the place ends within 256 columns and rows
+abbrev pub IsInReach : Place → Type 0
+IsInReach place = (place.x + place.cols ≤ 256) × (place.y + place.rows ≤ 256)
+
 -- the numbers of all points in the rectangle of the place lie from the first to the last of these
 abbrev pub IsSpan : Shape → Place → ℕ → ℕ → Type 0
 IsSpan shape place first last = (p : Point) → IsInPlace place p →

@@ -8,7 +8,7 @@ ghost use Rattle.node_position.specs.Games.{AreNodeChanges};
 ghost use Rattle.pattern_images.specs.ImageList.{IsPlaceOf, IsPlacedOn};
 ghost use Rattle.pattern_images.specs.Placements.{Placement};
 ghost use Rattle.continuation_table.specs.Continuation.{HasMoveInside, HoldsAt};
-ghost use Rattle.continuation_table.specs.Descending.{HasComeDown, IsNumberIn, IsSpan};
+ghost use Rattle.continuation_table.specs.Descending.{HasComeDown, IsInReach, IsNumberIn, IsSpan};
 
 use crate::inside::{covers, move_inside};
 use capture_board::NodeDeltas;
@@ -54,6 +54,7 @@ pub(crate) fn pass_beside(
     node: u32,
 ) -> u32
     requires deltas { AreNodeChanges tree.now deltas.now }
+    requires reach { IsInReach place }
     requires span { IsSpan tree.now.shape place span.first span.last }
     requires node { node < node_count tree.now }
     ensures in_range { (node ≤ result) × (result < node_count tree.now) }
@@ -63,8 +64,17 @@ pub(crate) fn pass_beside(
         HasComeDown tree.now deltas.now placement first result }
 {
     let shape = tree.shape();
+    let count = tree.node_count();
     let mut here = node;
-    while let Some(child) = tree.first_child(here) {
+    while here + 1 < count {
+        // A first child stands behind its parent.
+        let child = here + 1;
+        let Some(parent) = tree.parent(child) else {
+            return here;
+        };
+        if parent != here {
+            return here;
+        }
         if !is_beside(tree, deltas, shape, place, span, child) {
             return here;
         }
@@ -84,6 +94,7 @@ fn is_beside(
 ) -> bool
     requires deltas { AreNodeChanges tree.now deltas.now }
     requires shape { shape ≡ tree.now.shape }
+    requires reach { IsInReach place }
     requires span { IsSpan shape place span.first span.last }
     requires node { node < node_count tree.now }
     ensures outside { IsTrue result → (placement : Placement) → IsPlaceOf placement place →
@@ -100,6 +111,7 @@ fn is_beside(
 
 // Whether no change is on a point in the rectangle of the place.
 fn are_beside(shape: Shape, place: Place, span: Span, changes: &[Change]) -> bool
+    requires reach { IsInReach place }
     requires span { IsSpan shape place span.first span.last }
     requires on_board { All (λ (c : Change). c.point < point_count shape) changes.now }
     ensures { IsTrue result ↔ All (λ (c : Change). ¬ IsNumberIn shape place c.point) changes.now }
@@ -115,6 +127,7 @@ fn are_beside(shape: Shape, place: Place, span: Span, changes: &[Change]) -> boo
 // Whether this is the number of a point in the rectangle of the place. Outside the span it is none,
 // and no column and row are made of it.
 fn is_number_in(shape: Shape, place: Place, span: Span, number: u16) -> bool
+    requires reach { IsInReach place }
     requires span { IsSpan shape place span.first span.last }
     requires on_board { number < point_count shape }
     ensures { IsTrue result ↔ IsNumberIn shape place number }

@@ -5,7 +5,7 @@ ghost use Rattle.kb_geometry.specs.Board.{point_count};
 ghost use Rattle.capture_board.specs.Deltas.{node_count, parent_of};
 ghost use Rattle.pattern_images.specs.ImageList.{IsPlaceOf, IsPlacedOn, placement_at};
 ghost use Rattle.continuation_table.specs.Continuation.{HoldsAt};
-ghost use Rattle.continuation_table.specs.Descending.{AllowsAt, AreAllowed};
+ghost use Rattle.continuation_table.specs.Descending.{AllowsAt, AreAllowed, IsInReach};
 
 use crate::allowing::allows;
 use crate::inside::covers;
@@ -47,6 +47,7 @@ fn are_allowed(images: &Images, i: usize, changes: &[Change]) -> bool
 fn allows_at(images: &Images, i: usize, place: Place, p: Point, cell: Cell) -> bool
     requires placement { i < length images.now.placements }
     requires place { IsPlaceOf (placement_at images.now.placements i) place }
+    requires reach { IsInReach place }
     ensures { IsTrue result ↔ AllowsAt (placement_at images.now.placements i) p cell }
 {
     if !covers(place, p) {

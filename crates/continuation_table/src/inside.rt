@@ -1,10 +1,10 @@
 // Points and moves in the rectangle of a place.
-ghost use Rattle.std.specs.Prelude.{◌<◌, ◌↔◌, IfNone, IfSome, IsTrue};
+ghost use Rattle.std.specs.Prelude.{◌+◌, ◌<◌, ◌≤◌, ◌↔◌, IfNone, IfSome, IsTrue};
 ghost use Rattle.game_tree.specs.Tree.{node_count};
 ghost use Rattle.pattern_images.specs.ImageList.{IsPlaceOf};
 ghost use Rattle.pattern_images.specs.Placements.{Placement};
 ghost use Rattle.continuation_table.specs.Continuation.{HasMoveInside, IsMoveInside};
-ghost use Rattle.continuation_table.specs.Descending.{IsInPlace};
+ghost use Rattle.continuation_table.specs.Descending.{IsInPlace, IsInReach};
 
 use game_tree::{GameTree, Move};
 use kb_geometry::{Colour, Point};
@@ -12,9 +12,19 @@ use pattern_images::Place;
 
 // Whether the point lies in the rectangle of a place.
 pub(crate) fn covers(place: Place, p: Point) -> bool
+    requires { IsInReach place }
     ensures { IsTrue result ↔ IsInPlace place p }
 {
-    p.x >= place.x && p.x - place.x < place.cols && p.y >= place.y && p.y - place.y < place.rows
+    is_within(place.y, place.rows, p.y) && is_within(place.x, place.cols, p.x)
+}
+
+// Whether a number is one of so many from the first one on, told by one comparison: a number before
+// the first one wraps, and is then too great.
+fn is_within(first: u8, count: u8, number: u8) -> bool
+    requires { first + count ≤ 256 }
+    ensures { IsTrue result ↔ ((first ≤ number) × (number < first + count)) }
+{
+    number.wrapping_sub(first) < count
 }
 
 // A move in the rectangle of a place.
@@ -26,7 +36,8 @@ pub(crate) struct Inside {
 
 // The move of a node, if its point lies in the rectangle of the place.
 pub(crate) fn move_inside(tree: &GameTree, place: Place, node: u32) -> Option<Inside>
-    requires { node < node_count tree.now }
+    requires reach { IsInReach place }
+    requires node { node < node_count tree.now }
     ensures some { IfSome result (λ inside. (placement : Placement) → IsPlaceOf placement place →
         IsMoveInside tree.now placement node inside.colour inside.point) }
     ensures none { IfNone result ((placement : Placement) → IsPlaceOf placement place →

@@ -6,6 +6,7 @@ use Rattle.game_tree.specs.Tree.{move_number_of}
 use Rattle.pattern_images.specs.ImageList.{IsPlacedOn, placement_at}
 use Rattle.continuation_table.specs.Descending.{IsSpan}
 use Rattle.continuation_table.proofs.Descents.{HasComeDown-more, HasComeDown-start, IsContinuation-found, IsWayDown-holds, no_continuation-end, no_continuation-lost}
+use Rattle.continuation_table.proofs.Spans.{reach-placed}
 use Rattle.continuation_table.proofs.way_down.next_below.Goals as goal
 
 pub span_of-span-requires : goal.span_of-span-requires
@@ -81,3 +82,15 @@ returns-clause-none c =
     no_continuation-end c.args.tree.now c.args.deltas.now (placement_at c.args.images.now.placements c.args.i) c.args.node c.loop-child.here
     (move_number_of c.args.tree.now c.loop-child.here == move_number_of c.args.tree.now c.args.node) c.loop-child.invariant.way.1
     (sym c.first_child.ensures.value ∙ c.in_default.is)
+
+pub pass_beside-here-requires-clause-reach : goal.pass_beside-here-requires-clause-reach
+pass_beside-here-requires-clause-reach c =
+    reach-placed c.args.images.now.shape (placement_at c.args.images.now.placements c.args.i) c.place-place.result c.place-place.ensures.value c.place-place.ensures.on_board
+
+pub pass_beside-here-requires-in-Some-clause-reach : goal.pass_beside-here-requires-in-Some-clause-reach
+pass_beside-here-requires-in-Some-clause-reach c =
+    reach-placed c.args.images.now.shape (placement_at c.args.images.now.placements c.args.i) c.place-place.result c.place-place.ensures.value c.place-place.ensures.on_board
+
+pub move_inside-requires-clause-reach : goal.move_inside-requires-clause-reach
+move_inside-requires-clause-reach c =
+    reach-placed c.args.images.now.shape (placement_at c.args.images.now.placements c.args.i) c.place-place.result c.place-place.ensures.value c.place-place.ensures.on_board
