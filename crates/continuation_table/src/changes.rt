@@ -5,19 +5,13 @@ ghost use Rattle.kb_geometry.specs.Board.{point_count};
 ghost use Rattle.capture_board.specs.Deltas.{node_count, parent_of};
 ghost use Rattle.pattern_images.specs.ImageList.{IsPlaceOf, IsPlacedOn, placement_at};
 ghost use Rattle.continuation_table.specs.Continuation.{HoldsAt};
-ghost use Rattle.continuation_table.specs.Descending.{AllowsAt, AreAllowed, IsInPlace};
+ghost use Rattle.continuation_table.specs.Descending.{AllowsAt, AreAllowed, IsInReach};
 
 use crate::allowing::allows;
+use crate::inside::covers;
 use capture_board::NodeDeltas;
 use kb_geometry::{Cell, Change, Point};
 use pattern_images::{Images, Place};
-
-// Whether the point lies in the rectangle of a place.
-pub(crate) fn covers(place: Place, p: Point) -> bool
-    ensures { IsTrue result ↔ IsInPlace place p }
-{
-    p.x >= place.x && p.x - place.x < place.cols && p.y >= place.y && p.y - place.y < place.rows
-}
 
 // Whether a placement still holds at a node. It is known to hold at the parent.
 pub(crate) fn still_holds(deltas: &NodeDeltas, images: &Images, i: usize, node: u32) -> bool
@@ -53,6 +47,7 @@ fn are_allowed(images: &Images, i: usize, changes: &[Change]) -> bool
 fn allows_at(images: &Images, i: usize, place: Place, p: Point, cell: Cell) -> bool
     requires placement { i < length images.now.placements }
     requires place { IsPlaceOf (placement_at images.now.placements i) place }
+    requires reach { IsInReach place }
     ensures { IsTrue result ↔ AllowsAt (placement_at images.now.placements i) p cell }
 {
     if !covers(place, p) {

@@ -4,6 +4,7 @@ use Rattle.std.proofs.lemmas.List.Elements.{All-more}
 use Rattle.pattern_images.specs.ImageList.{placement_at}
 use Rattle.continuation_table.specs.Descending.{AllowsChange, AreAllowed}
 use Rattle.continuation_table.proofs.Losses.{allows-point}
+use Rattle.continuation_table.proofs.Spans.{reach-placed}
 use Rattle.continuation_table.proofs.changes.are_allowed.Goals as goal
 
 pub loop-change-preserved : goal.loop-change-preserved
@@ -21,3 +22,7 @@ returns-clause-value c =
           c.loop-change.invariant,
       λ b. refl,
     )
+
+pub allows_at-requires-clause-reach : goal.allows_at-requires-clause-reach
+allows_at-requires-clause-reach c =
+    reach-placed c.args.images.now.shape (placement_at c.args.images.now.placements c.args.i) c.place-place.result c.place-place.ensures.value c.place-place.ensures.on_board
