@@ -33,7 +33,7 @@ pub record IsCutTo (runs : List Run) (want : Want) (stretch : Stretch) (before :
   pub rest : AreToldBehind runs count next
 
 -- the next run, and those behind it
-told-step : (runs : List Run) (count node : ℕ) (d : Run) → count < length runs → AreToldBehind runs count node → (n : ℕ) → n < node → cell_by runs n ≡ cell_by (get_or runs count d ∷ drop (count + 1) runs) n
+pub told-step : (runs : List Run) (count node : ℕ) (d : Run) → count < length runs → AreToldBehind runs count node → (n : ℕ) → n < node → cell_by runs n ≡ cell_by (get_or runs count d ∷ drop (count + 1) runs) n
 told-step runs count node d lt told n under =
     told n under ∙ ap (λ (rs : List Run). cell_by rs n) (drop-cons runs count d lt ∙ ap (λ (i : ℕ). get_or runs count d ∷ drop i runs) (sym (add-one count)))
 

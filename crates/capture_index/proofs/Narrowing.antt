@@ -1,23 +1,23 @@
 -- A stretch that is narrowed and cut by one want after another.
-use Rattle.std.proofs.Common.{◌≡◌, ℕ, ◌+◌, ◌-◌, ◌<◌, ◌≤◌, ◌↔◌, Bool, true, false, cond, List, [], ◌∷◌, ◌++◌, length, get_or, sym, ◌∙◌, ap, subst, arith, inl, inr, below_more}
-use Rattle.std.proofs.lemmas.Bool.{cases_Bool, false≢true, le-leb, leb-true}
+use Rattle.std.proofs.Common.{◌≡◌, ℕ, ◌+◌, ◌-◌, ◌/◌, ◌<◌, ◌≤◌, ◌↔◌, Bool, true, false, cond, List, [], ◌∷◌, ◌++◌, length, get_or, sym, ◌∙◌, ap, subst, arith, inl, inr, below_more}
+use Rattle.std.proofs.lemmas.Bool.{cases_Bool, false_from_ne_true, le-leb, leb-true}
 use Rattle.std.proofs.lemmas.List.{get_or_read}
 use Rattle.kb_geometry.specs.Board.{point_count}
-use Rattle.std.specs.Prelude.{IsTrue, slice_index_or}
+use Rattle.std.specs.Prelude.{IfNone, IfSome, IsTrue, None, Option, Some, slice_index_or}
 use Rattle.kb_geometry.specs.declared.stone.Cell.{Cell}
-use Rattle.capture_index.specs.declared.finding.Bounds.{Bounds}
+use Rattle.capture_index.specs.declared.bounds.Bounds.{Bounds}
 use Rattle.capture_index.specs.declared.packed_runs.PackedRuns.{PackedRuns}
 use Rattle.capture_index.specs.declared.run.Run.{Run}
 use Rattle.capture_index.specs.declared.stretch.Stretch.{Stretch}
 use Rattle.capture_index.specs.declared.stretch.Want.{Want}
 use Rattle.capture_index.specs.declared.time.Time.{Time}
 use Rattle.capture_index.specs.declared.time.TheConstants.{MANY}
-use Rattle.capture_index.specs.Finding.{AreMet, IsBoundTo, IsCutAt, IsCutBy, IsMet, IsMetByWord, packed_cell, time_at}
-use Rattle.capture_index.specs.Stretches.{no_want}
+use Rattle.capture_index.specs.Finding.{AreMet, IsBoundTo, IsCutAt, IsCutBy, IsMet, packed_cell, time_at}
+use Rattle.capture_index.specs.Bounds.{IsBounded, IsNarrowed}
 use Rattle.capture_index.specs.Runs.{cell_by}
 use Rattle.capture_index.specs.Seen.{StaysTo}
-use Rattle.capture_index.specs.Lists.{IsNarrowed, is_many, list_in, run_of_word}
-use Rattle.capture_index.specs.Stretches.{IsIn, IsWithin, is_wanted}
+use Rattle.capture_index.specs.Lists.{IsWantedBy, is_many, list_in, run_of_word}
+use Rattle.capture_index.specs.Stretches.{IsIn, IsWithin, is_wanted, no_want}
 
 -- the word of a point that was read
 pub time-read : (index : PackedRuns) (p i : ℕ) (time : Time) → i ≡ p → p < point_count index.shape → time ≡ get_or index.times.items i time → time ≡ time_at index p
@@ -26,6 +26,11 @@ time-read index p i time e lt read = get_or_read index.times.items p time (omega
 -- the cell of a point with a word, and of one with a list
 pub packed_cell-word : (index : PackedRuns) (p n : ℕ) → is_many (time_at index p) ≡ false → packed_cell index p n ≡ cell_by (run_of_word (time_at index p) ∷ []) n
 packed_cell-word index p n few = ap (λ (b : Bool). cell_by (cond b (list_in index.ends.items index.runs.items ((time_at index p).word - MANY)) (run_of_word (time_at index p) ∷ [])) n) few
+
+pub packed_cell-few : (index : PackedRuns) (p : ℕ) (time : Time) → time ≡ time_at index p → (MANY ≤ time.word → ⊥) → (n : ℕ) → cell_by (run_of_word time ∷ []) n ≡ packed_cell index p n
+packed_cell-few index p time is few n =
+    let word : is_many time ≡ false = false_from_ne_true (is_many time) (λ t. few (leb-true MANY time.word t)) in
+    ap (λ (t : Time). cell_by (run_of_word t ∷ []) n) is ∙ sym (packed_cell-word index p n (sym (ap is_many is) ∙ word))
 
 packed_cell-list : (index : PackedRuns) (p n : ℕ) → is_many (time_at index p) ≡ true → packed_cell index p n ≡ cell_by (list_in index.ends.items index.runs.items ((time_at index p).word - MANY)) n
 packed_cell-list index p n many = ap (λ (b : Bool). cell_by (cond b (list_in index.ends.items index.runs.items ((time_at index p).word - MANY)) (run_of_word (time_at index p) ∷ [])) n) many
@@ -44,47 +49,46 @@ StaysTo-as f g nodes n next same stays = record {
   stays = λ k from to. sym (same k) ∙ stays.stays k from to ∙ same n;
 }
 
+-- ---- the bounds with one want more
+module _ (index : PackedRuns) (base : ℕ) (want : Want) (runs : List Run) (same : (n : ℕ) → cell_by runs n ≡ packed_cell index (base + want.offset) n) where
+  pub met-wanted : (n : ℕ) → IsWantedBy want runs n → IsMet index base want n
+  met-wanted n w = sym (ap (is_wanted want) (same n)) ∙ w
+
+  pub wanted-met : (n : ℕ) → IsMet index base want n → IsWantedBy want runs n
+  wanted-met n met = ap (is_wanted want) (same n) ∙ met
+
+  pub some-met : (before : Bounds) (result : Option Bounds) → IfSome result (IsNarrowed before (IsWantedBy want runs)) → IfSome result (IsNarrowed before (IsMet index base want))
+  some-met before None h = h
+  some-met before (Some after) narrowed = record {
+    kept = λ n b met. narrowed.kept n b (wanted-met n met);
+    inside = narrowed.inside;
+    many = narrowed.many;
+  }
+
+  pub whole-met : (result : Option Bounds) → IfSome result (λ after. after.many ≡ false → (n : ℕ) → IsBounded after n → IsWantedBy want runs n) → IfSome result (λ after. after.many ≡ false → (n : ℕ) → IsBounded after n → IsMet index base want n)
+  whole-met None h = h
+  whole-met (Some after) whole = λ e n b. met-wanted n (whole e n b)
+
+  pub none-met : (before : Bounds) (result : Option Bounds) → IfNone result ((n : ℕ) → IsBounded before n → ¬ IsWantedBy want runs n) → IfNone result ((n : ℕ) → IsBounded before n → ¬ IsMet index base want n)
+  none-met before None none = λ n b met. none n b (wanted-met n met)
+  none-met before (Some after) h = h
+
 module _ (index : PackedRuns) (base : ℕ) (wants : List Want) (i : ℕ) (lt : i < length wants) where
   abbrev want : Want
   want = slice_index_or wants i no_want
 
-  abbrev time : Time
-  time = time_at index (base + want.offset)
-
-  both : (b : Bool) → b ≡ true → b ≡ false → ⊥
-  both b t f = false≢true (sym f ∙ t)
-
-  module _ (before after : Bounds) (bound : IsBoundTo index base wants i before) (narrowed : IsNarrowed before time want index.nodes after) where
-    by_list : is_many time ≡ true → IsBoundTo index base wants (i + 1) after
-    by_list many =
-        let same = narrowed.same many in
-        record {
-          nodes_of = λ n in_range. (
-            λ h. below_more (λ k. IsMetByWord index base (slice_index_or wants k no_want) n) i ((bound.nodes_of n in_range).0 (omega (arith, same.0, h.0), omega (arith, same.1, h.1))) (λ few. absurd (both (is_many time) many few)),
-            λ all. let old = (bound.nodes_of n in_range).1 (λ k l. all k (omega arith)) in (omega (arith, same.0, old.0), omega (arith, same.1, old.1)),
-          );
-          words = λ some few. absurd (both after.many same.2 few);
-          most = omega (arith, bound.most, same.1);
-        }
-
-    by_word : is_many time ≡ false → IsBoundTo index base wants (i + 1) after
-    by_word few = record {
-      most = omega (arith, bound.most, narrowed.less);
-      nodes_of = λ n in_range. (
-        λ h. let both_of = (narrowed.nodes_of few n).0 h in
-            below_more (λ k. IsMetByWord index base (slice_index_or wants k no_want) n) i ((bound.nodes_of n in_range).0 both_of.0) (λ f. ap (is_wanted want) (packed_cell-word index (base + want.offset) n few) ∙ both_of.1),
-        λ all. (narrowed.nodes_of few n).1 (
-          (bound.nodes_of n in_range).1 (λ k l. all k (omega arith)),
-          sym (ap (is_wanted want) (packed_cell-word index (base + want.offset) n few)) ∙ all i (omega arith) few,
-        ),
-      );
-      words = λ some none.
-          let old = (narrowed.nodes_of few after.from).0 (omega arith, some) in
-          below_more (λ k. is_many (time_at index (base + (slice_index_or wants k no_want).offset)) ≡ false) i (bound.words (omega (arith, old.0.0, old.0.1)) (sym (narrowed.many few) ∙ none)) few;
+  module _ (before : Bounds) (bound : IsBoundTo index base wants i before) where
+    pub bound-more : (after : Bounds) → IsNarrowed before (IsMet index base want) after → (is_many (time_at index (base + want.offset)) ≡ false → (n : ℕ) → IsBounded after n → IsMet index base want n) →
+        (after.many ≡ false → (n : ℕ) → IsBounded after n → IsMet index base want n) → IsBoundTo index base wants (i + 1) after
+    bound-more after narrowed word whole = record {
+      kept = λ n in_range all. narrowed.kept n (bound.kept n in_range (λ k l. all k (omega arith))) (all i (omega arith));
+      inside = λ n b. bound.inside n (narrowed.inside n b);
+      words = λ n b. below_more (λ k. is_many (time_at index (base + (slice_index_or wants k no_want).offset)) ≡ false → IsMet index base (slice_index_or wants k no_want) n) i (bound.words n (narrowed.inside n b)) (λ few. word few n b);
+      whole = λ e n b. below_more (λ k. IsMet index base (slice_index_or wants k no_want) n) i (bound.whole (narrowed.many e) n (narrowed.inside n b)) (whole e n b);
     }
 
-    pub IsBoundTo-more : IsBoundTo index base wants (i + 1) after
-    IsBoundTo-more = elim (cases_Bool (is_many time)) [ inl many ↦ by_list many | inr few ↦ by_word few ]
+    pub bound-none : ((n : ℕ) → IsBounded before n → IsMet index base want n → ⊥) → (n : ℕ) → n < index.nodes → AreMet index base wants n → ⊥
+    bound-none none n in_range all = none n (bound.kept n in_range (λ k l. all k (omega arith))) (all i (omega arith))
 
   -- ---- cut at a list
   pub IsCutBy-more : (start before after : List Stretch) → IsCutBy index base wants i start before → IsCutAt index base want before after → IsCutBy index base wants (i + 1) start after
@@ -122,35 +126,15 @@ module _ (index : PackedRuns) (base : ℕ) (want : Want) (time : Time) (is : tim
         λ (h, all). (cut n in_range).1 (h, sym met ∙ all many),
       )
 
--- the first node after the last one is decided: no want that is left is met where the stretch is empty
-pub IsBoundTo-empty : (index : PackedRuns) (base : ℕ) (wants : List Want) (i : ℕ) (bounds : Bounds) → i < length wants → IsBoundTo index base wants (i + 1) bounds → bounds.to ≤ bounds.from → IsBoundTo index base wants (length wants) bounds
-IsBoundTo-empty index base wants i bounds lt bound none = record {
-  nodes_of = λ n in_range. (
-    λ h. absurd (omega (arith, h.0, h.1)),
-    λ all. (bound.nodes_of n in_range).1 (λ k l. all k (omega arith)),
-  );
-  words = λ some few k l. absurd (omega arith);
-  most = bound.most;
-}
-
 -- ---- words and lists together
 module _ (index : PackedRuns) (base : ℕ) (wants : List Want) (bounds : Bounds) (bound : IsBoundTo index base wants (length wants) bounds) where
-  pub met-none : bounds.to ≤ bounds.from → (n : ℕ) → n < index.nodes → AreMet index base wants n → ⊥
-  met-none none n in_range all = let h = (bound.nodes_of n in_range).1 (λ k l few. all k l) in omega (arith, h.0, h.1)
-
-  pub met-words : bounds.from < bounds.to → bounds.many ≡ false → (n : ℕ) → n < index.nodes → ((bounds.from ≤ n) × (n < bounds.to)) ↔ AreMet index base wants n
-  met-words some few n in_range = (
-    λ h k l. (bound.nodes_of n in_range).0 h k l (bound.words some few k l),
-    λ all. (bound.nodes_of n in_range).1 (λ k l f. all k l),
-  )
-
-  pub met-lists : (start after : List Stretch) → ((n : ℕ) → IsIn start n ↔ ((bounds.from ≤ n) × (n < bounds.to))) → IsCutBy index base wants (length wants) start after → (n : ℕ) → n < index.nodes → IsIn after n ↔ AreMet index base wants n
+  met-lists : (start after : List Stretch) → ((n : ℕ) → IsIn start n ↔ IsBounded bounds n) → IsCutBy index base wants (length wants) start after → (n : ℕ) → n < index.nodes → IsIn after n ↔ AreMet index base wants n
   met-lists start after one cut n in_range = (
     λ h k l. let both_of = (cut n in_range).0 h in elim (cases_Bool (is_many (time_at index (base + (slice_index_or wants k no_want).offset)))) [
       | inl many ↦ both_of.1 k l many
-      | inr few ↦ (bound.nodes_of n in_range).0 ((one n).0 both_of.0) k l few
+      | inr few ↦ bound.words n ((one n).0 both_of.0) k l few
     ],
-    λ all. (cut n in_range).1 ((one n).1 ((bound.nodes_of n in_range).1 (λ k l f. all k l)), λ k l m. all k l),
+    λ all. (cut n in_range).1 ((one n).1 (bound.kept n in_range all), λ k l m. all k l),
   )
 
 -- ---- the whole search
@@ -163,21 +147,20 @@ IsIn-one stretch n = (
   λ h. (0, stretch, omega arith, h),
 )
 
-module _ (index : PackedRuns) (base : ℕ) (wants : List Want) (bounds : Bounds) (bound : IsBoundTo index base wants (length wants) bounds) (cleared now : List Stretch) (none : cleared ≡ []) where
-  pub found-none : bounds.to ≤ bounds.from → (n : ℕ) → n < index.nodes → IsIn cleared n ↔ AreMet index base wants n
-  found-none empty n in_range = (
-    λ h. absurd (IsIn-none n (subst (λ (s : List Stretch). IsIn s n) none h)),
-    λ all. absurd (met-none index base wants bounds bound empty n in_range all),
-  )
+module _ (index : PackedRuns) (base : ℕ) (wants : List Want) (bounds : Bounds) (bound : IsBoundTo index base wants (length wants) bounds) where
+  pub bounded-none : bounds.least / 2 ≤ bounds.latest / 2 → (n : ℕ) → n < index.nodes → AreMet index base wants n → ⊥
+  bounded-none empty n in_range all = let b = bound.kept n in_range all in omega (arith, b.0, b.1, empty)
 
-  module _ (pushed : now ≡ cleared ++ record { from = bounds.from; to = bounds.to } ∷ []) where
-    one : (n : ℕ) → IsIn now n ↔ ((bounds.from ≤ n) × (n < bounds.to))
-    one n = subst (λ (s : List Stretch). IsIn s n ↔ ((bounds.from ≤ n) × (n < bounds.to))) (sym (pushed ∙ ap (λ (s : List Stretch). s ++ record { from = bounds.from; to = bounds.to } ∷ []) none)) (IsIn-one (record { from = bounds.from; to = bounds.to }) n)
+  -- the end of the stretch is one of the game's nodes, or behind the last one
+  pub bounded-most : bounds.latest / 2 < bounds.least / 2 → bounds.least / 2 ≤ index.nodes
+  bounded-most some = let last = bound.inside (bounds.least / 2 - 1) (omega (arith, some), omega (arith, some)) in omega (arith, last, some)
 
-    pub found-one : bounds.from < bounds.to → bounds.many ≡ false → (n : ℕ) → n < index.nodes → IsIn now n ↔ AreMet index base wants n
-    found-one some few n in_range =
-        let met = met-words index base wants bounds bound some few n in_range in
-        (λ h. met.0 ((one n).0 h), λ all. (one n).1 (met.1 all))
+  module _ (cleared now : List Stretch) (none : cleared ≡ []) (pushed : now ≡ cleared ++ record { from = bounds.latest / 2; to = bounds.least / 2 } ∷ []) where
+    one : (n : ℕ) → IsIn now n ↔ IsBounded bounds n
+    one n = subst (λ (s : List Stretch). IsIn s n ↔ IsBounded bounds n) (sym (pushed ∙ ap (λ (s : List Stretch). s ++ record { from = bounds.latest / 2; to = bounds.least / 2 } ∷ []) none)) (IsIn-one (record { from = bounds.latest / 2; to = bounds.least / 2 }) n)
+
+    pub found-one : bounds.many ≡ false → (n : ℕ) → n < index.nodes → IsIn now n ↔ AreMet index base wants n
+    found-one whole n in_range = (λ h. bound.whole whole n ((one n).0 h), λ all. (one n).1 (bound.kept n in_range all))
 
     pub found-more : (after : List Stretch) → IsCutBy index base wants (length wants) now after → (n : ℕ) → n < index.nodes → IsIn after n ↔ AreMet index base wants n
     found-more after cut = met-lists index base wants bounds bound now after one cut

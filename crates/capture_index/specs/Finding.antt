@@ -1,5 +1,5 @@
 -- The nodes of a game at which wanted cells stand.
-use Rattle.std.specs.Prelude.{◌≡◌, ℕ, ◌+◌, ◌<◌, ◌≤◌, IsTrue, true, false, ◌↔◌, List, length, slice_index_or}
+use Rattle.std.specs.Prelude.{◌≡◌, ℕ, ◌+◌, ◌<◌, IsTrue, true, false, ◌↔◌, List, length, slice_index_or}
 use Rattle.kb_geometry.specs.declared.stone.Cell.{Cell}
 use Rattle.kb_geometry.specs.Board.{point_count}
 use Rattle.kb_geometry.specs.Capture.{cell_at}
@@ -7,8 +7,9 @@ use Rattle.capture_board.specs.Deltas.{AreDeltas, Deltas, node_count, position_a
 use Rattle.capture_index.specs.declared.time.Time.{Time}
 use Rattle.capture_index.specs.declared.stretch.Stretch.{Stretch}
 use Rattle.capture_index.specs.declared.stretch.Want.{Want}
-use Rattle.capture_index.specs.declared.finding.Bounds.{Bounds}
+use Rattle.capture_index.specs.declared.bounds.Bounds.{Bounds}
 use Rattle.capture_index.specs.declared.packed_runs.PackedRuns.{PackedRuns}
+use Rattle.capture_index.specs.Bounds.{IsBounded}
 use Rattle.capture_index.specs.Branches.{AreBranchesTo}
 use Rattle.capture_index.specs.Runs.{cell_by}
 use Rattle.capture_index.specs.Lists.{is_many, runs_of}
@@ -30,30 +31,30 @@ packed_cell index p n = cell_by (runs_of index.ends.items index.runs.items (time
 abbrev pub IsMet : PackedRuns → ℕ → Want → ℕ → Type 0
 IsMet index base want n = IsTrue (is_wanted want (packed_cell index (base + want.offset) n))
 
--- each want is met at a node
-abbrev pub AreMet : PackedRuns → ℕ → List Want → ℕ → Type 0
-AreMet index base wants n = (k : ℕ) → k < length wants →
+-- the first so many wants are met at a node
+abbrev pub AreMetTo : PackedRuns → ℕ → List Want → ℕ → ℕ → Type 0
+AreMetTo index base wants count n = (k : ℕ) → k < count →
     IsMet index base (slice_index_or wants k no_want) n
 
--- the want is met at a node, unless its point has a list of runs
-abbrev pub IsMetByWord : PackedRuns → ℕ → Want → ℕ → Type 0
-IsMetByWord index base want n = is_many (time_at index (base + want.offset)) ≡ false →
-    IsMet index base want n
+-- each want is met at a node
+abbrev pub AreMet : PackedRuns → ℕ → List Want → ℕ → Type 0
+AreMet index base wants n = AreMetTo index base wants (length wants) n
 
--- the first so many wants with words are met at a node
+-- the first so many wants are met at a node, but perhaps those whose points have a list of runs
 abbrev pub AreMetByWord : PackedRuns → ℕ → List Want → ℕ → ℕ → Type 0
 AreMetByWord index base wants count n = (k : ℕ) → k < count →
-    IsMetByWord index base (slice_index_or wants k no_want) n
+    is_many (time_at index (base + (slice_index_or wants k no_want).offset)) ≡ false →
+    IsMet index base (slice_index_or wants k no_want) n
 
--- The nodes of the stretch are those at which the first so many wants with words are met. Some want
--- has a list if that is told.
+-- The bounds have each node at which the first so many wants are met. At their nodes those are met
+-- whose points have a word, and all of them unless it is told that some perhaps aren't.
 pub record IsBoundTo (index : PackedRuns) (base : ℕ) (wants : List Want) (count : ℕ)
     (bounds : Bounds) : Type 0 where
-  pub nodes_of : (n : ℕ) → n < index.nodes → ((bounds.from ≤ n) × (n < bounds.to)) ↔
-      AreMetByWord index base wants count n
-  pub most : bounds.to ≤ index.nodes
-  pub words : bounds.from < bounds.to → bounds.many ≡ false → (k : ℕ) → k < count →
-      is_many (time_at index (base + (slice_index_or wants k no_want).offset)) ≡ false
+  pub kept : (n : ℕ) → n < index.nodes → AreMetTo index base wants count n → IsBounded bounds n
+  pub inside : (n : ℕ) → IsBounded bounds n → n < index.nodes
+  pub words : (n : ℕ) → IsBounded bounds n → AreMetByWord index base wants count n
+  pub whole : bounds.many ≡ false → (n : ℕ) → IsBounded bounds n →
+      AreMetTo index base wants count n
 
 -- the nodes that are left are those at which the first so many wants with lists are met
 abbrev pub IsCutBy : PackedRuns → ℕ → List Want → ℕ → List Stretch → List Stretch → Type 0

@@ -4,6 +4,7 @@ pub mod Stretches
 pub mod Wants
 -- Words of private functions.
 pub mod Begins
+pub mod Bounds
 pub mod Branches
 pub mod Building
 pub mod Finding

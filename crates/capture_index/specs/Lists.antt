@@ -1,12 +1,11 @@
 -- The words of points and the lists of their runs: words for the private functions.
-use Rattle.std.specs.Prelude.{◌≡◌, ℕ, ◌-◌, ◌/◌, ◌%◌, ◌<◌, ◌≤◌, ◌==◌, nat_le, Bool, IsTrue, true, false, ◌↔◌, List, [], ◌∷◌, if◌then◌else◌, length, slice_index_or, slice_range}
+use Rattle.std.specs.Prelude.{◌≡◌, ℕ, ◌-◌, ◌/◌, ◌%◌, ◌<◌, ◌≤◌, ◌==◌, nat_le, Bool, IsTrue, List, [], ◌∷◌, if◌then◌else◌, length, slice_index_or, slice_range}
 use Rattle.kb_geometry.specs.declared.stone.Cell.TheVariants as stone
 use Rattle.capture_index.specs.declared.run.Run.{Run}
 use Rattle.capture_index.specs.declared.time.Time.{Time}
 use Rattle.capture_index.specs.declared.time.TheConstants.{MANY}
 use Rattle.capture_index.specs.declared.stretch.Stretch.{Stretch}
 use Rattle.capture_index.specs.declared.stretch.Want.{Want}
-use Rattle.capture_index.specs.declared.finding.Bounds.{Bounds}
 use Rattle.capture_index.specs.Runs.{cell_by}
 use Rattle.capture_index.specs.Stretches.{IsWithin, is_wanted}
 
@@ -49,18 +48,6 @@ abbrev pub runs_of : List ℕ → List Run → Time → List Run
 runs_of ends runs time =
     if is_many time then list_in ends runs (time.word - MANY) else run_of_word time ∷ []
 
--- the want is met at a node by a point with this word, unless it has a list
-abbrev pub IsWantedByWord : Time → Want → ℕ → Type 0
-IsWantedByWord time want n = is_many time ≡ false →
-    IsTrue (is_wanted want (cell_by (run_of_word time ∷ []) n))
-
--- the stretch with one want more, if the word of its point tells
-pub record IsNarrowed (before : Bounds) (time : Time) (want : Want) (nodes : ℕ) (after : Bounds) :
-    Type 0 where
-  pub nodes_of : is_many time ≡ false → (n : ℕ) → ((after.from ≤ n) × (n < after.to)) ↔
-      (((before.from ≤ n) × (n < before.to)) ×
-      IsTrue (is_wanted want (cell_by (run_of_word time ∷ []) n)))
-  pub same : is_many time ≡ true → (after.from ≡ before.from) × (after.to ≡ before.to) ×
-      (after.many ≡ true)
-  pub many : is_many time ≡ false → after.many ≡ before.many
-  pub less : after.to ≤ before.to
+-- the cell that these runs tell at a node is wanted
+abbrev pub IsWantedBy : Want → List Run → ℕ → Type 0
+IsWantedBy want runs n = IsTrue (is_wanted want (cell_by runs n))

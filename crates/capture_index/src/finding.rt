@@ -1,10 +1,9 @@
 // The nodes at which wanted cells stand.
-ghost use Rattle.std.specs.Prelude.{◌≡◌, ◌+◌, ◌<◌, ◌≤◌, ◌↔◌, ◌⊎◌, ℕ, All, IsTrue, OnOk, length};
+ghost use Rattle.std.specs.Prelude.{◌≡◌, ◌+◌, ◌<◌, ◌↔◌, ℕ, All, OnOk, length};
 ghost use Rattle.capture_index.specs.declared.stretch.Want.{Want};
 ghost use Rattle.kb_geometry.specs.Board.{point_count};
 ghost use Rattle.capture_index.specs.Begins.{AreFalling, HasBegun};
-ghost use Rattle.capture_index.specs.Finding.{AreMet, IsBoundTo, IsCutAt, IsCutBy, time_at};
-ghost use Rattle.capture_index.specs.Lists.{IsNarrowed};
+ghost use Rattle.capture_index.specs.Finding.{AreMet, IsCutAt, IsCutBy, time_at};
 ghost use Rattle.capture_index.specs.Stretches.{AreApart, IsIn};
 
 use crate::begins::push_begins;
@@ -29,17 +28,15 @@ impl PackedRuns {
         ensures apart { OnOk result (AreApart 0 self.now.nodes found.new.items) }
     {
         found.clear();
-        if self.are_never_met(base, wants) {
+        let Some(bounds) = self.bounds(base, wants) else {
+            return Ok(());
+        };
+        let from = bounds.latest / 2;
+        let to = bounds.least / 2;
+        if from >= to {
             return Ok(());
         }
-        let bounds = self.bounds(base, wants);
-        if bounds.from >= bounds.to {
-            return Ok(());
-        }
-        found.push(Stretch {
-            from: bounds.from,
-            to: bounds.to,
-        })?;
+        found.push(Stretch { from, to })?;
         if !bounds.many {
             return Ok(());
         }
@@ -59,27 +56,6 @@ impl PackedRuns {
     {
         push_begins(self.branches(), stretches, nodes)?;
         Ok(())
-    }
-
-    // The stretch of nodes at which the cells of words are those that are wanted, and whether other
-    // points are left.
-    fn bounds(&self, base: u16, wants: &[Want]) -> Bounds
-        requires { All (λ (w : Want). base + w.offset < point_count self.now.shape) wants.now }
-        ensures { IsBoundTo self.now base wants.now (length wants.now) result }
-    {
-        let mut bounds = Bounds {
-            from: 0,
-            to: self.nodes,
-            many: false,
-        };
-        for want in wants {
-            let time = self.time_of(base, want.offset);
-            bounds = narrowed(bounds, time, *want, self.nodes);
-            if bounds.from >= bounds.to {
-                return bounds;
-            }
-        }
-        bounds
     }
 
     // The word of the point so far behind base.
@@ -134,45 +110,4 @@ impl PackedRuns {
         cut(self.list(time.list()), want, found, spare)?;
         Ok(())
     }
-}
-
-// A stretch, and whether it holds for some points alone.
-#[derive(Clone, Copy, Debug)]
-pub(crate) struct Bounds {
-    from: u32,
-    to: u32,
-    many: bool,
-}
-
-// The part of the stretch at which a point has a cell that is wanted, if its word tells.
-fn narrowed(bounds: Bounds, time: Time, want: Want, nodes: u32) -> Bounds
-    ensures { IsNarrowed bounds time want nodes result }
-{
-    if time.is_many() {
-        return Bounds {
-            from: bounds.from,
-            to: bounds.to,
-            many: true,
-        };
-    }
-    let first = u32::from(time.first());
-    Bounds {
-        from: later(bounds.from, first, want.empty),
-        to: sooner(bounds.to, first, want.allows(time.stone())),
-        many: bounds.many,
-    }
-}
-
-// The later one of two nodes, or the first one where the other doesn't matter.
-fn later(from: u32, first: u32, any: bool) -> u32
-    ensures { (n : ℕ) → (result ≤ n) ↔ ((from ≤ n) × (IsTrue any ⊎ (first ≤ n))) }
-{
-    if any || first <= from { from } else { first }
-}
-
-// The earlier one of two nodes, or the first one where the other doesn't matter.
-fn sooner(to: u32, first: u32, any: bool) -> u32
-    ensures { (n : ℕ) → (n < result) ↔ ((n < to) × (IsTrue any ⊎ (n < first))) }
-{
-    if any || to <= first { to } else { first }
 }

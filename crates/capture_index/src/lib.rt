@@ -5,13 +5,14 @@
 #![tactic(auto)]
 
 mod begins;
+mod bounds;
 mod branches;
 mod building;
 mod cutting;
 mod finding;
 mod growing;
+mod hull;
 mod laws;
-mod never_met;
 mod node_cells;
 mod nodes_where;
 mod packed_runs;
