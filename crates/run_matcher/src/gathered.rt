@@ -20,8 +20,8 @@ ghost use Rattle.capture_index.specs.Stretches.{AreApart, BeginsIn};
 ghost use Rattle.run_matcher.specs.PlacementOccurrences.{IsOccurrenceOf};
 ghost use Rattle.run_matcher.specs.SoughtPlacements.{IsSought};
 
-use crate::{Buffers, Sought};
 use crate::keys::{occurrences, push_keys};
+use crate::{Buffers, Sought};
 use capture_index::{RunIndex, Stretch};
 use kb_geometry::NoMemory;
 use line_matcher::Occurrence;

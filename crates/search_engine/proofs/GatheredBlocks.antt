@@ -1,5 +1,5 @@
 -- The occurrences in the games of a block, one shape of boards after another.
-use Rattle.std.proofs.Common.{◌≡◌, ◌≢◌, ℕ, inl, inr, ◌+◌, ◌<◌, ◌≤◌, ◌↔◌, ◌⊎◌, List, [], None, Some, Contains, get_or, length, map, sym, ap, ◌∙◌, subst, arith}
+use Rattle.std.proofs.Common.{◌≡◌, ◌≢◌, ℕ, inl, inr, ◌+◌, ◌<◌, ◌≤◌, ◌↔◌, ◌⊎◌, List, [], ◌++◌, None, Some, Contains, get_or, length, map, sym, ap, ◌∙◌, subst, arith}
 use Rattle.std.specs.Int.{bit_at}
 use Rattle.std.specs.List.{slice_get}
 use Rattle.std.proofs.lemmas.Bool.{cases_eq, cases_lt}
@@ -11,7 +11,7 @@ use Rattle.game_tree.specs.Tree.{Tree}
 use Rattle.capture_board.specs.Deltas.{Deltas}
 use Rattle.node_position.specs.Games.{AreNodeChanges, Game}
 use Rattle.pattern_images.specs.declared.query.Query.{Query}
-use Rattle.pattern_images.specs.ImageList.{IsPlacedOn, no_placement, placement_at}
+use Rattle.pattern_images.specs.ImageList.{ImageList, IsPlacedOn, no_placement, placement_at}
 use Rattle.pattern_images.specs.Placements.{ArePlacements, Placement}
 use Rattle.pattern_images.proofs.OneList.{one_list}
 use Rattle.pattern_images.proofs.PlacedOn.{IsPlacedOn-result}
@@ -21,7 +21,7 @@ use Rattle.line_matcher.specs.Occurrences.{occurrences_in}
 use Rattle.line_matcher.proofs.OccurrenceLaw.{occurrences-are}
 use Rattle.final_index.specs.Planes.{PlaneGames}
 use Rattle.candidate_sieve.specs.declared.candidates.Candidate.{Candidate}
-use Rattle.candidate_sieve.specs.Candidates.{AreCandidates, IsPossibleIn, MeetsCells}
+use Rattle.candidate_sieve.specs.Candidates.{AreCandidates, AreCandidatesAdded, IsPossibleIn, MeetsCells}
 use Rattle.candidate_sieve.proofs.CellsTold.{holds-were}
 use Rattle.run_matcher.specs.PlacementOccurrences.{IsOccurrenceOf}
 use Rattle.segment_store.specs.Planes.{ArePlanesOf, ArePlanesOn, IsGameOfPlanes}
@@ -33,6 +33,12 @@ use Rattle.search_engine.proofs.GatheredLists.{AreGathered-as, AreGathered-more,
 use Rattle.search_engine.proofs.Gathering.{begins-occurs, occurs-begins}
 use Rattle.search_engine.proofs.PossibleGames.{not_none, on_shape_where_there, possible_where_allowed}
 
+-- candidates that are added to none are all
+pub only_candidates : (p : PlaneGames) (asked : ℕ) (sieved images : ImageList) (old new found : List Candidate) → sieved ≡ images → old ≡ [] → found ≡ new → AreCandidatesAdded p sieved.placements asked old new → AreCandidates p images.placements asked found
+only_candidates p asked sieved images old new found same none read added =
+    let is : found ≡ added.more = read ∙ added.added ∙ ap (λ (cs : List Candidate). cs ++ added.more) none in
+    subst (λ (i : ImageList). AreCandidates p i.placements asked found) same (subst (λ (cs : List Candidate). AreCandidates p sieved.placements asked cs) (sym is) added.are)
+
 -- ---- the games on boards of one shape
 
 module _ (query : Query) (games : List Game) (few : length games ≤ 64) (asked : ℕ) (p : PlaneGames) (on : ArePlanesOn games p) (placements : List Placement) (are : ArePlacements query p.shape placements) (found : List Candidate) (exact : AreCandidates p placements asked found) where
@@ -40,7 +46,7 @@ module _ (query : Query) (games : List Game) (few : length games ≤ 64) (asked 
   told : (g : ℕ) (game : Game) → slice_get games g ≡ Some game → IsGameOfPlanes p.shape game.tree (get_or p.games g None)
   told g game there = subst (λ (h : Game). IsGameOfPlanes p.shape h.tree (get_or p.games g None)) (get_or_from_slice_get games g game game there) (on.1 g game (slice_get_within games g game there))
 
-  in_list : (c : Candidate) → Contains found c → c.placement < length placements
+  pub in_list : (c : Candidate) → Contains found c → c.placement < length placements
   in_list c there = All-contains (λ (d : Candidate). d.placement < length placements) found c exact.in_range there
 
   -- the sets of a game meet the placement of a candidate that has a bit for it
@@ -99,7 +105,7 @@ module _ (query : Query) (games : List Game) (few : length games ≤ 64) (asked 
 
 -- where the query doesn't look on boards of the shape nothing is added
 pub not_on_shape : (query : Query) (shapes : List Shape) (games : List Game) (asked : ℕ) (shape : Shape) (lists : List (List Occurrence)) → ¬ Contains shapes shape → AreGathered games (IsOnShape query shapes asked shape) lists lists
-not_on_shape query shapes games asked shape lists none = AreGathered-none games (IsOnShape query shapes asked shape) lists (λ g tree changes o h. none (subst (Contains shapes) h.1 h.2.0))
+not_on_shape query shapes games asked shape lists none = AreGathered-none games (IsOnShape query shapes asked shape) lists (λ g tree changes o h. none (subst (Contains shapes) h.1 h.2))
 
 -- ---- one shape after another
 
@@ -107,7 +113,7 @@ module _ (query : Query) (shapes : List Shape) (games : List Game) (asked : ℕ)
   pub on_planes-start : (lists : List (List Occurrence)) → ((g : ℕ) → gathered_of lists g ≡ []) → AreGathered games (IsOnPlanes query shapes asked planes 0) [] lists
   on_planes-start lists none g game there changes of o = (
     λ h. absurd (omega (arith, h.1, ap length (none g))),
-    λ h. elim h [ inl before ↦ absurd (omega (arith, before.1)) | inr is ↦ absurd (omega (arith, is.2.0)) ],
+    λ h. elim h [ inl before ↦ absurd (omega (arith, before.1)) | inr is ↦ absurd (omega (arith, is.2)) ],
   )
 
   pub on_planes-more : (k : ℕ) (p : PlaneGames) (mid new : List (List Occurrence)) → k < length planes → p ≡ get_or planes k p → AreGathered games (IsOnPlanes query shapes asked planes k) [] mid → AreGathered games (IsOnShape query shapes asked p.shape) mid new → AreGathered games (IsOnPlanes query shapes asked planes (k + 1)) [] new

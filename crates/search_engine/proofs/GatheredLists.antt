@@ -3,7 +3,7 @@ use Rattle.std.proofs.Common.{◌≡◌, ◌≢◌, ℕ, inl, inr, ◌+◌, ◌<
 use Rattle.std.specs.Int.{bit_at}
 use Rattle.std.specs.List.{slice_get}
 use Rattle.std.proofs.lemmas.Bool.{cases_eq, cases_lt}
-use Rattle.std.proofs.lemmas.List.{get_or-set_other, get_or-set_same}
+use Rattle.std.proofs.lemmas.List.{get_or-set_other, get_or-set_same, get_or_default}
 use Rattle.std.proofs.lemmas.Option.{slice_get_within}
 use Rattle.game_tree.specs.Tree.{Tree}
 use Rattle.capture_board.specs.Deltas.{Deltas}
@@ -15,6 +15,26 @@ use Rattle.run_matcher.specs.PlacementOccurrences.{IsOccurrenceOf}
 use Rattle.search_engine.specs.BlockCandidates.{IsNextBit, candidate_at}
 use Rattle.search_engine.specs.Gathering.{AreGathered, IsOfCandidate, IsOfCandidates, gathered_of}
 use Rattle.search_engine.proofs.GamesSearched.{same_game}
+
+-- ---- one list changes
+
+module _ (lists : List (List Occurrence)) (at : ℕ) (one : List Occurrence) where
+  pub gathered-set_same : at < length lists → gathered_of (slice_set lists at one) at ≡ one
+  gathered-set_same lt = get_or-set_same lists at one [] lt
+
+  pub gathered-set_other : (g : ℕ) → g ≢ at → gathered_of (slice_set lists at one) g ≡ gathered_of lists g
+  gathered-set_other g other = get_or-set_other lists at g one [] other
+
+  pub gathered-read : at < length lists → one ≡ get_or lists at one → one ≡ gathered_of lists at
+  gathered-read lt is = is ∙ get_or_default lists at one [] lt
+
+-- the list of one game gains what its new list has more
+pub gains : (lists seen : List (List Occurrence)) (at : ℕ) (old new : List Occurrence) (more : Occurrence → Type 0) → lists ≡ seen → at < length lists → old ≡ get_or lists at old → ((o : Occurrence) → Contains new o ↔ (Contains old o ⊎ more o))
+    → (o : Occurrence) → Contains (gathered_of (slice_set lists at new) at) o ↔ (Contains (gathered_of seen at) o ⊎ more o)
+gains lists seen at old new more shown lt is added o =
+    let here = gathered-set_same lists at new lt in
+    let before : old ≡ gathered_of seen at = gathered-read lists at old lt is ∙ ap (λ (ls : List (List Occurrence)). gathered_of ls at) shown in
+    subst (λ (os : List Occurrence). Contains os o ↔ (Contains (gathered_of seen at) o ⊎ more o)) (sym here) (subst (λ (os : List Occurrence). Contains new o ↔ (Contains os o ⊎ more o)) before (added o))
 
 -- ---- what is added
 

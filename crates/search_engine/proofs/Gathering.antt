@@ -78,7 +78,7 @@ module _ (query : Query) (filter : Filter) (shapes : List Shape) (game : tree.Tr
   -- the list has the occurrences of a game that was asked for
   pub has_exactly : Accepts filter game.info → Contains shapes game.shape → (placements : List Placement) → ArePlacements query game.shape placements → (o : Occurrence) → Contains gathered o ↔ Contains (occurrences_in changes placements) o
   has_exactly accepts there placements are o = (
-    λ h. ((has changes of o).0 h).2.1 placements are,
+    λ h. ((has changes of o).0 h).2 placements are,
     λ h. (has changes of o).1 (accepts, there, λ ps too. subst (λ (qs : List Placement). Contains (occurrences_in changes qs) o) (one_list query game.shape placements ps are too) h),
   )
 

@@ -32,7 +32,7 @@ add_on_its_board-requires-clause-occurrences c = λ changes placements of are.
     let gathered = gathered_of c.args.gathered.now c.args.at in
     let has = c.requires.gathered c.get-game.result.now c.get-game.ensures in
     let asked = asked_with_some query c.args.filter.now c.args.matchers.now.shapes tree gathered has c.deltas-changes.result.now c.deltas-changes.ensures c.is_empty.result c.is_empty.ensures c.if-is_empty.false in
-    c.deref.ensures.value ∙ c.in_ok-sorted.ensures.list changes placements (has_exactly query c.args.filter.now c.args.matchers.now.shapes tree gathered has changes of asked.0 asked.1 placements are)
+    c.deref.ensures.value ∙ c.in_ok-found.ensures.list changes placements (has_exactly query c.args.filter.now c.args.matchers.now.shapes tree gathered has changes of asked.0 asked.1 placements are)
 
 pub returns-clause-hits : goal.returns-clause-hits
 returns-clause-hits c = λ game at covered.
