@@ -14,15 +14,18 @@ use Rattle.line_matcher.specs.Occurrences.{HoldsAt, begins_at, holds_at, occurre
 use Rattle.line_matcher.proofs.HoldsLaw.{holds-decides}
 use Rattle.line_matcher.proofs.OccurrenceLaw.{occurrences-are}
 use Rattle.capture_index.specs.declared.stretch.Want.{Want}
-use Rattle.capture_index.specs.NodePositions.{NodePositions, positions_of}
-use Rattle.capture_index.specs.Stretches.{AreWantedAt}
+use Rattle.capture_index.specs.NodePositions.{NodePositions, count_in, positions_of}
+use Rattle.capture_index.specs.Stretches.{AreApart, AreWantedAt, BeginsIn, IsIn}
+use Rattle.capture_index.specs.declared.stretch.Stretch.{Stretch}
 use Rattle.capture_index.specs.Wants.{AreWantsOf, ClassesOn, base_of}
 use Rattle.capture_index.proofs.WantsOfPlacements.{parent_seen-at, wanted-holds}
-use Rattle.run_matcher.specs.Begins.{BeginAt, HaveBegun}
+use Rattle.run_matcher.specs.Begins.{BeginAt}
 use Rattle.run_matcher.specs.Keys.{key_of, occurrences_of}
 use Rattle.run_matcher.specs.Matchers.{IsMatcherOf}
 use Rattle.run_matcher.specs.PlacementOccurrences.{IsOccurrenceBelow, IsOccurrenceOf}
-use Rattle.run_matcher.proofs.BegunNodes.{count-seen}
+use Rattle.run_matcher.specs.SoughtPlacements.{IsSought}
+use Rattle.run_matcher.specs.declared.sought.Sought.{Sought}
+use Rattle.run_matcher.proofs.BegunNodes.{AreParentsThere, begun, count-seen, parents-there}
 use Rattle.run_matcher.proofs.KeyLists.{keys-added}
 
 -- ---- what the test of a placement tells
@@ -86,27 +89,54 @@ module _ (deltas : Deltas) (are : AreDeltas deltas) (placement : Placement) (pla
 
 -- ---- what is gathered
 
--- one placement more
-pub gathered-more : (shape : Shape) (seen' : NodePositions) (placements : List Placement) (i from : ℕ) (wants : List Want) (nodes old new : List ℕ) (before : List Occurrence) → shape ≡ seen'.shape → i < 65536 → IsPlacedOn shape (placement_at placements i) → AreWantsOf shape (placement_at placements i).grid wants →
-    from ≡ base_of shape (placement_at placements i) → HaveBegun seen' from wants nodes → new ≡ old ++ map (key_of i) nodes → occurrences_of old ≡ before →
-    (deltas : Deltas) → AreDeltas deltas → seen' ≡ positions_of deltas → (o : Occurrence) → Contains (occurrences_of new) o ↔ (Contains before o ⊎ IsOccurrenceOf deltas placements i o)
-gathered-more shape seen' placements i from wants nodes old new before on small placed are_wants at begun added shown deltas are is o =
-    let placement = placement_at placements i in
-    let same_shape : shape ≡ deltas.shape = on ∙ ap (λ (s : NodePositions). s.shape) is in
-    let told = begins-wanted deltas are placement (subst (λ s. IsPlacedOn s placement) same_shape placed) wants (subst (λ s. AreWantsOf s placement.grid wants) same_shape are_wants) o.node in
-    let here : from ≡ base_of deltas.shape placement = at ∙ ap (λ s. base_of s placement) same_shape in
-    let listed : Contains nodes o.node ↔ BeginAt (positions_of deltas) (base_of deltas.shape placement) wants o.node =
-    subst (λ (s : NodePositions). Contains nodes o.node ↔ BeginAt s (base_of deltas.shape placement) wants o.node) is (subst (λ (b : ℕ). Contains nodes o.node ↔ BeginAt seen' b wants o.node) here (begun deltas are is o.node)) in
+-- the keys of what begins in stretches
+pub begins-added : (seen' : NodePositions) (stretches : List Stretch) (i : ℕ) (nodes old new : List ℕ) (before : List Occurrence) → i < 65536 → ((x : ℕ) → Contains nodes x ↔ BeginsIn seen' stretches x) → new ≡ old ++ map (key_of i) nodes → occurrences_of old ≡ before →
+    (o : Occurrence) → Contains (occurrences_of new) o ↔ (Contains before o ⊎ ((o.placement ≡ i) × BeginsIn seen' stretches o.node))
+begins-added seen' stretches i nodes old new before small begun added shown o =
     let keys = keys-added i nodes old new small added o in (
       λ h. elim (keys.0 h) [
         | inl was ↦ inl (subst (λ (os : List Occurrence). Contains os o) shown was)
-        | inr (e, node) ↦ let begins = told.0 (listed.0 node) in inr (e, begins.0, begins.1)
+        | inr (e, node) ↦ inr (e, (begun o.node).0 node)
       ],
       λ h. keys.1 (elim h [
         | inl was ↦ inl (subst (λ (os : List Occurrence). Contains os o) (sym shown) was)
-        | inr (e, node, begins) ↦ inr (e, listed.1 (told.1 (node, begins)))
+        | inr (e, begins) ↦ inr (e, (begun o.node).1 begins)
       ]),
     )
+
+-- nothing begins where there is no stretch
+pub none-begins : (seen' : NodePositions) (stretches : List Stretch) (i : ℕ) (gathered : List Occurrence) → length stretches ≡ 0 → (o : Occurrence) → Contains gathered o ↔ (Contains gathered o ⊎ ((o.placement ≡ i) × BeginsIn seen' stretches o.node))
+none-begins seen' stretches i gathered empty o = (
+  λ h. inl h,
+  λ h. elim h [
+    | inl was ↦ was
+    | inr (e, begins) ↦ let inside = begins.inside in absurd (omega (arith, inside.2, empty))
+  ],
+)
+
+-- one placement more, which holds in these stretches
+module _ (seen' : NodePositions) (sought : Sought) (stretches : List Stretch) (on : sought.images.now.shape ≡ seen'.shape) (is_sought : IsSought sought) (apart : AreApart 0 (count_in seen') stretches)
+    (held : (n : ℕ) → n < count_in seen' → IsIn stretches n ↔ AreWantedAt seen' sought.base sought.wants.now n) where
+  pub gathered-more : (before after : List Occurrence) → ((o : Occurrence) → Contains after o ↔ (Contains before o ⊎ ((o.placement ≡ sought.number) × BeginsIn seen' stretches o.node))) →
+      (deltas : Deltas) → AreDeltas deltas → seen' ≡ positions_of deltas → (o : Occurrence) → Contains after o ↔ (Contains before o ⊎ IsOccurrenceOf deltas sought.images.now.placements sought.number o)
+  gathered-more before after added deltas are is o =
+      let placement = placement_at sought.images.now.placements sought.number in
+      let wants = sought.wants.now in
+      let same_shape : sought.images.now.shape ≡ deltas.shape = on ∙ ap (λ (s : NodePositions). s.shape) is in
+      let told = begins-wanted deltas are placement (subst (λ s. IsPlacedOn s placement) same_shape is_sought.placed) wants (subst (λ s. AreWantsOf s placement.grid wants) same_shape is_sought.wanted) o.node in
+      let here : sought.base ≡ base_of deltas.shape placement = is_sought.from ∙ ap (λ s. base_of s placement) same_shape in
+      let there = begun seen' stretches apart sought.base wants held (subst AreParentsThere (sym is) (parents-there deltas are)) o.node in
+      let at_base = subst (λ (b : ℕ). BeginsIn seen' stretches o.node ↔ BeginAt seen' b wants o.node) here there in
+      let begins : BeginsIn seen' stretches o.node ↔ BeginAt (positions_of deltas) (base_of deltas.shape placement) wants o.node = subst (λ (s : NodePositions). BeginsIn seen' stretches o.node ↔ BeginAt s (base_of deltas.shape placement) wants o.node) is at_base in (
+        λ h. elim ((added o).0 h) [
+          | inl was ↦ inl was
+          | inr (e, b) ↦ let at_node = told.0 (begins.0 b) in inr (e, at_node.0, at_node.1)
+        ],
+        λ h. (added o).1 (elim h [
+          | inl was ↦ inl was
+          | inr (e, node, t) ↦ inr (e, begins.1 (told.1 (node, t)))
+        ]),
+      )
 
 -- all placements: what is gathered is what occurs
 pub gathered-all : (deltas : Deltas) (placements : List Placement) (o : Occurrence) → IsOccurrenceBelow deltas placements (length placements) o ↔ Contains (occurrences_in deltas placements) o

@@ -1,8 +1,7 @@
 -- The nodes at which wanted cells begin to stand: words for the private functions.
-use Rattle.std.specs.Prelude.{ℕ, ◌<◌, ◌↔◌, IfSome, List, Contains, ◌≡◌}
-use Rattle.capture_board.specs.Deltas.{AreDeltas, Deltas}
+use Rattle.std.specs.Prelude.{ℕ, ◌<◌, IfSome, List}
 use Rattle.capture_index.specs.declared.stretch.Want.{Want}
-use Rattle.capture_index.specs.NodePositions.{NodePositions, count_in, parent_in, positions_of}
+use Rattle.capture_index.specs.NodePositions.{NodePositions, count_in, parent_in}
 use Rattle.capture_index.specs.Stretches.{AreWantedAt}
 
 -- at the node each want is met, and it is the root or some want isn't met at its parent
@@ -10,10 +9,3 @@ pub record BeginAt (seen : NodePositions) (base : ℕ) (wants : List Want) (n : 
   pub in_range : n < count_in seen
   pub here : AreWantedAt seen base wants n
   pub before : IfSome (parent_in seen n) (λ m. ¬ AreWantedAt seen base wants m)
-
--- if these are the nodes of a game, then the list has exactly those at which the wants begin to be
--- met
-abbrev pub HaveBegun : NodePositions → ℕ → List Want → List ℕ → Type 0
-HaveBegun seen base wants nodes =
-    (deltas : Deltas) → AreDeltas deltas → seen ≡ positions_of deltas → (n : ℕ) →
-    Contains nodes n ↔ BeginAt seen base wants n

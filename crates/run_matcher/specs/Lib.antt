@@ -1,5 +1,6 @@
 -- Words that contracts of public functions rest on.
 pub mod PlacementOccurrences
+pub mod SoughtPlacements
 -- Words of private functions.
 pub mod Begins
 pub mod Keys

@@ -1,16 +1,28 @@
 // Occurrences of one game while they are gathered.
-ghost use Rattle.std.specs.Prelude.{◌≡◌, ◌<◌, ◌↔◌, ◌⊎◌, [], Contains, IfOk, List, OnOk, length};
+ghost use Rattle.std.specs.Prelude.{
+  ◌≡◌,
+  ◌<◌,
+  ◌↔◌,
+  ◌⊎◌,
+  [],
+  Contains,
+  IfOk,
+  IsTrue,
+  List,
+  OnOk,
+};
 ghost use Rattle.capture_board.specs.Deltas.{AreDeltas, Deltas};
 ghost use Rattle.pattern_images.specs.Placements.{Placement};
 ghost use Rattle.line_matcher.specs.declared.occurrence.Occurrence.{Occurrence};
 ghost use Rattle.line_matcher.specs.Occurrences.{occurrences_in};
-ghost use Rattle.capture_index.specs.NodePositions.{positions_of};
+ghost use Rattle.capture_index.specs.NodePositions.{count_in, positions_of};
+ghost use Rattle.capture_index.specs.Stretches.{AreApart, BeginsIn};
 ghost use Rattle.run_matcher.specs.PlacementOccurrences.{IsOccurrenceOf};
+ghost use Rattle.run_matcher.specs.SoughtPlacements.{IsSought};
 
-use crate::RunMatcher;
-use crate::buffers::Buffers;
 use crate::keys::{occurrences, push_keys};
-use capture_index::RunIndex;
+use crate::{Buffers, Sought};
+use capture_index::{RunIndex, Stretch};
 use kb_geometry::NoMemory;
 use line_matcher::Occurrence;
 use std::alloc::Global;
@@ -25,7 +37,6 @@ use std::marker::Model;
 pub struct Gathered {
     // A number for each occurrence.
     keys: Vec<u32>,
-    buffers: Buffers,
 }
 
 impl Model for Gathered {
@@ -45,7 +56,6 @@ impl Gathered {
     {
         Gathered {
             keys: Vec::new(alloc),
-            buffers: Buffers::new(alloc),
         }
     }
 
@@ -56,25 +66,60 @@ impl Gathered {
         self.keys.clear();
     }
 
+    /// Whether no occurrence was gathered.
+    pub fn is_empty(&self) -> bool
+        ensures { IsTrue result ↔ (self.now ≡ []) }
+    {
+        self.keys.is_empty()
+    }
+
     /// Adds the occurrences of a placement: the nodes at which it begins to hold. The runs are
-    /// those of a game on a board of the images' shape. The only error is `NoMemory`.
+    /// those of a game on a board of the images' shape. What is in the buffers doesn't count. The
+    /// only error is `NoMemory`.
     pub fn add(
         &mut self,
         runs: &RunIndex,
-        matcher: &RunMatcher,
-        placement: usize,
+        sought: &Sought,
+        buffers: &mut Buffers,
     ) -> Result<(), NoMemory>
-        requires shape { matcher.now.images.now.shape ≡ runs.now.shape }
-        requires placement { placement < length matcher.now.images.now.placements }
+        requires shape { sought.now.images.now.shape ≡ runs.now.shape }
+        requires sought { IsSought sought.now }
         ensures { OnOk result ((deltas : Deltas) → AreDeltas deltas →
             runs.now ≡ positions_of deltas → (o : Occurrence) → Contains self.new o
-            ↔ (Contains self.old o
-            ⊎ IsOccurrenceOf deltas matcher.now.images.now.placements placement o)) }
+            ↔ (Contains self.old o ⊎ IsOccurrenceOf deltas sought.now.images.now.placements
+            sought.now.number o)) }
     {
-        let _few = matcher.len();
-        let base = matcher.base(placement);
-        self.buffers.find(runs, base, matcher.wants_of(placement))?;
-        push_keys(&self.buffers.nodes, placement as u32, &mut self.keys)?;
+        runs.find(
+            sought.base,
+            sought.wants,
+            &mut buffers.found,
+            &mut buffers.spare,
+        )?;
+        if buffers.found.is_empty() {
+            return Ok(());
+        }
+        self.add_begins(runs, &buffers.found, sought.number, &mut buffers.nodes)?;
+        Ok(())
+    }
+
+    // Adds the occurrences of the placement with this number, which holds in these stretches of
+    // nodes: those at which it begins to.
+    fn add_begins(
+        &mut self,
+        runs: &RunIndex,
+        stretches: &[Stretch],
+        placement: u32,
+        nodes: &mut Vec<u32>,
+    ) -> Result<(), NoMemory>
+        requires apart { AreApart 0 (count_in runs.now) stretches.now }
+        requires placement { placement < 65536 }
+        ensures { OnOk result ((o : Occurrence) → Contains self.new o ↔ (Contains self.old o
+            ⊎ ((o.placement ≡ placement) × BeginsIn runs.now stretches.now o.node))) }
+    {
+        let _few = runs.node_count();
+        nodes.clear();
+        runs.push_begins(stretches, nodes)?;
+        push_keys(nodes, placement, &mut self.keys)?;
         Ok(())
     }
 

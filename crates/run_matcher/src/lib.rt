@@ -10,9 +10,12 @@ mod gathered;
 mod keys;
 mod matching;
 mod run_matcher;
+mod sought;
 #[cfg(test)]
 mod tests;
 
+pub use buffers::Buffers;
 pub use gathered::Gathered;
 pub use matching::match_runs;
 pub use run_matcher::RunMatcher;
+pub use sought::Sought;

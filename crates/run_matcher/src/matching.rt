@@ -4,7 +4,7 @@ ghost use Rattle.capture_board.specs.Deltas.{AreDeltas, Deltas};
 ghost use Rattle.line_matcher.specs.Occurrences.{occurrences_in};
 ghost use Rattle.capture_index.specs.NodePositions.{positions_of};
 
-use crate::{Gathered, RunMatcher};
+use crate::{Buffers, Gathered, RunMatcher};
 use capture_index::RunIndex;
 use kb_geometry::NoMemory;
 use line_matcher::Occurrence;
@@ -25,8 +25,9 @@ pub fn match_runs(
         found.items ≡ occurrences_in deltas matcher.now.images.now.placements) }
 {
     let mut gathered = Gathered::new(alloc);
+    let mut buffers = Buffers::new(alloc);
     for placement in 0..matcher.len() {
-        gathered.add(runs, matcher, placement)?;
+        gathered.add(runs, &matcher.sought(placement), &mut buffers)?;
     }
     Ok(gathered.sorted(alloc)?)
 }

@@ -5,7 +5,9 @@ ghost use Rattle.capture_index.specs.declared.stretch.Want.{Want};
 ghost use Rattle.capture_index.specs.Wants.{AreWantsOf, base_of};
 ghost use Rattle.pattern_images.specs.ImageList.{IsPlacedOn, placement_at};
 ghost use Rattle.run_matcher.specs.Matchers.{HaveBasesTo, IsMatcherOf};
+ghost use Rattle.run_matcher.specs.SoughtPlacements.{IsSought};
 
+use crate::Sought;
 use capture_index::{Want, Wants};
 use kb_geometry::{NoMemory, Point};
 use pattern_images::{Images, Place};
@@ -55,8 +57,24 @@ impl<'a> RunMatcher<'a> {
         self.bases.len()
     }
 
+    /// A placement, made ready to be looked for.
+    pub fn sought(&self, placement: usize) -> Sought<'_>
+        requires { placement < length self.now.images.now.placements }
+        ensures images { result.images.now ≡ self.now.images.now }
+        ensures number { result.number ≡ placement }
+        ensures is { IsSought result }
+    {
+        let _few = self.len();
+        Sought {
+            images: self.images,
+            wants: self.wants_of(placement),
+            number: placement as u32,
+            base: self.base(placement),
+        }
+    }
+
     // The number of the upper left point of a placement.
-    pub(crate) fn base(&self, placement: usize) -> u16
+    fn base(&self, placement: usize) -> u16
         requires { placement < length self.now.images.now.placements }
         ensures { result ≡ base_of self.now.images.now.shape
             (placement_at self.now.images.now.placements placement) }
@@ -65,7 +83,7 @@ impl<'a> RunMatcher<'a> {
     }
 
     // What a placement asks of points.
-    pub(crate) fn wants_of(&self, placement: usize) -> &[Want]
+    fn wants_of(&self, placement: usize) -> &[Want]
         requires { placement < length self.now.images.now.placements }
         ensures placed { IsPlacedOn self.now.images.now.shape
             (placement_at self.now.images.now.placements placement) }

@@ -17,16 +17,14 @@ use Rattle.pattern_images.specs.ImageList.{IsPlacedOn, no_placement, placement_a
 use Rattle.pattern_images.specs.Placements.{ArePlacements, Placement}
 use Rattle.pattern_images.proofs.OneList.{one_list}
 use Rattle.pattern_images.proofs.PlacedOn.{IsPlacedOn-result}
-use Rattle.info_filter.specs.declared.filter.Filter.{Filter}
 use Rattle.final_index.specs.Planes.{PlaneGames}
 use Rattle.candidate_sieve.specs.declared.candidates.Candidate.{Candidate}
 use Rattle.candidate_sieve.specs.Candidates.{AreCandidatesAdded}
 use Rattle.candidate_sieve.specs.Candidates.{IsPossibleIn, MeetsCells}
 use Rattle.candidate_sieve.specs.Kept.{WereAllowed}
-use Rattle.candidate_sieve.proofs.CellsTold.{holds-were}
 use Rattle.segment_store.specs.Planes.{ArePlanesOf, ArePlanesOn, IsGameOfPlanes}
-use Rattle.search_engine.specs.BlockCandidates.{AreAccepted, AreAddedOn, AreAllowed, AreCandidatesOf, AreComplete, AreCompleteFor, AreInRange, IsCandidate}
-use Rattle.search_engine.specs.Searching.{AreCovered, IsCovered}
+use Rattle.search_engine.specs.BlockCandidates.{AreAddedOn, AreAllowed, AreInRange, IsCandidate}
+use Rattle.search_engine.specs.Searching.{IsCovered}
 use Rattle.search_engine.proofs.PossibleGames.{allowed_where_possible, not_none, on_shape_where_there, possible_where_allowed}
 
 -- ---- more candidates
@@ -38,7 +36,7 @@ Any-behind : {X : Type 0} (P : X → Type 0) (xs ys : List X) → Any P ys → A
 Any-behind P xs ys (k, x, lt, at, p) = (length xs + k, x, omega (arith, lt, length-append xs ys), get_or-append-add xs ys k x ∙ at, p)
 
 -- a candidate that is contained is one of its game
-candidate_is : (found : List Candidate) (c : Candidate) (g : ℕ) → Contains found c → bit_at c.games g ≡ 1 → IsCandidate found g c.placement
+pub candidate_is : (found : List Candidate) (c : Candidate) (g : ℕ) → Contains found c → bit_at c.games g ≡ 1 → IsCandidate found g c.placement
 candidate_is found c g (k, lt, at) bit = (k, c, lt, at, (refl, bit))
 
 -- ---- what is added for one shape
@@ -85,14 +83,12 @@ module _ (query : Query) (shapes : List Shape) (games : List Game) (asked : ℕ)
   -- what is found for the first so many planes
   pub record AreFoundTo (planes : List PlaneGames) (k : ℕ) (found : List Candidate) : Type 0 where
     pub in_range : AreInRange query games (IsCandidate found)
-    pub asked_for : (c : Candidate) (g : ℕ) → Contains found c → g < 64 → bit_at c.games g ≡ 1 → bit_at asked g ≡ 1
     pub sound : (g : ℕ) (game : Game) → slice_get games g ≡ Some game → (changes : Deltas) (ps : List Placement) → AreNodeChanges game.tree changes → 0 < node_count changes → ArePlacements query game.tree.shape ps → (i : ℕ) → IsCandidate found g i → WereAllowed changes (placement_at ps i)
     pub complete : (j g : ℕ) (d : PlaneGames) (game : Game) → IsCovered query shapes game.tree.shape → j < k → slice_get games g ≡ Some game → bit_at asked g ≡ 1 → (get_or planes j d).shape ≡ game.tree.shape → AreAllFor game.tree (IsCandidate found g)
 
   pub AreFoundTo-start : (planes : List PlaneGames) (found : List Candidate) → found ≡ [] → AreFoundTo planes 0 found
   AreFoundTo-start planes found none = subst (AreFoundTo planes 0) (sym none) (record {
     in_range = λ g game at ps are i (k, c, lt, place, is). absurd (omega (arith, lt));
-    asked_for = λ c g (k, lt, is) below bit. absurd (omega (arith, lt));
     sound = λ g game at changes ps of some are i (k, c, lt, place, is). absurd (omega (arith, lt));
     complete = λ j g d game covered lt. absurd (omega (arith, lt));
   })
@@ -113,12 +109,6 @@ module _ (query : Query) (shapes : List Shape) (games : List Game) (asked : ℕ)
     in_range g game there ps are i (n, c, lt, place, is) = elim (Contains-append_cases old added.more c (n, lt, place)) [
       | inl before ↦ so_far.in_range g game there ps are i (subst (IsCandidate old g) is.0 (candidate_is old c g before is.1))
       | inr here ↦ subst (λ (m : ℕ). m < length ps) is.0 (added.in_range ps (subst (λ (s : Shape). ArePlacements query s ps) (on_shape g game there c here is.1) are) c here)
-    ]
-
-    asked_for : (c : Candidate) (g : ℕ) → Contains (old ++ added.more) c → g < 64 → bit_at c.games g ≡ 1 → bit_at asked g ≡ 1
-    asked_for c g is_in below bit = elim (Contains-append_cases old added.more c is_in) [
-      | inl before ↦ so_far.asked_for c g before below bit
-      | inr here ↦ (added.there c g here below bit).0
     ]
 
     sound : (g : ℕ) (game : Game) → slice_get games g ≡ Some game → (changes : Deltas) (ps : List Placement) → AreNodeChanges game.tree changes → 0 < node_count changes → ArePlacements query game.tree.shape ps → (i : ℕ) → IsCandidate (old ++ added.more) g i → WereAllowed changes (placement_at ps i)
@@ -148,13 +138,10 @@ module _ (query : Query) (shapes : List Shape) (games : List Game) (asked : ℕ)
     ]
 
     pub AreFoundTo-more : AreFoundTo planes (k + 1) new
-    AreFoundTo-more = subst (AreFoundTo planes (k + 1)) (sym added.added) (record { in_range = in_range; asked_for = asked_for; sound = sound; complete = complete })
+    AreFoundTo-more = subst (AreFoundTo planes (k + 1)) (sym added.added) (record { in_range = in_range; sound = sound; complete = complete })
 
   -- all planes of the block
   module _ (few : length games ≤ 64) (planes : List PlaneGames) (k : ℕ) (found : List Candidate) (le : length planes ≤ k) (are : ArePlanesOf games planes) (so_far : AreFoundTo planes k found) where
-    asked_within : (g : ℕ) (game : Game) → slice_get games g ≡ Some game → (i : ℕ) → IsCandidate found g i → bit_at asked g ≡ 1
-    asked_within g game there i (n, c, lt, place, is) = so_far.asked_for c g (n, lt, place) (omega (arith, few, slice_get_within games g game there)) is.1
-
     all_for : (g : ℕ) (game : Game) → slice_get games g ≡ Some game → bit_at asked g ≡ 1 → IsCovered query shapes game.tree.shape → AreAllFor game.tree (IsCandidate found g)
     all_for g game there bit covered =
         let within = slice_get_within games g game there in
@@ -166,19 +153,5 @@ module _ (query : Query) (shapes : List Shape) (games : List Game) (asked : ℕ)
         so_far.complete j g none game covered (omega (arith, inside, le)) there bit
         (sym (get_or-map (λ (q : PlaneGames). q.shape) planes j none game.tree.shape inside) ∙ at)
 
-    complete_all : (g : ℕ) (game : Game) → slice_get games g ≡ Some game → bit_at asked g ≡ 1 → IsCovered query shapes game.tree.shape → AreCompleteFor query game.tree (IsCandidate found g)
-    complete_all g game there bit covered changes ps of are i n in_list node holds = all_for g game there bit covered changes ps of are i in_list (holds-were changes (placement_at ps i) n node holds)
-
     pub AreAllowed-all : AreAllowed query shapes games asked (IsCandidate found)
     AreAllowed-all g game there bit covered changes ps of some are i in_list = (so_far.sound g game there changes ps of some are i, all_for g game there bit covered changes ps of are i in_list)
-
-    pub AreComplete-all : AreComplete query shapes games (IsCandidate found)
-    AreComplete-all g game there i may shape_there = complete_all g game there (asked_within g game there i may) (λ looks. shape_there)
-
-    pub AreCandidatesOf-all : (filter : Filter) → AreAccepted filter games asked → AreCovered query shapes games → AreCandidatesOf query filter games (IsCandidate found)
-    AreCandidatesOf-all filter accepted covered g game there = record {
-      accepted = λ i may. (accepted g game there).0 (asked_within g game there i may);
-      complete = λ accepts.
-          let covers = subst (λ (h : Game). IsCovered query shapes h.tree.shape) (get_or_from_slice_get games g game game there) (covered g game (slice_get_within games g game there)) in
-          complete_all g game there ((accepted g game there).1 accepts) covers;
-    }

@@ -4,6 +4,8 @@ mod FoundCandidates
 mod GameBits
 mod GameHits
 mod GamesSearched
+mod GatheredBlocks
+mod GatheredLists
 mod ImagesOnShapes
 mod ItemLists
 mod ListedPlacements

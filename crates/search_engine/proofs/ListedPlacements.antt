@@ -7,9 +7,8 @@ use Rattle.std.proofs.lemmas.Option.{slice_get_within}
 use Rattle.kb_geometry.specs.declared.shape.Shape.{Shape}
 use Rattle.node_position.specs.Games.{Game}
 use Rattle.pattern_images.specs.declared.query.Query.{Query}
-use Rattle.info_filter.specs.declared.filter.Filter.{Filter}
 use Rattle.candidate_sieve.specs.declared.candidates.Candidate.{Candidate}
-use Rattle.search_engine.specs.BlockCandidates.{AreAllowed, AreByGame, AreCandidatesOf, AreComplete, AreCompleteFor, AreInRange, IsAmong, IsCandidate, IsListed, candidate_at, no_candidate}
+use Rattle.search_engine.specs.BlockCandidates.{AreAllowed, AreByGame, AreInRange, IsAmong, IsCandidate, IsListed, candidate_at, no_candidate}
 
 among_all : (found : List Candidate) (g i : ℕ) → IsAmong found (length found) g i ↔ IsCandidate found g i
 among_all found g i = (
@@ -27,20 +26,8 @@ module _ (query : Query) (games : List Game) (few : length games ≤ 64) (found 
         λ is. (by_game g i below).1 ((among_all found g i).1 is),
       )
 
-  complete_for : (g : ℕ) (game : Game) → slice_get games g ≡ Some game → AreCompleteFor query game.tree (IsCandidate found g) → AreCompleteFor query game.tree (IsListed lists g)
-  complete_for g game there complete changes placements of are i n in_list node holds = (is_listed g game there i).1 (complete changes placements of are i n in_list node holds)
-
   pub in_range-listed : AreInRange query games (IsCandidate found) → AreInRange query games (IsListed lists)
   in_range-listed in_range g game there placements are i listed = in_range g game there placements are i ((is_listed g game there i).0 listed)
-
-  pub complete-listed : (shapes : List Shape) → AreComplete query shapes games (IsCandidate found) → AreComplete query shapes games (IsListed lists)
-  complete-listed shapes complete g game there i listed shape = complete_for g game there (complete g game there i ((is_listed g game there i).0 listed) shape)
-
-  pub candidates-listed : (filter : Filter) → AreCandidatesOf query filter games (IsCandidate found) → AreCandidatesOf query filter games (IsListed lists)
-  candidates-listed filter are g game there = record {
-    accepted = λ i listed. (are g game there).accepted i ((is_listed g game there i).0 listed);
-    complete = λ accepts. complete_for g game there ((are g game there).complete accepts);
-  }
 
   pub allowed-listed : (shapes : List Shape) (asked : ℕ) → AreAllowed query shapes games asked (IsCandidate found) → AreAllowed query shapes games asked (IsListed lists)
   allowed-listed shapes asked allowed g game there bit covered changes placements of some are i in_list =

@@ -11,13 +11,10 @@ use Rattle.pattern_images.specs.ImageList.{placement_at}
 use Rattle.pattern_images.specs.Placements.{ArePlacements, Placement}
 use Rattle.info_filter.specs.declared.filter.Filter.{Filter}
 use Rattle.info_filter.specs.Filter.{Accepts}
-use Rattle.line_matcher.specs.declared.occurrence.Occurrence.{Occurrence}
-use Rattle.line_matcher.specs.Occurrences.{HoldsAt}
 use Rattle.final_index.specs.Planes.{PlaneGames}
 use Rattle.candidate_sieve.specs.declared.candidates.Candidate.{Candidate}
 use Rattle.candidate_sieve.specs.Candidates.{IsPossibleIn}
 use Rattle.candidate_sieve.specs.Kept.{WereAllowed}
-use Rattle.run_matcher.specs.PlacementOccurrences.{IsOccurrenceOf}
 use Rattle.search_engine.specs.Searching.{IsCovered}
 
 -- ---- words with a bit for each game
@@ -46,13 +43,6 @@ abbrev pub AreInRangeFor : Query → Tree → (ℕ → Type 0) → Type 0
 AreInRangeFor query tree may_have = (placements : List Placement) →
     ArePlacements query tree.shape placements → (i : ℕ) → may_have i → i < length placements
 
--- each placement that holds at a node of the game is among them
-abbrev pub AreCompleteFor : Query → Tree → (ℕ → Type 0) → Type 0
-AreCompleteFor query tree may_have = (changes : Deltas) (placements : List Placement) →
-    AreNodeChanges tree changes → ArePlacements query tree.shape placements → (i n : ℕ) →
-    i < length placements → n < node_count changes →
-    HoldsAt changes (placement_at placements i) n → may_have i
-
 -- they are exactly those placements of which each cell was allowed at some node
 abbrev pub AreAllowedFor : Query → Tree → (ℕ → Type 0) → Type 0
 AreAllowedFor query tree may_have = (changes : Deltas) (placements : List Placement) →
@@ -60,30 +50,12 @@ AreAllowedFor query tree may_have = (changes : Deltas) (placements : List Placem
     ArePlacements query tree.shape placements → (i : ℕ) → i < length placements →
     may_have i ↔ WereAllowed changes (placement_at placements i)
 
--- They are those for a filter: there is none, if the filter refuses the game, and else each
--- placement that holds in it is one.
-pub record AreCandidatesFor (query : Query) (filter : Filter) (tree : Tree)
-    (may_have : ℕ → Type 0) : Type 0 where
-  pub accepted : (i : ℕ) → may_have i → Accepts filter tree.info
-  pub complete : Accepts filter tree.info → AreCompleteFor query tree may_have
-
 -- ---- the same for the games of a block, by their places
 
 -- those of each game are placements on its board
 abbrev pub AreInRange : Query → List Game → (ℕ → ℕ → Type 0) → Type 0
 AreInRange query games may_have = (g : ℕ) (game : Game) → slice_get games g ≡ Some game →
     AreInRangeFor query game.tree (may_have g)
-
--- those of each game that has one are complete, if its board's shape is among these
-abbrev pub AreComplete : Query → List Shape → List Game → (ℕ → ℕ → Type 0) → Type 0
-AreComplete query shapes games may_have = (g : ℕ) (game : Game) → slice_get games g ≡ Some game →
-    (i : ℕ) → may_have g i → Contains shapes game.tree.shape →
-    AreCompleteFor query game.tree (may_have g)
-
--- those of each game are those for the filter
-abbrev pub AreCandidatesOf : Query → Filter → List Game → (ℕ → ℕ → Type 0) → Type 0
-AreCandidatesOf query filter games may_have = (g : ℕ) (game : Game) →
-    slice_get games g ≡ Some game → AreCandidatesFor query filter game.tree (may_have g)
 
 -- those of each game that is asked for and on a board of one of the shapes are those of which each
 -- cell was allowed
@@ -148,8 +120,3 @@ AreByGame found k lists = (g i : ℕ) → g < 64 → IsListed lists g i ↔ IsAm
 abbrev pub IsAddedBelow : Candidate → ℕ → List (List ℕ) → List (List ℕ) → Type 0
 IsAddedBelow c end old new = (g i : ℕ) → g < 64 → IsListed new g i ↔
     (IsListed old g i ⊎ ((g < end) × (bit_at c.games g ≡ 1) × (i ≡ c.placement)))
-
--- the occurrence is of one of the first so many placements of a list
-abbrev pub BeginsAmong : Deltas → List Placement → List ℕ → ℕ → Occurrence → Type 0
-BeginsAmong changes placements list k o =
-    (j : ℕ) × (j < k) × IsOccurrenceOf changes placements (slice_index_or list j 0) o

@@ -4,6 +4,7 @@ pub mod KeptGames
 pub mod Nodes
 -- Words of private functions.
 pub mod BlockCandidates
+pub mod Gathering
 pub mod ImagesMade
 pub mod Items
 pub mod Searching

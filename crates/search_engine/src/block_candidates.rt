@@ -1,17 +1,12 @@
 // Which placements the games of a block may have.
 ghost use Rattle.std.specs.Prelude.{OnOk};
-ghost use Rattle.info_filter.specs.declared.filter.Filter.{Filter};
 ghost use Rattle.search_engine.specs.BlockCandidates.{
-  AreAccepted,
   AreAddedOn,
   AreAllowed,
-  AreCandidatesOf,
-  AreComplete,
   AreInRange,
   IsCandidate,
   IsListed,
 };
-ghost use Rattle.search_engine.specs.Searching.{AreCovered};
 
 use crate::game_placements::GamePlacements;
 use crate::matchers::Matchers;
@@ -32,13 +27,8 @@ pub(crate) fn find_placements(
 ) -> Result<(), NoMemory>
     ensures in_range { OnOk result (AreInRange matchers.now.query block.now
         (IsListed placements.new)) }
-    ensures complete { OnOk result (AreComplete matchers.now.query matchers.now.shapes block.now
-        (IsListed placements.new)) }
     ensures allowed { OnOk result (AreAllowed matchers.now.query matchers.now.shapes block.now asked
         (IsListed placements.new)) }
-    ensures found { OnOk result ((filter : Filter) → AreAccepted filter block.now asked →
-        AreCovered matchers.now.query matchers.now.shapes block.now →
-        AreCandidatesOf matchers.now.query filter block.now (IsListed placements.new)) }
 {
     let _count = block.len();
     find_candidates(matchers, block, asked, words, candidates)?;
@@ -56,13 +46,8 @@ fn find_candidates(
 ) -> Result<(), NoMemory>
     ensures in_range { OnOk result (AreInRange matchers.now.query block.now
         (IsCandidate found.new.items)) }
-    ensures complete { OnOk result (AreComplete matchers.now.query matchers.now.shapes block.now
-        (IsCandidate found.new.items)) }
     ensures allowed { OnOk result (AreAllowed matchers.now.query matchers.now.shapes block.now asked
         (IsCandidate found.new.items)) }
-    ensures found { OnOk result ((filter : Filter) → AreAccepted filter block.now asked →
-        AreCovered matchers.now.query matchers.now.shapes block.now →
-        AreCandidatesOf matchers.now.query filter block.now (IsCandidate found.new.items)) }
 {
     let _count = block.len();
     found.clear();

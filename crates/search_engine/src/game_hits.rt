@@ -1,50 +1,40 @@
 // The hits of a query in one game.
-ghost use Rattle.std.specs.Prelude.{◌≡◌, ◌↔◌, ◌<◌, Contains, IsTrue, OnOk, length};
+ghost use Rattle.std.specs.Prelude.{◌≡◌, ◌↔◌, ◌<◌, IsTrue, OnOk, length};
 ghost use Rattle.game_tree.specs.Tree.{node_count};
 ghost use Rattle.node_position.specs.Games.{AreNodeChanges};
 ghost use Rattle.pattern_images.specs.Placements.{ArePlacements};
 ghost use Rattle.pattern_images.specs.ImageList.{placement_at};
 ghost use Rattle.continuation_table.specs.Continuation.{HoldsAt};
 ghost use Rattle.line_matcher.specs.Occurrences.{occurrences_in};
-ghost use Rattle.search_engine.specs.BlockCandidates.{AreCompleteFor, AreInRangeFor};
+ghost use Rattle.search_engine.specs.Gathering.{AreOccurrencesIn};
 ghost use Rattle.search_engine.specs.Hits.{AreHitsIn, AreHitsOf, IsHit, LooksAt};
 ghost use Rattle.search_engine.specs.Searching.{AreHitsAdded};
 
-use crate::matchers::BoardMatcher;
-use crate::occurrences::occurrences;
 use capture_board::NodeDeltas;
 use continuation_table::next_below;
 use game_tree::GameTree;
 use kb_geometry::NoMemory;
 use line_matcher::Occurrence;
 use pattern_images::{Hit, Images, Query};
-use run_matcher::Gathered;
 use segment_store::FinishedGame;
-use std::alloc::Global;
 
-// Adds the hits in the game with this number, on whose board the query looks. It may have these
-// placements.
+// Adds the hits of the occurrences in the game with this number, on whose board the query looks.
 pub(crate) fn add_hits_in(
-    alloc: Global,
     query: &Query,
     number: u32,
     game: &FinishedGame,
-    matcher: &BoardMatcher,
-    placements: &[u32],
-    gathered: &mut Gathered,
+    images: &Images,
+    occurrences: &[Occurrence],
     hits: &mut Vec<Hit>,
 ) -> Result<(), NoMemory>
-    requires shape { matcher.now.images.now.shape ≡ game.now.tree.shape }
-    requires images { ArePlacements query.now game.now.tree.shape
-        matcher.now.images.now.placements }
-    requires in_range { AreInRangeFor query.now game.now.tree (Contains placements.now) }
-    requires complete { AreCompleteFor query.now game.now.tree (Contains placements.now) }
+    requires shape { images.now.shape ≡ game.now.tree.shape }
+    requires images { ArePlacements query.now game.now.tree.shape images.now.placements }
+    requires occurrences { AreOccurrencesIn query.now game.now.tree occurrences.now }
     ensures { OnOk result (AreHitsAdded (AreHitsIn query.now number game.now.tree)
         hits.old.items hits.new.items) }
 {
     let deltas = game.deltas();
-    let found = occurrences(alloc, game, deltas, &matcher.runs, placements, gathered)?;
-    add_hits(query, number, game, deltas, matcher.images, &found, hits)
+    add_hits(query, number, game, deltas, images, occurrences, hits)
 }
 
 // Adds the hits of the occurrences in a game with these changes.

@@ -1,17 +1,14 @@
 // The hits in the games of blocks, one block after another.
-ghost use Rattle.std.specs.Prelude.{◌≡◌, ◌<◌, ◌+◌, ℕ, Contains, OnOk, Some, length};
+ghost use Rattle.std.specs.Prelude.{◌≡◌, ◌≢◌, ◌<◌, ◌+◌, ℕ, Contains, OnOk, Some, length};
 ghost use Rattle.std.specs.List.{slice_get};
 ghost use Rattle.info_filter.specs.declared.filter.Filter.{Filter};
 ghost use Rattle.info_filter.specs.Filter.{Accepts};
 ghost use Rattle.node_position.specs.Games.{Game};
-ghost use Rattle.search_engine.specs.BlockCandidates.{
-  AreCandidatesFor,
-  AreCandidatesOf,
-  AreComplete,
-  AreCompleteFor,
-  AreInRange,
-  AreInRangeFor,
-  IsListed,
+ghost use Rattle.search_engine.specs.Gathering.{
+  AreOccurrencesIn,
+  HasOccurrences,
+  HaveOccurrences,
+  gathered_of,
 };
 ghost use Rattle.search_engine.specs.Hits.{AreGameHits, AreHitsFrom};
 ghost use Rattle.search_engine.specs.Searching.{
@@ -22,16 +19,17 @@ ghost use Rattle.search_engine.specs.Searching.{
 };
 
 use crate::accepted::accepted_games;
-use crate::block_candidates::find_placements;
+use crate::block_occurrences::gather;
 use crate::game_hits::add_hits_in;
-use crate::game_placements::GamePlacements;
+use crate::game_occurrences::GameOccurrences;
 use crate::item::Item;
 use crate::matchers::Matchers;
 use candidate_sieve::Candidate;
 use info_filter::Filter;
 use kb_geometry::NoMemory;
+use line_matcher::Occurrence;
 use pattern_images::Hit;
-use run_matcher::Gathered;
+use run_matcher::Buffers;
 use segment_store::FinishedGame;
 use std::alloc::Global;
 
@@ -40,8 +38,8 @@ use std::alloc::Global;
 struct Room {
     words: Vec<u64>,
     candidates: Vec<Candidate>,
-    placements: GamePlacements,
-    gathered: Gathered,
+    buffers: Buffers,
+    gathered: GameOccurrences,
 }
 
 // Adds the hits of the games of blocks that a filter accepts.
@@ -58,8 +56,8 @@ pub(crate) fn add_items_hits(
     let mut room = Room {
         words: Vec::new(alloc),
         candidates: Vec::new(alloc),
-        placements: GamePlacements::new(alloc)?,
-        gathered: Gathered::new(alloc),
+        buffers: Buffers::new(alloc),
+        gathered: GameOccurrences::new(alloc)?,
     };
     for item in items {
         add_block(alloc, matchers, filter, item, &mut room, hits)?;
@@ -88,112 +86,98 @@ fn add_block(
     let Room {
         words,
         candidates,
-        placements,
+        buffers,
         gathered,
     } = room;
-    find_placements(
-        matchers, item.block, accepted, words, candidates, placements,
+    gather(
+        matchers, item.block, accepted, words, candidates, buffers, gathered,
     )?;
-    add_found(alloc, matchers, item, &*placements, gathered, hits)
+    add_found(alloc, matchers, filter, item, gathered, hits)
 }
 
-// Adds the hits of the games of a block, of which it is known what placements they may have.
+// Adds the hits of the games of a block, of which the occurrences were gathered.
 fn add_found(
     alloc: Global,
     matchers: &Matchers,
+    filter: &Filter,
     item: &Item,
-    placements: &GamePlacements,
-    gathered: &mut Gathered,
+    gathered: &mut GameOccurrences,
     hits: &mut Vec<Hit>,
 ) -> Result<(), NoMemory>
-    requires in_range { AreInRange matchers.now.query item.now.block.now
-        (IsListed placements.now) }
-    requires complete { AreComplete matchers.now.query matchers.now.shapes item.now.block.now
-        (IsListed placements.now) }
-    ensures { OnOk result ((filter : Filter) →
-        AreCandidatesOf matchers.now.query filter item.now.block.now (IsListed placements.now) →
-        AreCovered matchers.now.query matchers.now.shapes item.now.block.now →
-        AreHitsAdded (AreHitsFrom item.now.first matchers.now.query filter item.now.block.now)
+    requires { HaveOccurrences matchers.now.query filter.now matchers.now.shapes item.now.block.now
+        gathered.old }
+    ensures { OnOk result (AreCovered matchers.now.query matchers.now.shapes item.now.block.now →
+        AreHitsAdded
+        (AreHitsFrom item.now.first matchers.now.query filter.now item.now.block.now)
         hits.old.items hits.new.items) }
 {
     for at in 0..item.block.len() {
-        add_one(
-            alloc,
-            matchers,
-            item,
-            at,
-            placements.of_game(at),
-            gathered,
-            hits,
-        )?;
+        add_one(alloc, matchers, filter, item, at, gathered, hits)?;
     }
     Ok(())
 }
 
-// Adds the hits of the game at a place of a block, which may have these placements.
+// Adds the hits of the game at a place of a block, of which the occurrences were gathered.
 fn add_one(
     alloc: Global,
     matchers: &Matchers,
+    filter: &Filter,
     item: &Item,
     at: usize,
-    placements: &[u32],
-    gathered: &mut Gathered,
+    gathered: &mut GameOccurrences,
     hits: &mut Vec<Hit>,
 ) -> Result<(), NoMemory>
     requires at { at < length item.now.block.now }
-    requires in_range { (game : Game) → slice_get item.now.block.now at ≡ Some game →
-        AreInRangeFor matchers.now.query game.tree (Contains placements.now) }
-    requires complete { (game : Game) → slice_get item.now.block.now at ≡ Some game → (i : ℕ) →
-        Contains placements.now i → Contains matchers.now.shapes game.tree.shape →
-        AreCompleteFor matchers.now.query game.tree (Contains placements.now) }
-    ensures { OnOk result ((filter : Filter) (game : Game) →
-        slice_get item.now.block.now at ≡ Some game →
-        AreCandidatesFor matchers.now.query filter game.tree (Contains placements.now) →
+    requires gathered { (game : Game) → slice_get item.now.block.now at ≡ Some game →
+        HasOccurrences matchers.now.query filter.now matchers.now.shapes game.tree
+        (gathered_of gathered.old at) }
+    ensures hits { OnOk result ((game : Game) → slice_get item.now.block.now at ≡ Some game →
         IsCovered matchers.now.query matchers.now.shapes game.tree.shape →
-        AreHitsAdded (AreGameHits matchers.now.query filter (item.now.first + at) game.tree)
+        AreHitsAdded
+        (AreGameHits matchers.now.query filter.now (item.now.first + at) game.tree)
         hits.old.items hits.new.items) }
+    ensures others { OnOk result ((g : ℕ) → g ≢ at →
+        gathered_of gathered.new g ≡ gathered_of gathered.old g) }
 {
     let _count = item.block.len();
     let game = item.block.get(at);
     let _shape = game.tree().shape();
     let _changes = game.deltas();
-    if placements.is_empty() {
+    if gathered.is_empty(at) {
         return Ok(());
     }
     let number = item.first + at as u32;
-    add_on_its_board(alloc, matchers, number, game, placements, gathered, hits)
+    let found = gathered.sorted(alloc, at)?;
+    add_on_its_board(matchers, filter, number, game, &found, hits)?;
+    Ok(())
 }
 
-// Adds the hits of the game with this number, by the matcher for its board. Where there is none,
-// the query doesn't look on the board.
+// Adds the hits of the game with this number, which the filter accepts, by the matcher for its
+// board.
 fn add_on_its_board(
-    alloc: Global,
     matchers: &Matchers,
+    _filter: &Filter,
     number: u32,
     game: &FinishedGame,
-    placements: &[u32],
-    gathered: &mut Gathered,
+    occurrences: &[Occurrence],
     hits: &mut Vec<Hit>,
 ) -> Result<(), NoMemory>
-    requires in_range { AreInRangeFor matchers.now.query game.now.tree (Contains placements.now) }
-    requires complete { Contains matchers.now.shapes game.now.tree.shape →
-        AreCompleteFor matchers.now.query game.now.tree (Contains placements.now) }
-    ensures { OnOk result ((filter : Filter) → Accepts filter game.now.tree.info →
-        IsCovered matchers.now.query matchers.now.shapes game.now.tree.shape →
-        AreHitsAdded (AreGameHits matchers.now.query filter number game.now.tree)
+    requires accepted { Accepts _filter.now game.now.tree.info }
+    requires there { Contains matchers.now.shapes game.now.tree.shape }
+    requires occurrences { AreOccurrencesIn matchers.now.query game.now.tree occurrences.now }
+    ensures { OnOk result (AreHitsAdded
+        (AreGameHits matchers.now.query _filter.now number game.now.tree)
         hits.old.items hits.new.items) }
 {
     let Some(matcher) = matchers.find(game.tree().shape()) else {
         return Ok(());
     };
     add_hits_in(
-        alloc,
         matchers.query(),
         number,
         game,
-        matcher,
-        placements,
-        gathered,
+        matcher.images,
+        occurrences,
         hits,
     )
 }

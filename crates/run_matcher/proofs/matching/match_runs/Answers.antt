@@ -1,13 +1,14 @@
 -- One placement more.
-use Rattle.std.proofs.Common.{ℕ, ◌≡◌, ◌↔◌, length, subst, arith}
+use Rattle.std.proofs.Common.{ℕ, ◌≡◌, ◌↔◌, ◌⊎◌, length, subst, arith}
 use Rattle.std.specs.Prelude.{Contains}
-use Rattle.run_matcher.specs.PlacementOccurrences.{IsOccurrenceBelow}
+use Rattle.pattern_images.specs.ImageList.{ImageList}
+use Rattle.run_matcher.specs.PlacementOccurrences.{IsOccurrenceBelow, IsOccurrenceOf}
 use Rattle.run_matcher.proofs.OccurrencesOfOne.{below-more, gathered-all}
 use Rattle.run_matcher.proofs.matching.match_runs.Goals as goal
 
 pub loop-placement-preserved : goal.loop-placement-preserved
 loop-placement-preserved c = λ deltas are is o.
-    below-more deltas c.args.matcher.now.images.now.placements c.loop-placement.placement o (Contains c.loop-placement.gathered o) (Contains c.add.new.self o) (c.loop-placement.invariant deltas are is o) (c.in_ok-add.ensures deltas are is o)
+    below-more deltas c.args.matcher.now.images.now.placements c.loop-placement.placement o (Contains c.loop-placement.gathered o) (Contains c.add.new.self o) (c.loop-placement.invariant deltas are is o) (subst (λ (images : ImageList). Contains c.add.new.self o ↔ (Contains c.loop-placement.gathered o ⊎ IsOccurrenceOf deltas images.placements c.loop-placement.placement o)) c.sought.ensures.images (subst (λ (i : ℕ). Contains c.add.new.self o ↔ (Contains c.loop-placement.gathered o ⊎ IsOccurrenceOf deltas c.sought.result.images.now.placements i o)) c.sought.ensures.number (c.in_ok-add.ensures deltas are is o)))
 
 pub returns : goal.returns
 returns c = λ deltas are is.

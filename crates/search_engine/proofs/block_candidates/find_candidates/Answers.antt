@@ -1,7 +1,7 @@
 use Rattle.std.proofs.Common.{arith, subst, sym}
 use Rattle.final_index.specs.Planes.{PlaneGames}
 use Rattle.segment_store.specs.Planes.{ArePlanesOn}
-use Rattle.search_engine.proofs.FoundCandidates.{AreAllowed-all, AreCandidatesOf-all, AreComplete-all, AreFoundTo-more, AreFoundTo-start}
+use Rattle.search_engine.proofs.FoundCandidates.{AreAllowed-all, AreFoundTo-more, AreFoundTo-start}
 use Rattle.search_engine.proofs.block_candidates.find_candidates.Goals as goal
 
 pub loop-planes-init : goal.loop-planes-init
@@ -15,16 +15,6 @@ loop-planes-preserved c =
     let on = subst (λ (q : PlaneGames). ArePlanesOn c.args.block.now q) (sym c.planes-item.is) (c.planes-planes-items.ensures.each k p c.loop-planes-test.true) in
     AreFoundTo-more c.args.matchers.now.query c.args.matchers.now.shapes c.args.block.now c.args.asked (omega (arith, c.len-count.ensures.value, c.len-count.ensures.most)) planes k p c.loop-planes-test.true c.planes-item.is on
     c.loop-planes.found.items c.add_on_shape.new.found.items c.loop-planes.invariant c.in_ok-add_on_shape.ensures
-
-pub returns-clause-complete : goal.returns-clause-complete
-returns-clause-complete c =
-    AreComplete-all c.args.matchers.now.query c.args.matchers.now.shapes c.args.block.now c.args.asked (omega (arith, c.len-count.ensures.value, c.len-count.ensures.most)) c.planes-planes-items.result.now c.loop-planes.planes-index c.loop-planes.found.items
-    (omega (arith, c.loop-planes-test.false)) c.planes-planes-items.ensures c.loop-planes.invariant
-
-pub returns-clause-found : goal.returns-clause-found
-returns-clause-found c =
-    AreCandidatesOf-all c.args.matchers.now.query c.args.matchers.now.shapes c.args.block.now c.args.asked (omega (arith, c.len-count.ensures.value, c.len-count.ensures.most)) c.planes-planes-items.result.now c.loop-planes.planes-index c.loop-planes.found.items
-    (omega (arith, c.loop-planes-test.false)) c.planes-planes-items.ensures c.loop-planes.invariant
 
 pub returns-clause-allowed : goal.returns-clause-allowed
 returns-clause-allowed c =

@@ -1,11 +1,13 @@
-use Rattle.std.proofs.Common.{take}
-use Rattle.info_filter.specs.declared.filter.Filter.{Filter}
-use Rattle.search_engine.specs.BlockCandidates.{AreCandidatesOf, IsListed}
+use Rattle.std.proofs.Common.{◌≡◌, ◌≤◌, ℕ, Some, take}
+use Rattle.std.specs.List.{slice_get}
+use Rattle.node_position.specs.Games.{Game}
+use Rattle.search_engine.specs.Gathering.{HasOccurrences, gathered_of}
 use Rattle.search_engine.specs.Hits.{AreHitsFrom}
 use Rattle.search_engine.specs.Searching.{AreCovered, AreHitsAdded}
 use Rattle.search_engine.proofs.search_items.add_found.Given as goal
 
 abbrev pub invariant-loop-at : goal.invariant-loop-at
-invariant-loop-at l =
-    (filter : Filter) → AreCandidatesOf l.matchers.query filter l.item.block.now (IsListed l.placements) → AreCovered l.matchers.query l.matchers.shapes l.item.block.now →
-    AreHitsAdded (AreHitsFrom l.item.first l.matchers.query filter (take l.at l.item.block.now)) l.fn.hits.items l.hits.items
+invariant-loop-at l = record {
+  rest : (g : ℕ) (game : Game) → l.at ≤ g → slice_get l.item.block.now g ≡ Some game → HasOccurrences l.matchers.query l.filter l.matchers.shapes game.tree (gathered_of l.gathered g);
+  hits : AreCovered l.matchers.query l.matchers.shapes l.item.block.now → AreHitsAdded (AreHitsFrom l.item.first l.matchers.query l.filter (take l.at l.item.block.now)) l.fn.hits.items l.hits.items;
+}

@@ -1,0 +1,22 @@
+-- The keys of what begins in stretches.
+use Rattle.std.proofs.Common.{◌∙◌, ◌++◌, ◌<◌, ℕ, List, ap, map, arith, subst, sym}
+use Rattle.std.specs.Prelude.{All}
+use Rattle.capture_index.specs.Stretches.{BeginsIn}
+use Rattle.run_matcher.specs.Keys.{key_of}
+use Rattle.run_matcher.proofs.BegunNodes.{begun-few, only-added}
+use Rattle.run_matcher.proofs.OccurrencesOfOne.{begins-added}
+use Rattle.run_matcher.proofs.gathered.Gathered.add_begins.Goals as goal
+
+pub push_keys-requires-clause-nodes : goal.push_keys-requires-clause-nodes
+push_keys-requires-clause-nodes c =
+    let nodes = c.push_begins.new.nodes.items in
+    let begun = only-added c.clear.new.self.items nodes (BeginsIn c.args.runs.now c.args.stretches.now) c.clear.ensures.items c.in_ok-push_begins.ensures in
+    subst (λ (ns : List ℕ). All (λ n. n < 65536) ns) (sym c.deref.ensures.value)
+    (begun-few c.args.runs.now c.args.stretches.now c.requires.apart nodes begun (omega (arith, c.node_count-few.ensures.value, c.node_count-few.ensures.most)))
+
+pub returns : goal.returns
+returns c =
+    let nodes = c.push_begins.new.nodes.items in
+    let begun = only-added c.clear.new.self.items nodes (BeginsIn c.args.runs.now c.args.stretches.now) c.clear.ensures.items c.in_ok-push_begins.ensures in
+    begins-added c.args.runs.now c.args.stretches.now c.args.placement nodes c.self.inside.keys.items c.push_keys.new.keys.items c.args.self.now c.requires.placement begun
+    (c.in_ok-push_keys.ensures ∙ ap (λ (ns : List ℕ). c.self.inside.keys.items ++ map (key_of c.args.placement) ns) c.deref.ensures.value) c.self.view_is

@@ -1,0 +1,39 @@
+use Rattle.std.proofs.Common.{◌≡◌, ◌↔◌, ◌⊎◌, ◌∙◌, ℕ, Contains, ap, arith, subst, sym}
+use Rattle.std.proofs.lemmas.Option.{slice_get_within}
+use Rattle.node_position.specs.Games.{Game}
+use Rattle.pattern_images.specs.ImageList.{ImageList}
+use Rattle.run_matcher.specs.PlacementOccurrences.{IsOccurrenceOf}
+use Rattle.search_engine.specs.Gathering.{gathered_of}
+use Rattle.search_engine.proofs.GamesSearched.{same_game}
+use Rattle.search_engine.proofs.GatheredLists.{of_candidate-all, of_candidate-more, of_candidate-start}
+use Rattle.search_engine.proofs.game_occurrences.GameOccurrences.add.Goals as goal
+
+pub loop-at-init : goal.loop-at-init
+loop-at-init c = of_candidate-start c.args.block.now c.args.matcher.now.images.now.placements c.args.candidate c.args.self.now
+
+pub get-requires : goal.get-requires
+get-requires c =
+    let next = c.in-Some.ensures.some in
+    let (game, there, shape) = c.requires.on_boards c.in-Some.at next.below next.set in
+    slice_get_within c.args.block.now c.in-Some.at game there
+
+pub add_at-requires-clause-shape : goal.add_at-requires-clause-shape
+add_at-requires-clause-shape c =
+    let next = c.in-Some.ensures.some in
+    let (game, there, shape) = c.requires.on_boards c.in-Some.at next.below next.set in
+    let same : c.get.result.now ≡ game = same_game c.args.block.now c.in-Some.at c.get.result.now game c.get.ensures there in
+    ap (λ (g : Game). g.tree.shape) same ∙ shape ∙ ap (λ (i : ImageList). i.shape) (sym c.sought-sought.ensures.images)
+
+pub loop-at-preserved : goal.loop-at-preserved
+loop-at-preserved c =
+    let lists = c.loop-at.self in
+    let new = c.add_at.new.self in
+    let at = c.in-Some.at in
+    of_candidate-more c.args.block.now c.args.matcher.now.images.now.placements c.args.candidate c.args.self.now c.loop-at.from at lists new c.get.result.now c.get.ensures c.in-Some.ensures.some c.loop-at.invariant
+    (λ changes of o. subst (λ (images : ImageList). Contains (gathered_of new at) o ↔ (Contains (gathered_of lists at) o ⊎ IsOccurrenceOf changes images.placements c.args.candidate.placement o)) c.sought-sought.ensures.images
+    (subst (λ (i : ℕ). Contains (gathered_of new at) o ↔ (Contains (gathered_of lists at) o ⊎ IsOccurrenceOf changes c.sought-sought.result.images.now.placements i o)) c.sought-sought.ensures.number (c.in_ok-add_at.ensures.here changes of o)))
+    c.in_ok-add_at.ensures.others
+
+pub returns : goal.returns
+returns c =
+    of_candidate-all c.args.block.now c.args.matcher.now.images.now.placements c.args.candidate c.args.self.now (omega (arith, c.len-count.ensures.value, c.len-count.ensures.most)) c.loop-at.from c.loop-at.self c.in_default.ensures.none c.loop-at.invariant

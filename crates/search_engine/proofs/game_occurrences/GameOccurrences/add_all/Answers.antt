@@ -1,0 +1,30 @@
+use Rattle.std.proofs.Common.{arith, refl, subst}
+use Rattle.std.proofs.lemmas.List.Elements.{Contains-get_or}
+use Rattle.search_engine.specs.BlockCandidates.{candidate_at, no_candidate}
+use Rattle.search_engine.specs.Gathering.{AreGathered, IsOfCandidates}
+use Rattle.search_engine.proofs.GatheredLists.{of_candidates-more, of_candidates-start}
+use Rattle.search_engine.proofs.game_occurrences.GameOccurrences.add_all.Goals as goal
+
+pub loop-candidate-init : goal.loop-candidate-init
+loop-candidate-init c = of_candidates-start c.args.block.now c.args.matcher.now.images.now.placements c.args.candidates.now c.args.self.now
+
+pub add-requires-clause-in_range : goal.add-requires-clause-in_range
+add-requires-clause-in_range c =
+    let found = c.args.candidates.now in
+    let k = c.loop-candidate.candidate-index in
+    c.requires.in_range (candidate_at found k) (Contains-get_or found k no_candidate c.loop-candidate-test.true)
+
+pub add-requires-clause-on_boards : goal.add-requires-clause-on_boards
+add-requires-clause-on_boards c =
+    let found = c.args.candidates.now in
+    let k = c.loop-candidate.candidate-index in
+    c.requires.on_boards (candidate_at found k) (Contains-get_or found k no_candidate c.loop-candidate-test.true)
+
+pub loop-candidate-preserved : goal.loop-candidate-preserved
+loop-candidate-preserved c =
+    let found = c.args.candidates.now in
+    let k = c.loop-candidate.candidate-index in
+    of_candidates-more c.args.block.now c.args.matcher.now.images.now.placements found c.args.self.now (omega (arith, c.len-count.ensures.value, c.len-count.ensures.most)) k (candidate_at found k) c.loop-candidate.self c.add.new.self refl c.loop-candidate.invariant c.in_ok-add.ensures
+
+pub returns : goal.returns
+returns c = subst (λ k. AreGathered c.args.block.now (IsOfCandidates c.args.matcher.now.images.now.placements c.args.candidates.now k) c.args.self.now c.loop-candidate.self) (omega (arith, c.loop-candidate-test.false, c.loop-candidate.auto.candidate-index-end)) c.loop-candidate.invariant

@@ -1,0 +1,12 @@
+use Rattle.std.proofs.Common.{◌≡◌, ◌<◌, ◌∙◌, [], ap, arith, length, subst, sym}
+use Rattle.std.specs.Prelude.{IsTrue}
+use Rattle.search_engine.specs.Gathering.{gathered_of}
+use Rattle.search_engine.proofs.GatheredLists.{gathered-read}
+use Rattle.search_engine.proofs.game_occurrences.GameOccurrences.is_empty.Goals as goal
+
+pub returns : goal.returns
+returns c =
+    let lists = c.self.inside.lists.items in
+    let lt : c.args.at < length lists = omega (arith, c.requires, c.self.invariant) in
+    let here : c.index.result.now ≡ gathered_of c.args.self.now c.args.at = gathered-read lists c.args.at c.index.result.now lt c.index.ensures ∙ ap (λ ls. gathered_of ls c.args.at) c.self.view_is in
+    (λ t. sym here ∙ c.is_empty.ensures.0 t, λ none. c.is_empty.ensures.1 (here ∙ none))

@@ -1,0 +1,72 @@
+// The occurrences in the games of a block.
+ghost use Rattle.std.specs.Prelude.{OnOk};
+ghost use Rattle.info_filter.specs.declared.filter.Filter.{Filter};
+ghost use Rattle.segment_store.specs.Planes.{ArePlanesOn};
+ghost use Rattle.search_engine.specs.BlockCandidates.{AreAccepted};
+ghost use Rattle.search_engine.specs.Gathering.{AreGathered, HaveOccurrences, IsOnShape};
+
+use crate::game_occurrences::GameOccurrences;
+use crate::matchers::Matchers;
+use candidate_sieve::{Candidate, add_candidates};
+use final_index::Planes;
+use kb_geometry::NoMemory;
+use run_matcher::Buffers;
+use segment_store::Block;
+
+// Gathers the occurrences in the games of a block that are asked for. What was gathered before is
+// gone. The words, the candidates and the buffers are room for work.
+pub(crate) fn gather(
+    matchers: &Matchers,
+    block: &Block,
+    asked: u64,
+    words: &mut Vec<u64>,
+    candidates: &mut Vec<Candidate>,
+    buffers: &mut Buffers,
+    gathered: &mut GameOccurrences,
+) -> Result<(), NoMemory>
+    ensures { OnOk result ((filter : Filter) → AreAccepted filter block.now asked →
+        HaveOccurrences matchers.now.query filter matchers.now.shapes block.now gathered.new) }
+{
+    let _count = block.len();
+    gathered.clear();
+    for planes in block.planes() {
+        gather_on_shape(
+            matchers, block, planes, asked, words, candidates, buffers, gathered,
+        )?;
+    }
+    Ok(())
+}
+
+// Gathers the occurrences in those games of a block that are on boards of one shape and asked for.
+// Where there is no matcher for the shape, the query doesn't look there.
+fn gather_on_shape(
+    matchers: &Matchers,
+    block: &Block,
+    planes: &Planes,
+    asked: u64,
+    words: &mut Vec<u64>,
+    candidates: &mut Vec<Candidate>,
+    buffers: &mut Buffers,
+    gathered: &mut GameOccurrences,
+) -> Result<(), NoMemory>
+    requires { ArePlanesOn block.now planes.now }
+    ensures { OnOk result (AreGathered block.now
+        (IsOnShape matchers.now.query matchers.now.shapes asked planes.now.shape)
+        gathered.old gathered.new) }
+{
+    let _count = block.len();
+    let Some(matcher) = matchers.find(planes.shape()) else {
+        return Ok(());
+    };
+    candidates.clear();
+    add_candidates(
+        planes,
+        &matcher.rows,
+        matcher.runs.wants(),
+        asked,
+        words,
+        candidates,
+    )?;
+    gathered.add_all(block, &matcher.runs, candidates, buffers)?;
+    Ok(())
+}
