@@ -1,6 +1,6 @@
 -- The way down from a node by first children, as long as no move lies in the placement's rectangle and the placement holds.
 use Prim.Native.Nat.{zero}
-use Rattle.std.proofs.Common.{◌≡◌, ℕ, ◌+◌, ◌-◌, ◌<◌, ◌≤◌, ◌↔◌, suc, inl, inr, Bool, true, false, Option, Some, None, IsTrue, refl, sym, ap, subst, ◌∙◌, arith}
+use Rattle.std.proofs.Common.{◌≡◌, ℕ, ◌+◌, ◌-◌, ◌<◌, ◌≤◌, ◌↔◌, suc, inl, inr, Bool, true, Option, Some, None, IsTrue, refl, sym, ap, subst, ◌∙◌, arith}
 use Rattle.std.specs.Prelude.{◌==◌, option_and_then, is_some}
 use Rattle.std.proofs.lemmas.Bool.{cases_lt, eq-eqb, eqb-true}
 use Rattle.std.proofs.lemmas.Option.{same_Some}
@@ -11,12 +11,19 @@ use Rattle.game_tree.specs.declared.node.Move.{Move}
 use Rattle.game_tree.specs.Stored.{one_if}
 use Rattle.game_tree.specs.Tree.{Tree, IsTree, first_child_of, move_number_of, node_at, parent_of}
 use Rattle.game_tree.proofs.Paths.{move_number-parent}
-use Rattle.game_tree.proofs.Trees.{first_child-behind}
 use Rattle.capture_board.specs.Deltas.{Deltas}
 use Rattle.pattern_images.specs.declared.hit.Next.{Next}
 use Rattle.pattern_images.specs.Placements.{Placement}
 use Rattle.continuation_table.specs.Continuation.{HasMoveInside, HoldsAt, IsContinuation, IsMoveInside, IsTurnedBack, below, own_colour}
-use Rattle.continuation_table.specs.Descending.{HasComeDown, IsWayDown}
+
+-- A walk from node n down to a node: no move in the rectangle came, and the placement holds at each node so far. It is
+-- told whether no move or pass came at all.
+pub record IsWayDown (tree : Tree) (changes : Deltas) (placement : Placement) (n here : ℕ) (now : Bool) : Type 0 where
+  pub steps : ℕ
+  pub reached : below tree n steps ≡ Some here
+  pub none : (k m : ℕ) → k < steps → below tree n (suc k) ≡ Some m → ¬ HasMoveInside tree placement m
+  pub held : (k m : ℕ) → k ≤ steps → below tree n k ≡ Some m → HoldsAt changes placement m
+  pub quiet : IsTrue now ↔ ((k m : ℕ) → k < steps → below tree n (suc k) ≡ Some m → (node_at tree m).played ≡ None)
 
 -- two nodes reached by as many steps are one
 same_node : (tree : Tree) (n j k a b : ℕ) → j ≡ k → below tree n j ≡ Some a → below tree n k ≡ Some b → a ≡ b
@@ -128,30 +135,3 @@ quiet-more first parent child (Some move) least counted = (
   λ t. absurd (omega (arith, counted, least, eqb-true child first t)),
   λ h. let no : Some move ≡ None = h.1 in absurd cc,
 )
-
--- ---- the way down, told by the moves on the paths
-
-module _ (tree : Tree) (is_tree : IsTree tree) (changes : Deltas) (placement : Placement) (n : ℕ) where
-  pub HasComeDown-start : HoldsAt changes placement n → HasComeDown tree changes placement n n
-  HasComeDown-start holds =
-      let count = move_number_of tree n in (
-        omega arith,
-        subst (λ (now : Bool). IsWayDown tree changes placement n n now) (sym (eq-eqb count count refl)) (IsWayDown-start tree changes placement n holds),
-      )
-
-  pub HasComeDown-more : (here : ℕ) → HasComeDown tree changes placement n here → (child : ℕ) → first_child_of tree here ≡ Some child → parent_of tree child ≡ Some here →
-      ¬ HasMoveInside tree placement child → HoldsAt changes placement child → HasComeDown tree changes placement n child
-  HasComeDown-more here come child next above outside holds =
-      let more = moves-more tree is_tree child here above in (
-        omega (arith, more, come.0),
-        IsWayDown-more tree changes placement n here (move_number_of tree here == move_number_of tree n) come.1 child next outside holds
-            (move_number_of tree child == move_number_of tree n)
-            (quiet-more (move_number_of tree n) (move_number_of tree here) (move_number_of tree child) (node_at tree child).played come.0 more),
-      )
-
-  -- the node behind another one, if that is its parent, is its first child
-  pub HasComeDown-behind : (here : ℕ) → HasComeDown tree changes placement n here → parent_of tree (here + 1) ≡ Some here →
-      ¬ HasMoveInside tree placement (here + 1) → HoldsAt changes placement (here + 1) → HasComeDown tree changes placement n (here + 1)
-  HasComeDown-behind here come above outside holds =
-      HasComeDown-more here come (here + 1) (first_child-behind tree (record { most = is_tree.most; parents = is_tree.parents; on_board = is_tree.on_board }) here above)
-      above outside holds

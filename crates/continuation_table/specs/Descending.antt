@@ -1,17 +1,14 @@
 -- Words of the private functions that go down from a node.
-use Rattle.std.specs.Prelude.{◌≡◌, ℕ, ◌+◌, ◌-◌, ◌<◌, ◌≤◌, ◌↔◌, ◌==◌, suc, Bool, IsTrue, Some, None, List, All}
+use Rattle.std.specs.Prelude.{◌≡◌, ℕ, ◌+◌, ◌-◌, ◌<◌, ◌≤◌, List, All}
 use Rattle.kb_geometry.specs.declared.shape.Shape.{Shape}
 use Rattle.kb_geometry.specs.declared.shape.Point.{Point}
 use Rattle.kb_geometry.specs.declared.stone.Cell.{Cell}
 use Rattle.kb_geometry.specs.declared.stone.Change.{Change}
 use Rattle.kb_geometry.specs.Board.{IsOnBoard, number_of}
-use Rattle.game_tree.specs.Tree.{Tree, move_number_of, node_at}
-use Rattle.capture_board.specs.Deltas.{Deltas}
 use Rattle.pattern_images.specs.declared.hit.Place.{Place}
 use Rattle.pattern_images.specs.Grid.{cell_in}
 use Rattle.pattern_images.specs.Holds.{Allows}
 use Rattle.pattern_images.specs.Placements.{Covers, Placement}
-use Rattle.continuation_table.specs.Continuation.{HasMoveInside, HoldsAt, below}
 
 -- the placement allows this cell of the board at the point: its own cell there does, or the point
 -- lies beside it
@@ -34,33 +31,7 @@ abbrev pub IsInPlace : Place → Point → Type 0
 IsInPlace place p = (place.x ≤ p.x) × (p.x < place.x + place.cols) × (place.y ≤ p.y)
     × (p.y < place.y + place.rows)
 
--- the rectangle of the place ends within 256 columns and rows
-abbrev pub IsInReach : Place → Type 0
-IsInReach place = (place.x + place.cols ≤ 256) × (place.y + place.rows ≤ 256)
-
--- the numbers of all points in the rectangle of the place lie from the first to the last of these
-abbrev pub IsSpan : Shape → Place → ℕ → ℕ → Type 0
-IsSpan shape place first last = (p : Point) → IsInPlace place p →
+-- the numbers of all points in the placement's rectangle lie from the first to the last of these
+abbrev pub IsSpan : Shape → Placement → ℕ → ℕ → Type 0
+IsSpan shape placement first last = (p : Point) → Covers placement p →
     (first ≤ number_of shape p) × (number_of shape p ≤ last)
-
--- a point of the board in the rectangle of the place has this number
-abbrev pub IsNumberIn : Shape → Place → ℕ → Type 0
-IsNumberIn shape place number =
-    (p : Point) × IsOnBoard shape p × (number_of shape p ≡ number) × IsInPlace place p
-
--- A walk down by first children from node n to a node: no move in the rectangle came, and the
--- placement holds at each node. It is told whether no move or pass came at all.
-pub record IsWayDown (tree : Tree) (changes : Deltas) (placement : Placement) (n here : ℕ)
-    (now : Bool) : Type 0 where
-  pub steps : ℕ
-  pub reached : below tree n steps ≡ Some here
-  pub none : (k m : ℕ) → k < steps → below tree n (suc k) ≡ Some m →
-      ¬ HasMoveInside tree placement m
-  pub held : (k m : ℕ) → k ≤ steps → below tree n k ≡ Some m → HoldsAt changes placement m
-  pub quiet : IsTrue now
-      ↔ ((k m : ℕ) → k < steps → below tree n (suc k) ≡ Some m → (node_at tree m).played ≡ None)
-
--- such a walk, where the moves on the paths to both nodes tell whether one came
-abbrev pub HasComeDown : Tree → Deltas → Placement → ℕ → ℕ → Type 0
-HasComeDown tree changes placement n here = (move_number_of tree n ≤ move_number_of tree here)
-    × IsWayDown tree changes placement n here (move_number_of tree here == move_number_of tree n)

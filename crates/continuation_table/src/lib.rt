@@ -7,10 +7,8 @@
 #![tactic(auto)]
 
 mod allowing;
-mod beside;
 mod changes;
 mod continuation;
-mod inside;
 mod known_cells;
 mod laws;
 mod own_frame;

@@ -17,14 +17,12 @@ ghost use Rattle.continuation_table.specs.Continuation.{
   own_colour,
 };
 
-use crate::beside::{pass_beside, span_of};
-use crate::changes::still_holds;
-use crate::inside::{Inside, move_inside};
+use crate::changes::{covers, span_of, still_holds};
 use crate::own_frame::{own_colour, own_point};
 use capture_board::NodeDeltas;
-use game_tree::GameTree;
+use game_tree::{GameTree, Move};
 use kb_geometry::{Colour, Point};
-use pattern_images::{Images, Next};
+use pattern_images::{Images, Next, Place};
 
 /// The continuation of the placement with number `i` at a node where it holds: the first move on
 /// the way down by first children whose point lies in the placement's rectangle, if the placement
@@ -53,19 +51,44 @@ pub fn next_below(
 {
     let place = images.place(i);
     let span = span_of(tree.shape(), place);
-    let mut here = pass_beside(tree, deltas, place, span, node);
+    let mut here = node;
     while let Some(child) = tree.first_child(here) {
         if let Some(Inside { colour, point }) = move_inside(tree, place, child) {
             // None played between if the path to here has no more moves than that to the node.
             let now = tree.move_number(here) == tree.move_number(node);
             return Some(next_by(images, i, colour, point, now));
         }
-        if !still_holds(deltas, images, i, child) {
+        if !still_holds(deltas, images, i, place, span, child) {
             return None;
         }
-        here = pass_beside(tree, deltas, place, span, child);
+        here = child;
     }
     None
+}
+
+// A move in the rectangle of a place.
+struct Inside {
+    colour: Colour,
+    point: Point,
+}
+
+// The move of a node, if its point lies in the rectangle of the place.
+fn move_inside(tree: &GameTree, place: Place, node: u32) -> Option<Inside>
+    requires { node < node_count tree.now }
+    ensures some { IfSome result (λ inside. (placement : Placement) → IsPlaceOf placement place →
+        IsMoveInside tree.now placement node inside.colour inside.point) }
+    ensures none { IfNone result ((placement : Placement) → IsPlaceOf placement place →
+        ¬ HasMoveInside tree.now placement node) }
+{
+    match tree.played(node) {
+        Some(
+            Move {
+                colour,
+                point: Some(point),
+            },
+        ) if covers(place, point) => Some(Inside { colour, point }),
+        _ => None,
+    }
 }
 
 // The continuation by this move in the rectangle of the placement.
