@@ -37,7 +37,7 @@ impl PackedRuns {
             return Ok(());
         }
         found.push(Stretch { from, to })?;
-        if !bounds.many {
+        if bounds.gaps == 0 {
             return Ok(());
         }
         self.cut_all(base, wants, found, spare)?;
