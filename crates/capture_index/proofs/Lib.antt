@@ -6,6 +6,7 @@ pub mod Steps
 pub mod CutRuns
 pub mod Hulls
 pub mod Narrowing
+pub mod NeverMet
 pub mod Packed
 pub mod BegunNodes
 pub mod Branchings

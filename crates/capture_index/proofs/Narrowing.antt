@@ -62,10 +62,10 @@ module _ (index : PackedRuns) (base : ℕ) (want : Want) (runs : List Run) (same
   some-met before (Some after) narrowed = record {
     kept = λ n b met. narrowed.kept n b (wanted-met n met);
     inside = narrowed.inside;
-    many = narrowed.many;
+    gaps = narrowed.gaps;
   }
 
-  pub whole-met : (result : Option Bounds) → IfSome result (λ after. after.many ≡ false → (n : ℕ) → IsBounded after n → IsWantedBy want runs n) → IfSome result (λ after. after.many ≡ false → (n : ℕ) → IsBounded after n → IsMet index base want n)
+  pub whole-met : (result : Option Bounds) → IfSome result (λ after. after.gaps ≡ 0 → (n : ℕ) → IsBounded after n → IsWantedBy want runs n) → IfSome result (λ after. after.gaps ≡ 0 → (n : ℕ) → IsBounded after n → IsMet index base want n)
   whole-met None h = h
   whole-met (Some after) whole = λ e n b. met-wanted n (whole e n b)
 
@@ -79,12 +79,12 @@ module _ (index : PackedRuns) (base : ℕ) (wants : List Want) (i : ℕ) (lt : i
 
   module _ (before : Bounds) (bound : IsBoundTo index base wants i before) where
     pub bound-more : (after : Bounds) → IsNarrowed before (IsMet index base want) after → (is_many (time_at index (base + want.offset)) ≡ false → (n : ℕ) → IsBounded after n → IsMet index base want n) →
-        (after.many ≡ false → (n : ℕ) → IsBounded after n → IsMet index base want n) → IsBoundTo index base wants (i + 1) after
+        (after.gaps ≡ 0 → (n : ℕ) → IsBounded after n → IsMet index base want n) → IsBoundTo index base wants (i + 1) after
     bound-more after narrowed word whole = record {
       kept = λ n in_range all. narrowed.kept n (bound.kept n in_range (λ k l. all k (omega arith))) (all i (omega arith));
       inside = λ n b. bound.inside n (narrowed.inside n b);
       words = λ n b. below_more (λ k. is_many (time_at index (base + (slice_index_or wants k no_want).offset)) ≡ false → IsMet index base (slice_index_or wants k no_want) n) i (bound.words n (narrowed.inside n b)) (λ few. word few n b);
-      whole = λ e n b. below_more (λ k. IsMet index base (slice_index_or wants k no_want) n) i (bound.whole (narrowed.many e) n (narrowed.inside n b)) (whole e n b);
+      whole = λ e n b. below_more (λ k. IsMet index base (slice_index_or wants k no_want) n) i (bound.whole (narrowed.gaps e) n (narrowed.inside n b)) (whole e n b);
     }
 
     pub bound-none : ((n : ℕ) → IsBounded before n → IsMet index base want n → ⊥) → (n : ℕ) → n < index.nodes → AreMet index base wants n → ⊥
@@ -108,13 +108,6 @@ IsCutBy-empty index base wants i le start after none cut n in_range = (
 
 -- ---- one want
 module _ (index : PackedRuns) (base : ℕ) (want : Want) (time : Time) (is : time ≡ time_at index (base + want.offset)) where
-  -- a point with a word is passed over
-  pub IsCutAt-word : (stretches : List Stretch) → (MANY ≤ time.word → ⊥) → IsCutAt index base want stretches stretches
-  IsCutAt-word stretches few n in_range = (
-    λ h. (h, λ many. absurd (few (leb-true MANY time.word (ap is_many is ∙ many)))),
-    λ (h, all). h,
-  )
-
   pub IsCutAt-list : (runs : List Run) (list : ℕ) (before after : List Stretch) → MANY ≤ time.word → list ≡ time.word - MANY → runs ≡ list_in index.ends.items index.runs.items list →
       ((n : ℕ) → n < index.nodes → IsIn after n ↔ (IsIn before n × IsTrue (is_wanted want (cell_by runs n)))) → IsCutAt index base want before after
   IsCutAt-list runs list before after le list_is runs_is cut n in_range =
@@ -148,19 +141,9 @@ IsIn-one stretch n = (
 )
 
 module _ (index : PackedRuns) (base : ℕ) (wants : List Want) (bounds : Bounds) (bound : IsBoundTo index base wants (length wants) bounds) where
-  pub bounded-none : bounds.least / 2 ≤ bounds.latest / 2 → (n : ℕ) → n < index.nodes → AreMet index base wants n → ⊥
-  bounded-none empty n in_range all = let b = bound.kept n in_range all in omega (arith, b.0, b.1, empty)
-
-  -- the end of the stretch is one of the game's nodes, or behind the last one
-  pub bounded-most : bounds.latest / 2 < bounds.least / 2 → bounds.least / 2 ≤ index.nodes
-  bounded-most some = let last = bound.inside (bounds.least / 2 - 1) (omega (arith, some), omega (arith, some)) in omega (arith, last, some)
-
   module _ (cleared now : List Stretch) (none : cleared ≡ []) (pushed : now ≡ cleared ++ record { from = bounds.latest / 2; to = bounds.least / 2 } ∷ []) where
     one : (n : ℕ) → IsIn now n ↔ IsBounded bounds n
     one n = subst (λ (s : List Stretch). IsIn s n ↔ IsBounded bounds n) (sym (pushed ∙ ap (λ (s : List Stretch). s ++ record { from = bounds.latest / 2; to = bounds.least / 2 } ∷ []) none)) (IsIn-one (record { from = bounds.latest / 2; to = bounds.least / 2 }) n)
-
-    pub found-one : bounds.many ≡ false → (n : ℕ) → n < index.nodes → IsIn now n ↔ AreMet index base wants n
-    found-one whole n in_range = (λ h. bound.whole whole n ((one n).0 h), λ all. (one n).1 (bound.kept n in_range all))
 
     pub found-more : (after : List Stretch) → IsCutBy index base wants (length wants) now after → (n : ℕ) → n < index.nodes → IsIn after n ↔ AreMet index base wants n
     found-more after cut = met-lists index base wants bounds bound now after one cut

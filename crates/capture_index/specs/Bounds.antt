@@ -12,7 +12,7 @@ IsBounded bounds n = (bounds.latest / 2 ≤ n) × (n < bounds.least / 2)
 pub record IsNarrowed (before : Bounds) (IsWanted : ℕ → Type 0) (after : Bounds) : Type 0 where
   pub kept : (n : ℕ) → IsBounded before n → IsWanted n → IsBounded after n
   pub inside : (n : ℕ) → IsBounded after n → IsBounded before n
-  pub many : after.many ≡ false → before.many ≡ false
+  pub gaps : after.gaps ≡ 0 → before.gaps ≡ 0
 
 -- The hull has each node from the lowest one up to before the end at which something is wanted. All
 -- its nodes are such, where it has no gap, and where it has no node it stands at the lowest.

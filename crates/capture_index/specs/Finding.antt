@@ -53,7 +53,7 @@ pub record IsBoundTo (index : PackedRuns) (base : ℕ) (wants : List Want) (coun
   pub kept : (n : ℕ) → n < index.nodes → AreMetTo index base wants count n → IsBounded bounds n
   pub inside : (n : ℕ) → IsBounded bounds n → n < index.nodes
   pub words : (n : ℕ) → IsBounded bounds n → AreMetByWord index base wants count n
-  pub whole : bounds.many ≡ false → (n : ℕ) → IsBounded bounds n →
+  pub whole : bounds.gaps ≡ 0 → (n : ℕ) → IsBounded bounds n →
       AreMetTo index base wants count n
 
 -- the nodes that are left are those at which the first so many wants with lists are met

@@ -18,14 +18,15 @@ use crate::time::Time;
 pub(crate) struct Bounds {
     pub(crate) latest: u32,
     pub(crate) least: u32,
-    // Whether some of these nodes may not meet a want whose point has a list of runs.
-    pub(crate) many: bool,
+    // Not 0 where some of these nodes may not meet a want whose point has a list of runs. A number,
+    // since a byte would leave room behind it, which is copied for each want.
+    pub(crate) gaps: u32,
 }
 
 impl PackedRuns {
     // The bounds of the nodes at which the wants are met; none, where it is seen that there is no
-    // such node. Of most placements that a game may have by its sets this is so, and this loop has
-    // little to do for each want.
+    // such node. The lists of points with several runs narrow them too, so that few placements that
+    // hold nowhere are left.
     pub(crate) fn bounds(&self, base: u16, wants: &[Want]) -> Option<Bounds>
         requires { All (λ (w : Want). base + w.offset < point_count self.now.shape) wants.now }
         ensures some { IfSome result (IsBoundTo self.now base wants.now (length wants.now)) }
@@ -35,7 +36,7 @@ impl PackedRuns {
         let mut bounds = Bounds {
             latest: 0,
             least: 2 * self.nodes,
-            many: false,
+            gaps: 0,
         };
         for want in wants {
             let Some(next) = self.narrowed(bounds, base, *want) else {
@@ -52,7 +53,7 @@ impl PackedRuns {
         ensures some { IfSome result (IsNarrowed bounds (IsMet self.now base want)) }
         ensures word { IfSome result (λ after. is_many (time_at self.now (base + want.offset))
             ≡ false → (n : ℕ) → IsBounded after n → IsMet self.now base want n) }
-        ensures whole { IfSome result (λ after. after.many ≡ false → (n : ℕ) →
+        ensures whole { IfSome result (λ after. after.gaps ≡ 0 → (n : ℕ) →
             IsBounded after n → IsMet self.now base want n) }
         ensures none { IfNone result ((n : ℕ) → IsBounded bounds n →
             ¬ IsMet self.now base want n) }
@@ -90,7 +91,7 @@ fn with_empty(bounds: Bounds, time: Time, want: Want) -> Option<Bounds>
     Some(Bounds {
         latest: bounds.latest,
         least: word,
-        many: bounds.many,
+        gaps: bounds.gaps,
     })
 }
 
@@ -116,14 +117,14 @@ fn with_stone(bounds: Bounds, time: Time, want: Want) -> Option<Bounds>
     Some(Bounds {
         latest: word,
         least: bounds.least,
-        many: bounds.many,
+        gaps: bounds.gaps,
     })
 }
 
 // The bounds with a want of a point with these runs.
 fn with_runs(bounds: Bounds, runs: &[Run], want: Want) -> Option<Bounds>
     ensures some { IfSome result (IsNarrowed bounds (IsWantedBy want runs.now)) }
-    ensures whole { IfSome result (λ after. after.many ≡ false → (n : ℕ) →
+    ensures whole { IfSome result (λ after. after.gaps ≡ 0 → (n : ℕ) →
         IsBounded after n → IsWantedBy want runs.now n) }
     ensures none { IfNone result ((n : ℕ) → IsBounded bounds n → ¬ IsWantedBy want runs.now n) }
 {
@@ -135,6 +136,13 @@ fn with_runs(bounds: Bounds, runs: &[Run], want: Want) -> Option<Bounds>
     Some(Bounds {
         latest,
         least: 2 * hull.to,
-        many: bounds.many || hull.gap,
+        gaps: gaps_with(bounds.gaps, hull.gap),
     })
+}
+
+// Whether there are gaps, with one that may be there.
+fn gaps_with(gaps: u32, gap: bool) -> u32
+    ensures { result ≡ 0 → (gaps ≡ 0) × (gap ≡ false) }
+{
+    if gap { 1 } else { gaps }
 }

@@ -28,6 +28,9 @@ impl PackedRuns {
         ensures apart { OnOk result (AreApart 0 self.now.nodes found.new.items) }
     {
         found.clear();
+        if self.are_never_met(base, wants) {
+            return Ok(());
+        }
         let Some(bounds) = self.bounds(base, wants) else {
             return Ok(());
         };
@@ -37,7 +40,7 @@ impl PackedRuns {
             return Ok(());
         }
         found.push(Stretch { from, to })?;
-        if !bounds.many {
+        if bounds.gaps == 0 {
             return Ok(());
         }
         self.cut_all(base, wants, found, spare)?;

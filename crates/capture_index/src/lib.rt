@@ -13,6 +13,7 @@ mod finding;
 mod growing;
 mod hull;
 mod laws;
+mod never_met;
 mod node_cells;
 mod nodes_where;
 mod packed_runs;
