@@ -159,11 +159,7 @@ impl GameOccurrences {
 
     // The occurrences in the game at this place, by node and at one node in the order of the
     // placements. What is in its list afterwards doesn't count.
-    pub(crate) fn sorted(
-        &mut self,
-        alloc: Global,
-        at: usize,
-    ) -> Result<Vec<Occurrence>, NoMemory>
+    pub(crate) fn sorted(&mut self, alloc: Global, at: usize) -> Result<Vec<Occurrence>, NoMemory>
         requires { at < 64 }
         ensures list { IfOk result (λ found. (changes : Deltas) (placements : List Placement) →
             ((o : Occurrence) → Contains (gathered_of self.old at) o
