@@ -25,7 +25,3 @@ module _ (query : Query) (filter : Filter) (number : ℕ) (game : Tree) (old : L
   -- those in a game that is asked for
   pub AreGameHits-asked : (new : List Hit) → AsksFor query filter game → AreHitsAdded (AreHitsIn query number game) old new → AreHitsAdded (AreGameHits query filter number game) old new
   AreGameHits-asked new asks added = record { more = added.more; added = added.added; are_hits = AreGameHits.asked asks added.are_hits }
-
-  -- none in one that isn't
-  pub AreGameHits-none : ¬ AsksFor query filter game → AreHitsAdded (AreGameHits query filter number game) old old
-  AreGameHits-none not = AreHitsAdded-none (AreGameHits query filter number game) old (AreGameHits.not_asked not)

@@ -1,5 +1,5 @@
 -- The occurrences in the games of a block, one shape of boards after another.
-use Rattle.std.proofs.Common.{◌≡◌, ◌≢◌, ℕ, inl, inr, ◌+◌, ◌<◌, ◌≤◌, ◌↔◌, ◌⊎◌, List, [], ◌++◌, None, Some, Contains, get_or, length, map, sym, ap, ◌∙◌, subst, arith}
+use Rattle.std.proofs.Common.{◌≡◌, ℕ, inl, inr, ◌+◌, ◌<◌, ◌≤◌, List, [], ◌++◌, None, Some, Contains, get_or, length, map, sym, ap, ◌∙◌, subst, arith}
 use Rattle.std.specs.Int.{bit_at}
 use Rattle.std.specs.List.{slice_get}
 use Rattle.std.proofs.lemmas.Bool.{cases_eq, cases_lt}
@@ -23,10 +23,9 @@ use Rattle.final_index.specs.Planes.{PlaneGames}
 use Rattle.candidate_sieve.specs.declared.candidates.Candidate.{Candidate}
 use Rattle.candidate_sieve.specs.Candidates.{AreCandidates, AreCandidatesAdded, IsPossibleIn, MeetsCells}
 use Rattle.candidate_sieve.proofs.CellsTold.{holds-were}
-use Rattle.run_matcher.specs.PlacementOccurrences.{IsOccurrenceOf}
 use Rattle.segment_store.specs.Planes.{ArePlanesOf, ArePlanesOn, IsGameOfPlanes}
 use Rattle.search_engine.specs.BlockCandidates.{AreAccepted, candidate_at, no_candidate}
-use Rattle.search_engine.specs.Gathering.{AreGathered, AreOnBoards, HaveOccurrences, IsOfCandidates, IsOnPlanes, IsOnShape, OccursIn, gathered_of}
+use Rattle.search_engine.specs.Gathering.{AreGathered, AreOnBoards, HaveOccurrences, IsOfCandidates, IsOnPlanes, IsOnShape, gathered_of}
 use Rattle.search_engine.proofs.FoundCandidates.{candidate_is}
 use Rattle.search_engine.proofs.GamesSearched.{some_there}
 use Rattle.search_engine.proofs.GatheredLists.{AreGathered-as, AreGathered-more, AreGathered-none}

@@ -1,9 +1,9 @@
 -- The occurrences in a game, which its list has, and what follows where there is none.
-use Rattle.std.proofs.Common.{◌≡◌, ◌⊎◌, ℕ, Bool, nat_eq, true, false, inl, inr, not, ◌+◌, ◌<◌, ◌↔◌, List, [], ◌∷◌, Option, Some, None, Contains, get_or, length, refl, sym, ap, ◌∙◌, subst, arith}
+use Rattle.std.proofs.Common.{◌≡◌, ℕ, Bool, true, false, inl, inr, not, ◌<◌, ◌↔◌, List, [], ◌∷◌, Option, Some, None, Contains, get_or, length, refl, sym, ap, ◌∙◌, subst, arith}
 use Rattle.std.specs.Option.{option_map_or}
 use Rattle.std.specs.Prelude.{All, IfSome, IsTrue}
 use Rattle.kb_geometry.specs.declared.shape.Shape.{Shape}
-use Rattle.std.proofs.lemmas.Bool.{and_from, and_parts, cases_eq, false≢true, false_from_ne_true}
+use Rattle.std.proofs.lemmas.Bool.{and_from, and_parts, false≢true, false_from_ne_true}
 use Rattle.std.proofs.lemmas.List.{get_or_default}
 use Rattle.kb_geometry.proofs.Lists.{Contains-first}
 use Rattle.game_tree.specs.Tree as tree
@@ -20,7 +20,6 @@ use Rattle.info_filter.specs.Filter.{Accepts}
 use Rattle.line_matcher.specs.declared.occurrence.Occurrence.{Occurrence}
 use Rattle.line_matcher.specs.Occurrences.{HoldsAt, Occurs, begins_at, holds_at, occurrences_in}
 use Rattle.line_matcher.proofs.HoldsLaw.{holds-decides}
-use Rattle.line_matcher.proofs.OccurrenceLaw.{occurrences-are}
 use Rattle.search_engine.specs.Gathering.{HasOccurrences}
 use Rattle.search_engine.specs.Hits.{AreGameHits, AreHitsOf}
 use Rattle.search_engine.specs.Searching.{AreHitsAdded, IsCovered}

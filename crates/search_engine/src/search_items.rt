@@ -148,25 +148,23 @@ fn add_one(
     }
     let number = item.first + at as u32;
     let found = gathered.sorted(alloc, at)?;
-    add_on_its_board(matchers, filter, number, game, &found, hits)?;
+    add_on_its_board(matchers, number, game, &found, hits)?;
     Ok(())
 }
 
-// Adds the hits of the game with this number, which the filter accepts, by the matcher for its
+// Adds the hits of the game with this number, whose occurrences these are, by the matcher for its
 // board.
 fn add_on_its_board(
     matchers: &Matchers,
-    _filter: &Filter,
     number: u32,
     game: &FinishedGame,
     occurrences: &[Occurrence],
     hits: &mut Vec<Hit>,
 ) -> Result<(), NoMemory>
-    requires accepted { Accepts _filter.now game.now.tree.info }
     requires there { Contains matchers.now.shapes game.now.tree.shape }
     requires occurrences { AreOccurrencesIn matchers.now.query game.now.tree occurrences.now }
-    ensures { OnOk result (AreHitsAdded
-        (AreGameHits matchers.now.query _filter.now number game.now.tree)
+    ensures { OnOk result ((filter : Filter) → Accepts filter game.now.tree.info →
+        AreHitsAdded (AreGameHits matchers.now.query filter number game.now.tree)
         hits.old.items hits.new.items) }
 {
     let Some(matcher) = matchers.find(game.tree().shape()) else {

@@ -25,5 +25,5 @@ returns c =
     let shape = c.shape.ensures.value ∙ ap (λ (t : Tree). t.shape) c.tree.ensures in
     let board = subst (IsForBoard query) shape c.in-Some.ensures.asked in
     OnOk-then c.add_hits_in.result c.add_hits_in.ensures
-    (λ added. AreGameHits-asked query c.args._filter.now c.args.number tree c.args.hits.now.items c.add_hits_in.new.hits.items (board, c.requires.accepted)
+    (λ added filter accepts. AreGameHits-asked query filter c.args.number tree c.args.hits.now.items c.add_hits_in.new.hits.items (board, accepts)
     (subst (λ (q : Query). AreHitsAdded (AreHitsIn q c.args.number tree) c.args.hits.now.items c.add_hits_in.new.hits.items) c.query.ensures added))

@@ -1,10 +1,8 @@
 use Rattle.std.proofs.Common.{◌≡◌, ◌+◌, ◌∙◌, subst, sym}
-use Rattle.game_tree.specs.Tree.{Tree}
 use Rattle.node_position.specs.Games.{Game}
-use Rattle.search_engine.specs.Gathering.{HasOccurrences, gathered_of}
+use Rattle.search_engine.specs.Gathering.{gathered_of}
 use Rattle.search_engine.specs.Hits.{AreGameHits}
 use Rattle.search_engine.specs.Searching.{AreHitsAdded, IsCovered}
-use Rattle.search_engine.proofs.AddedHits.{OnOk-then}
 use Rattle.search_engine.proofs.Gathering.{asked_with_some, has_exactly, no_hits}
 use Rattle.search_engine.proofs.GamesSearched.{same_game}
 use Rattle.search_engine.proofs.search_items.add_one.Goals as goal
@@ -16,10 +14,6 @@ returns-then-is_empty-clause-hits c = λ game at covered.
     subst (λ (h : Game). AreHitsAdded (AreGameHits query c.args.filter.now (c.args.item.now.first + c.args.at) h.tree) c.args.hits.now.items c.args.hits.now.items) same
     (no_hits query c.args.filter.now c.args.matchers.now.shapes (c.args.item.now.first + c.args.at) c.get-game.result.now.tree (gathered_of c.args.gathered.now c.args.at) (c.requires.gathered c.get-game.result.now c.get-game.ensures) c.deltas-changes.result.now c.deltas-changes.ensures
     (c.is_empty.ensures.0 c.if-is_empty.true) (subst (λ (h : Game). IsCovered query c.args.matchers.now.shapes h.tree.shape) (sym same) covered) c.args.hits.now.items)
-
-pub add_on_its_board-requires-clause-accepted : goal.add_on_its_board-requires-clause-accepted
-add_on_its_board-requires-clause-accepted c =
-    (asked_with_some c.args.matchers.now.query c.args.filter.now c.args.matchers.now.shapes c.get-game.result.now.tree (gathered_of c.args.gathered.now c.args.at) (c.requires.gathered c.get-game.result.now c.get-game.ensures) c.deltas-changes.result.now c.deltas-changes.ensures c.is_empty.result c.is_empty.ensures c.if-is_empty.false).0
 
 pub add_on_its_board-requires-clause-there : goal.add_on_its_board-requires-clause-there
 add_on_its_board-requires-clause-there c =
@@ -36,5 +30,7 @@ add_on_its_board-requires-clause-occurrences c = λ changes placements of are.
 
 pub returns-clause-hits : goal.returns-clause-hits
 returns-clause-hits c = λ game at covered.
+    let asked = asked_with_some c.args.matchers.now.query c.args.filter.now c.args.matchers.now.shapes c.get-game.result.now.tree (gathered_of c.args.gathered.now c.args.at) (c.requires.gathered c.get-game.result.now c.get-game.ensures) c.deltas-changes.result.now c.deltas-changes.ensures c.is_empty.result c.is_empty.ensures c.if-is_empty.false in
     let same : c.get-game.result.now ≡ game = same_game c.args.item.now.block.now c.args.at c.get-game.result.now game c.get-game.ensures at in
-    subst (λ (h : Game). AreHitsAdded (AreGameHits c.args.matchers.now.query c.args.filter.now (c.args.item.now.first + c.args.at) h.tree) c.args.hits.now.items c.add_on_its_board.new.hits.items) same c.in_ok-add_on_its_board.ensures
+    subst (λ (h : Game). AreHitsAdded (AreGameHits c.args.matchers.now.query c.args.filter.now (c.args.item.now.first + c.args.at) h.tree) c.args.hits.now.items c.add_on_its_board.new.hits.items) same
+    (c.in_ok-add_on_its_board.ensures c.args.filter.now asked.0)

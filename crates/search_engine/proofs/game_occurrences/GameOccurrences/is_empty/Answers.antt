@@ -1,5 +1,4 @@
-use Rattle.std.proofs.Common.{◌≡◌, ◌<◌, ◌∙◌, [], ap, arith, length, subst, sym}
-use Rattle.std.specs.Prelude.{IsTrue}
+use Rattle.std.proofs.Common.{◌≡◌, ◌<◌, ◌∙◌, ap, arith, length, sym}
 use Rattle.search_engine.specs.Gathering.{gathered_of}
 use Rattle.search_engine.proofs.GatheredLists.{gathered-read}
 use Rattle.search_engine.proofs.game_occurrences.GameOccurrences.is_empty.Goals as goal
