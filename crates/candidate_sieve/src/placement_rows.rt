@@ -65,8 +65,9 @@ fn add_class(
     ensures rows { OnOk result (AreRowsTo images.now numbers.new.items rows.new.items) }
 {
     for i in 0..images.len() {
+        let base = base(images, i);
         if images.class_of(i) == class {
-            add_to_rows(class, base(images, i), numbers.len(), rows)?;
+            add_to_rows(class, base, numbers.len(), rows)?;
             numbers.push(i as u32)?;
         }
     }
