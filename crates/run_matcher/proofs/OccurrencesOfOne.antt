@@ -5,7 +5,6 @@ use Rattle.std.specs.Option.{option_map_or}
 use Rattle.std.proofs.lemmas.Bool.{and_from, and_parts, cases_lt, false≢true, false_from_ne_true}
 use Rattle.capture_board.specs.Deltas.{AreDeltas, Deltas, node_count, parent_of, position_at}
 use Rattle.node_paths.proofs.Ancestors.{parent-lt}
-use Rattle.kb_geometry.specs.declared.shape.Shape.{Shape}
 use Rattle.pattern_images.specs.Grid.{Grid}
 use Rattle.pattern_images.specs.ImageList.{ImageList, IsPlacedOn, grid_at, placement_at}
 use Rattle.pattern_images.specs.Placements.{Placement}

@@ -10,7 +10,6 @@ use Rattle.line_matcher.specs.Occurrences.{occurrences_in}
 use Rattle.node_position.specs.Games.{AreNodeChanges}
 use Rattle.search_engine.specs.Hits.{AreGameHits, AreHitsIn, AreHitsOf, AsksFor}
 use Rattle.search_engine.specs.Searching.{AreHitsAdded}
-use Rattle.search_engine.proofs.AddedHits.{AreHitsAdded-none}
 
 module _ (query : Query) (number : ℕ) (game : Tree) (changes : Deltas) (of : AreNodeChanges game changes) (placements : List Placement) (are : ArePlacements query game.shape placements) (old new : List Hit) where
   -- those of all its occurrences
