@@ -17,9 +17,6 @@ impl PackedRuns {
         requires { All (λ (w : Want). base + w.offset < point_count self.now.shape) wants.now }
         ensures { IsTrue result → (n : ℕ) → n < self.now.nodes → ¬ AreMet self.now base wants.now n }
     {
-        if !are_telling(wants) {
-            return false;
-        }
         let mut latest = 0;
         for want in wants {
             let Some(next) = with_want(latest, self.time_of(base, want.offset), *want) else {
@@ -29,16 +26,6 @@ impl PackedRuns {
         }
         false
     }
-}
-
-// Whether words alone tell much of the wants: where two points or more are to have a stone and one is
-// to be empty. The wants stand in that order, so two are looked at. Of others more are left by the
-// words than are ruled out, and to go over them here is in vain.
-fn are_telling(wants: &[Want]) -> bool {
-    let (Some(second), Some(last)) = (wants.get(1), wants.last()) else {
-        return false;
-    };
-    !second.empty && last.empty && !last.black && !last.white
 }
 
 // The latest word of a point on which a stone is wanted, with one want more; none, if its point has
