@@ -25,8 +25,8 @@ pub(crate) struct Bounds {
 
 impl PackedRuns {
     // The bounds of the nodes at which the wants are met; none, where it is seen that there is no
-    // such node. The lists of points with several runs narrow them too, so that few placements that
-    // hold nowhere are left.
+    // such node. The lists of points with several runs narrow them too, so that placements are ruled
+    // out before stretches are cut.
     pub(crate) fn bounds(&self, base: u16, wants: &[Want]) -> Option<Bounds>
         requires { All (λ (w : Want). base + w.offset < point_count self.now.shape) wants.now }
         ensures some { IfSome result (IsBoundTo self.now base wants.now (length wants.now)) }

@@ -1,4 +1,4 @@
-// The least stretch with all nodes at which a point's cell is wanted, by its runs.
+// A stretch that has all nodes at which a point's cell is wanted, by its runs.
 ghost use Rattle.std.specs.Prelude.{◌≡◌, ◌<◌, ◌≤◌, ◌↔◌, ℕ, List, IsTrue, false};
 ghost use Prim.Native.Nat.{min};
 ghost use Rattle.capture_index.specs.declared.run.Run.{Run};

@@ -7,7 +7,7 @@ use pattern_images::Images;
 pub struct Sought<'a> {
     /// The images among which it is.
     pub images: &'a Images,
-    /// What it asks of points.
+    // What it asks of points.
     pub(crate) wants: &'a [Want],
     /// Its number among the placements of the images.
     pub number: u32,

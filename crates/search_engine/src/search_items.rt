@@ -117,11 +117,12 @@ fn add_found(
     Ok(())
 }
 
-// Adds the hits of the game at a place of a block, of which the occurrences were gathered.
+// Adds the hits of the game at a place of a block, of which the occurrences were gathered. The
+// filter is only told of by the contract: a game that it refuses has none gathered.
 fn add_one(
     alloc: Global,
     matchers: &Matchers,
-    filter: &Filter,
+    _filter: &Filter,
     item: &Item,
     at: usize,
     gathered: &mut GameOccurrences,
@@ -129,12 +130,12 @@ fn add_one(
 ) -> Result<(), NoMemory>
     requires at { at < length item.now.block.now }
     requires gathered { (game : Game) → slice_get item.now.block.now at ≡ Some game →
-        HasOccurrences matchers.now.query filter.now matchers.now.shapes game.tree
+        HasOccurrences matchers.now.query _filter.now matchers.now.shapes game.tree
         (gathered_of gathered.old at) }
     ensures hits { OnOk result ((game : Game) → slice_get item.now.block.now at ≡ Some game →
         IsCovered matchers.now.query matchers.now.shapes game.tree.shape →
         AreHitsAdded
-        (AreGameHits matchers.now.query filter.now (item.now.first + at) game.tree)
+        (AreGameHits matchers.now.query _filter.now (item.now.first + at) game.tree)
         hits.old.items hits.new.items) }
     ensures others { OnOk result ((g : ℕ) → g ≢ at →
         gathered_of gathered.new g ≡ gathered_of gathered.old g) }

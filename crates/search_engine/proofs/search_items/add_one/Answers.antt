@@ -11,13 +11,13 @@ pub returns-then-is_empty-clause-hits : goal.returns-then-is_empty-clause-hits
 returns-then-is_empty-clause-hits c = λ game at covered.
     let query = c.args.matchers.now.query in
     let same : c.get-game.result.now ≡ game = same_game c.args.item.now.block.now c.args.at c.get-game.result.now game c.get-game.ensures at in
-    subst (λ (h : Game). AreHitsAdded (AreGameHits query c.args.filter.now (c.args.item.now.first + c.args.at) h.tree) c.args.hits.now.items c.args.hits.now.items) same
-    (no_hits query c.args.filter.now c.args.matchers.now.shapes (c.args.item.now.first + c.args.at) c.get-game.result.now.tree (gathered_of c.args.gathered.now c.args.at) (c.requires.gathered c.get-game.result.now c.get-game.ensures) c.deltas-changes.result.now c.deltas-changes.ensures
+    subst (λ (h : Game). AreHitsAdded (AreGameHits query c.args._filter.now (c.args.item.now.first + c.args.at) h.tree) c.args.hits.now.items c.args.hits.now.items) same
+    (no_hits query c.args._filter.now c.args.matchers.now.shapes (c.args.item.now.first + c.args.at) c.get-game.result.now.tree (gathered_of c.args.gathered.now c.args.at) (c.requires.gathered c.get-game.result.now c.get-game.ensures) c.deltas-changes.result.now c.deltas-changes.ensures
     (c.is_empty.ensures.0 c.if-is_empty.true) (subst (λ (h : Game). IsCovered query c.args.matchers.now.shapes h.tree.shape) (sym same) covered) c.args.hits.now.items)
 
 pub add_on_its_board-requires-clause-there : goal.add_on_its_board-requires-clause-there
 add_on_its_board-requires-clause-there c =
-    (asked_with_some c.args.matchers.now.query c.args.filter.now c.args.matchers.now.shapes c.get-game.result.now.tree (gathered_of c.args.gathered.now c.args.at) (c.requires.gathered c.get-game.result.now c.get-game.ensures) c.deltas-changes.result.now c.deltas-changes.ensures c.is_empty.result c.is_empty.ensures c.if-is_empty.false).1
+    (asked_with_some c.args.matchers.now.query c.args._filter.now c.args.matchers.now.shapes c.get-game.result.now.tree (gathered_of c.args.gathered.now c.args.at) (c.requires.gathered c.get-game.result.now c.get-game.ensures) c.deltas-changes.result.now c.deltas-changes.ensures c.is_empty.result c.is_empty.ensures c.if-is_empty.false).1
 
 pub add_on_its_board-requires-clause-occurrences : goal.add_on_its_board-requires-clause-occurrences
 add_on_its_board-requires-clause-occurrences c = λ changes placements of are.
@@ -25,12 +25,12 @@ add_on_its_board-requires-clause-occurrences c = λ changes placements of are.
     let tree = c.get-game.result.now.tree in
     let gathered = gathered_of c.args.gathered.now c.args.at in
     let has = c.requires.gathered c.get-game.result.now c.get-game.ensures in
-    let asked = asked_with_some query c.args.filter.now c.args.matchers.now.shapes tree gathered has c.deltas-changes.result.now c.deltas-changes.ensures c.is_empty.result c.is_empty.ensures c.if-is_empty.false in
-    c.deref.ensures.value ∙ c.in_ok-found.ensures.list changes placements (has_exactly query c.args.filter.now c.args.matchers.now.shapes tree gathered has changes of asked.0 asked.1 placements are)
+    let asked = asked_with_some query c.args._filter.now c.args.matchers.now.shapes tree gathered has c.deltas-changes.result.now c.deltas-changes.ensures c.is_empty.result c.is_empty.ensures c.if-is_empty.false in
+    c.deref.ensures.value ∙ c.in_ok-found.ensures.list changes placements (has_exactly query c.args._filter.now c.args.matchers.now.shapes tree gathered has changes of asked.0 asked.1 placements are)
 
 pub returns-clause-hits : goal.returns-clause-hits
 returns-clause-hits c = λ game at covered.
-    let asked = asked_with_some c.args.matchers.now.query c.args.filter.now c.args.matchers.now.shapes c.get-game.result.now.tree (gathered_of c.args.gathered.now c.args.at) (c.requires.gathered c.get-game.result.now c.get-game.ensures) c.deltas-changes.result.now c.deltas-changes.ensures c.is_empty.result c.is_empty.ensures c.if-is_empty.false in
+    let asked = asked_with_some c.args.matchers.now.query c.args._filter.now c.args.matchers.now.shapes c.get-game.result.now.tree (gathered_of c.args.gathered.now c.args.at) (c.requires.gathered c.get-game.result.now c.get-game.ensures) c.deltas-changes.result.now c.deltas-changes.ensures c.is_empty.result c.is_empty.ensures c.if-is_empty.false in
     let same : c.get-game.result.now ≡ game = same_game c.args.item.now.block.now c.args.at c.get-game.result.now game c.get-game.ensures at in
-    subst (λ (h : Game). AreHitsAdded (AreGameHits c.args.matchers.now.query c.args.filter.now (c.args.item.now.first + c.args.at) h.tree) c.args.hits.now.items c.add_on_its_board.new.hits.items) same
-    (c.in_ok-add_on_its_board.ensures c.args.filter.now asked.0)
+    subst (λ (h : Game). AreHitsAdded (AreGameHits c.args.matchers.now.query c.args._filter.now (c.args.item.now.first + c.args.at) h.tree) c.args.hits.now.items c.add_on_its_board.new.hits.items) same
+    (c.in_ok-add_on_its_board.ensures c.args._filter.now asked.0)
