@@ -48,6 +48,13 @@ module _ (games : List (Option EverSets)) (base : ℕ) (wants : List Want) (ther
     λ h. (kept g lt).1 ((so_far g lt).1 (h.0, λ k below. h.1 k (omega (arith, below))), h.1 count (omega arith)),
   )
 
+-- one want more is kept in the word for a point behind the base
+pub each-kept : (games : List (Option EverSets)) (base i : ℕ) (wants : List Want) (there count word next : ℕ) (want : Want) → slice_index_or wants count no_want ≡ want → HaveEach games (base + i) wants there count word →
+    ((g : ℕ) → g < 64 → (bit_at next g ≡ 1) ↔ ((bit_at word g ≡ 1) × HadWanted games g want (base + want.offset + i))) → HaveEach games (base + i) wants there (count + 1) next
+each-kept games base i wants there count word next want is so_far kept = each-more games (base + i) wants there count word next so_far
+    (λ g lt. subst (λ (w : Want). (bit_at next g ≡ 1) ↔ ((bit_at word g ≡ 1) × HadWanted games g w (base + i + w.offset))) (sym is)
+    (subst (λ (p : ℕ). (bit_at next g ≡ 1) ↔ ((bit_at word g ≡ 1) × HadWanted games g want p)) (omega arith) (kept g lt)))
+
 -- ---- a placement's cells by its wants
 
 not-all : (pattern : PatternCell) (want : Want) → IsWantOf pattern want → pattern ≢ cell.Any → wants_all want ≡ true → ⊥

@@ -31,19 +31,6 @@ HaveEach games base wants there count word =
     (g : ℕ) → g < 64 → (bit_at word g ≡ 1) ↔ ((bit_at there g ≡ 1)
     × HadEach games base wants count g)
 
--- so for those of the first so many wants that allow an empty point, or for the others
-abbrev pub HadEachOfKind : List (Option EverSets) → ℕ → List Want → Bool → ℕ → ℕ → Type 0
-HadEachOfKind games base wants empty count g = (k : ℕ) → k < count →
-    (slice_index_or wants k no_want).empty ≡ empty →
-    HadWanted games g (slice_index_or wants k no_want)
-    (base + (slice_index_or wants k no_want).offset)
-
--- the games of the word are those of another that had these
-abbrev pub HaveEachOfKind : List (Option EverSets) → ℕ → List Want → Bool → ℕ → ℕ → ℕ → Type 0
-HaveEachOfKind games base wants empty there count word =
-    (g : ℕ) → g < 64 → (bit_at word g ≡ 1) ↔ ((bit_at there g ≡ 1)
-    × HadEachOfKind games base wants empty count g)
-
 -- in the games of the word each point of the board was empty at some node
 abbrev pub AreBare : PlaneGames → ℕ → Type 0
 AreBare planes bare = (g p : ℕ) → g < 64 → bit_at bare g ≡ 1 → p < point_count planes.shape →

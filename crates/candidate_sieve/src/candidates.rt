@@ -1,9 +1,24 @@
 // The games of a block that may have a placement.
-ghost use Rattle.std.specs.Prelude.{◌≡◌, ◌+◌, ◌<◌, ◌≤◌, ◌↔◌, ℕ, All, IsTrue, OnOk, length, slice_index};
+ghost use Rattle.std.specs.Prelude.{
+  ◌≡◌,
+  ◌+◌,
+  ◌<◌,
+  ◌≤◌,
+  ◌↔◌,
+  ℕ,
+  All,
+  IsTrue,
+  OnOk,
+  length,
+  slice_index,
+  slice_index_or,
+};
 ghost use Rattle.std.specs.Int.{bit_at};
 ghost use Rattle.kb_geometry.specs.Board.{point_count};
 ghost use Rattle.capture_index.specs.declared.stretch.Want.{Want};
-ghost use Rattle.candidate_sieve.specs.BlockGames.{AreAddedFor, AreBare, HadWanted, HaveEach, HaveEachOfKind, IsAddedFor};
+ghost use Rattle.capture_index.specs.Stretches.{no_want};
+ghost use Rattle.capture_index.specs.Wants.{AreStonesFirst};
+ghost use Rattle.candidate_sieve.specs.BlockGames.{AreAddedFor, AreBare, HadWanted, HaveEach, IsAddedFor};
 ghost use Rattle.candidate_sieve.specs.Candidates.{AreCandidatesAdded};
 
 use crate::placement_rows::{PlacementRow, PlacementRows};
@@ -62,6 +77,7 @@ fn fill_room(
     room: &mut Vec<u64>,
 ) -> Result<(), NoMemory>
     requires bare { AreBare planes.now bare }
+    requires stones_first { AreStonesFirst wants.now }
     requires on_board { All (λ (w : Want). row.base + w.offset + row.count
         ≤ point_count planes.now.shape) wants.now }
     ensures count { OnOk result (length room.new.items ≡ row.count) }
@@ -79,35 +95,60 @@ fn fill_room(
 // games are bare, and then wants that allow an empty point ask nothing.
 fn keep_wanted(planes: &Planes, bare: u64, base: u16, wants: &[Want], words: &mut [u64])
     requires bare { AreBare planes.now bare }
+    requires stones_first { AreStonesFirst wants.now }
     requires on_board { All (λ (w : Want). base + w.offset + length words.old
         ≤ point_count planes.now.shape) wants.now }
     ensures count { length words.new ≡ length words.old }
     ensures kept { (k : ℕ) → k < length words.old → HaveEach planes.now.games (base + k) wants.now
         (slice_index words.old k) (length wants.now) (slice_index words.new k) }
 {
-    keep_of_kind(planes, base, wants, false, words);
+    let stones = keep_stones(planes, base, wants, words);
     if have_none_but(words, bare) {
         return;
     }
-    keep_of_kind(planes, base, wants, true, words);
+    keep_rest(planes, base, wants, stones, words);
 }
 
-// Keeps in each word the games that had a cell which is allowed, for each want that allows an empty
-// point, or for each other one. Where no game is left in any word, the rest isn't looked at.
-fn keep_of_kind(planes: &Planes, base: u16, wants: &[Want], empty: bool, words: &mut [u64])
+// Keeps in each word the games that had a cell which is allowed, for each want before the first one
+// that allows an empty point, and tells how many these are. Where no game is left in any word, it
+// may tell of fewer.
+fn keep_stones(planes: &Planes, base: u16, wants: &[Want], words: &mut [u64]) -> usize
     requires { All (λ (w : Want). base + w.offset + length words.old ≤ point_count planes.now.shape)
         wants.now }
     ensures count { length words.new ≡ length words.old }
-    ensures kept { (k : ℕ) → k < length words.old → HaveEachOfKind planes.now.games (base + k)
-        wants.now empty (slice_index words.old k) (length wants.now) (slice_index words.new k) }
+    ensures few { result ≤ length wants.now }
+    ensures kept { (k : ℕ) → k < length words.old → HaveEach planes.now.games (base + k) wants.now
+        (slice_index words.old k) result (slice_index words.new k) }
+    ensures rest { (k g : ℕ) → k < length words.old → bit_at (slice_index words.new k) g ≡ 1 →
+        result < length wants.now → IsTrue (slice_index_or wants.now result no_want).empty }
 {
-    for want in wants {
-        if want.empty == empty {
-            keep_want(planes, *want, base + want.offset, words);
-            if are_empty(words) {
-                return;
-            }
+    for k in 0..wants.len() {
+        let want = wants[k];
+        if want.empty || are_empty(words) {
+            return k;
         }
+        keep_want(planes, want, base + want.offset, words);
+    }
+    wants.len()
+}
+
+// Keeps in each word the games that had a cell which is allowed, for each want from the one with this
+// number on. Where no game is left in any word, the rest isn't looked at.
+fn keep_rest(planes: &Planes, base: u16, wants: &[Want], from: usize, words: &mut [u64])
+    requires from { from ≤ length wants.now }
+    requires on_board { All (λ (w : Want). base + w.offset + length words.old
+        ≤ point_count planes.now.shape) wants.now }
+    ensures count { length words.new ≡ length words.old }
+    ensures kept { (k there : ℕ) → k < length words.old →
+        HaveEach planes.now.games (base + k) wants.now there from (slice_index words.old k) →
+        HaveEach planes.now.games (base + k) wants.now there (length wants.now)
+        (slice_index words.new k) }
+{
+    for k in from..wants.len() {
+        if are_empty(words) {
+            return;
+        }
+        keep_want(planes, wants[k], base + wants[k].offset, words);
     }
 }
 

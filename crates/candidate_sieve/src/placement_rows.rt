@@ -4,7 +4,7 @@ ghost use Rattle.capture_index.specs.Wants.{base_of};
 ghost use Rattle.pattern_images.specs.ImageList.{placement_at};
 ghost use Rattle.candidate_sieve.specs.PlacementRows.{ArePlacedTo, AreRowsOf, AreRowsTo, IsRowGrown};
 
-use kb_geometry::{NoMemory, Point};
+use kb_geometry::{Label, NoMemory, Point};
 use pattern_images::{Images, Place};
 use std::alloc::Global;
 
@@ -65,20 +65,27 @@ fn add_class(
     ensures rows { OnOk result (AreRowsTo images.now numbers.new.items rows.new.items) }
 {
     for i in 0..images.len() {
-        let base = base(images, i);
+        let _label = label(images, i);
         if images.class_of(i) == class {
-            add_to_rows(class, base, numbers.len(), rows)?;
+            add_to_rows(class, base(images, i), numbers.len(), rows)?;
             numbers.push(i as u32)?;
         }
     }
     Ok(())
 }
 
+// The label of a placement.
+fn label(images: &Images, i: usize) -> Label
+    requires { i < length images.now.placements }
+    ensures { (placement_at images.now.placements i).label < 16 }
+{
+    images.place(i).label
+}
+
 // The number of the upper left point of a placement.
 fn base(images: &Images, i: usize) -> u16
     requires { i < length images.now.placements }
-    ensures value { result ≡ base_of images.now.shape (placement_at images.now.placements i) }
-    ensures label { (placement_at images.now.placements i).label < 16 }
+    ensures { result ≡ base_of images.now.shape (placement_at images.now.placements i) }
 {
     let _count = images.len();
     let Place { x, y, .. } = images.place(i);

@@ -1,21 +1,26 @@
 -- The wants of classes, one list after another.
 use Rattle.std.proofs.Common.{◌≡◌, ◌≢◌, ◌⊎◌, ℕ, suc, ◌+◌, ◌-◌, ◌*◌, ◌<◌, ◌≤◌, List, [], ◌∷◌, ◌++◌, length, get_or, take, drop, refl, sym, ap, ◌∙◌, arith, subst, inl, inr, append_assoc}
-use Rattle.std.specs.Prelude.{All, Any, slice_range}
-use Rattle.std.proofs.lemmas.Bool.{cases_eq, cases_lt}
+use Rattle.std.specs.Prelude.{All, Any, Bool, true, false, slice_index_or, slice_range}
+use Rattle.std.proofs.lemmas.Bool.{cases_Bool, cases_eq, cases_lt, false≢true}
+use Rattle.std.proofs.Math.Seq.{get_or-append_right}
 use Rattle.std.proofs.lemmas.Nat.{mul-add-lt}
 use Rattle.std.proofs.lemmas.List.{append-nil, length-append, length-drop, length_push, get_or_append_left, get_or_default, get_or_push, drop-append-le, take-append-le, drop_at, take_all}
 use Rattle.std.proofs.lemmas.List.Elements.{All-append, All-cons, All-nil, All-push, All-weaker}
 use Rattle.kb_geometry.specs.declared.shape.Shape.{Shape}
 use Rattle.kb_geometry.specs.declared.shape.Point.{Point}
-use Rattle.kb_geometry.specs.Board.{IsOnBoard, cols_of, number_of, rows_of}
+use Rattle.kb_geometry.specs.declared.stone.Cell.TheVariants as stone
+use Rattle.kb_geometry.specs.Board.{cols_of, number_of, rows_of}
 use Rattle.kb_geometry.proofs.Lists.{Any-weaker}
 use Rattle.pattern_images.specs.declared.cell.PatternCell.{PatternCell}
 use Rattle.pattern_images.specs.declared.cell.PatternCell.TheVariants as cell
 use Rattle.pattern_images.specs.Grid.{Grid, cell_in}
+use Rattle.pattern_images.specs.Holds.{Allows}
 use Rattle.pattern_images.specs.ImageList.{grid_at}
+use Rattle.pattern_images.proofs.Turned.{point-numbered}
 use Rattle.capture_index.specs.declared.stretch.Want.{Want}
 use Rattle.capture_index.specs.declared.wants.WantRange.{WantRange}
-use Rattle.capture_index.specs.StoredWants.{AreWantsAdded, HasLess, HasRank, HaveWantsTo, IsCellAdded, IsRangeOf, IsWantWith, cell_with, grid_with, rank_of, wants_in}
+use Rattle.capture_index.specs.StoredWants.{AreParted, ArePartedOn, AreWantsAdded, HasRank, HaveWantsTo, IsClassAdded, IsPut, IsRangeOf, IsWantWith, cell_with, grid_with, rank_of, wants_in}
+use Rattle.capture_index.specs.Stretches.{no_want}
 use Rattle.capture_index.specs.Wants.{AreWantsOf, ClassesOn, IsWantAt, IsWantIn, IsWantOf}
 
 -- ---- some element of two lists
@@ -34,42 +39,68 @@ grid_with-same size cells grid cols rows same =
     ∙ ap (λ l. record { cols = grid.cols; rows = grid.rows; cells = l }) same
 
 -- ---- the wants of one class
+
+-- a want of a cell allows an empty point where the cell may be empty
+may_be_empty : (c : PatternCell) (want : Want) → IsWantOf c want → rank_of c ≡ 1 → want.empty ≡ true
+may_be_empty cell.Empty want is r = (is stone.Empty).1 refl
+may_be_empty cell.NotWhite want is r = (is stone.Empty).1 (λ e. absurd cc)
+may_be_empty cell.NotBlack want is r = (is stone.Empty).1 (λ e. absurd cc)
+may_be_empty cell.Black want is r = absurd cc
+may_be_empty cell.White want is r = absurd cc
+may_be_empty cell.Any want is r = absurd cc
+
+-- and not where it must be a stone
+must_be_stone : (c : PatternCell) (want : Want) → IsWantOf c want → rank_of c ≡ 0 → want.empty ≡ false
+must_be_stone c want is r = elim (cases_Bool want.empty) [
+  | inl t ↦ absurd (no_empty c ((is stone.Empty).0 t) r)
+  | inr f ↦ f
+]
+  where
+    no_empty : (c : PatternCell) → Allows c stone.Empty → rank_of c ≡ 0 → ⊥
+    no_empty cell.Black e r = cc
+    no_empty cell.White e r = cc
+    no_empty cell.Empty e r = cc
+    no_empty cell.NotWhite e r = cc
+    no_empty cell.NotBlack e r = cc
+    no_empty cell.Any e r = cc
+
+-- the wants of cells of a rank allow an empty point, or don't
+abbrev OfKind : ℕ → Bool → Type 0
+OfKind rank allowing = (c : PatternCell) (want : Want) → IsWantOf c want → rank_of c ≡ rank → want.empty ≡ allowing
+
 module _ (shape : Shape) (grid : Grid) where
-  pub IsCellAdded-pushed : (rank k : ℕ) (before after : List Want) (want : Want) → IsWantWith shape grid k want → rank_of (cell_with grid k) ≡ rank → after ≡ before ++ want ∷ [] → IsCellAdded shape grid rank k before after
-  IsCellAdded-pushed rank k before after want is has e = record { pushed = λ _. (want, is, e); kept = λ ne. absurd (ne has) }
+  -- a want that is made for the cell in a column and a row
+  IsWantWith-at : (dx dy : ℕ) (want : Want) (size : Shape) → cols_of size ≡ grid.cols → rows_of size ≡ grid.rows → dx < cols_of size → dy < rows_of size →
+      want.offset ≡ dy * cols_of shape + dx → IsWantOf (cell_in grid dx dy) want → IsWantWith shape grid (dy * grid.cols + dx) want
+  IsWantWith-at dx dy want size cols rows column row offset allows = record {
+    dx = dx;
+    dy = dy;
+    column = omega (arith, column, cols);
+    row = omega (arith, row, rows);
+    is = (offset, allows);
+    only = λ ex ey in_cols in_rows e.
+        let at : Point = record { x = dx; y = dy } in
+        let p : Point = record { x = ex; y = ey } in
+        let same : p ≡ at = point-numbered size (number_of size at) p (omega (arith, in_cols, cols), omega (arith, in_rows, rows)) (subst (λ (n : ℕ). ey * n + ex ≡ dy * n + dx) (sym cols) e)
+            ∙ sym (point-numbered size (number_of size at) at (column, row) refl) in
+        (ap (λ (q : Point). q.x) same, ap (λ (q : Point). q.y) same);
+  }
 
-  pub IsCellAdded-kept : (rank k : ℕ) (before : List Want) → rank_of (cell_with grid k) ≢ rank → IsCellAdded shape grid rank k before before
-  IsCellAdded-kept rank k before ne = record { pushed = λ e. absurd (ne e); kept = λ _. refl }
+  pub AreWantsAdded-none : (allowing : Bool) (IsAsked : ℕ → Type 0) (before : List Want) → ((k : ℕ) → ¬ IsAsked k) → AreWantsAdded shape grid allowing IsAsked before before
+  AreWantsAdded-none allowing IsAsked before none = record {
+    more = [];
+    added = sym (append-nil before);
+    sound = All-nil (IsWantIn shape grid);
+    kind = All-nil (λ (w : Want). w.empty ≡ allowing);
+    complete = λ k asked. absurd (none k asked);
+  }
 
-  -- a want that is made for the point with this number
-  pub IsWantWith-point : (k : ℕ) (want : Want) (size : Shape) (at : Point) (c : PatternCell) → cols_of size ≡ grid.cols → rows_of size ≡ grid.rows → IsOnBoard size at → number_of size at ≡ k → ((p : Point) → IsOnBoard size p → number_of size p ≡ k → p ≡ at) →
-      c ≡ cell_with grid k → want.offset ≡ at.y * cols_of shape + at.x → IsWantOf c want → IsWantWith shape grid k want
-  IsWantWith-point k want size at c cols rows on_board number only read offset allows =
-      let same_number : at.y * grid.cols + at.x ≡ k = sym (ap (λ (n : ℕ). at.y * n + at.x) cols) ∙ number in
-      record {
-        dx = at.x;
-        dy = at.y;
-        column = omega (arith, on_board.0, cols);
-        row = omega (arith, on_board.1, rows);
-        is = (offset, subst (λ (d : PatternCell). IsWantOf d want) (read ∙ ap (cell_with grid) (sym same_number)) allows);
-        only = λ ex ey in_cols in_rows e.
-            let p : Point = record { x = ex; y = ey } in
-            let same : p ≡ at = only p (omega (arith, in_cols, cols), omega (arith, in_rows, rows)) (ap (λ (n : ℕ). ey * n + ex) cols ∙ e) in
-            (ap (λ (q : Point). q.x) same, ap (λ (q : Point). q.y) same);
-      }
-
-  -- the cell that is read from a list of the cells
-  pub cell-read : (cells : List PatternCell) (i k : ℕ) (d : PatternCell) → cells ≡ grid.cells → i ≡ k → i < length cells → get_or cells i d ≡ cell_with grid k
-  cell-read cells i k d same at lt = get_or_default cells i d cell.Any lt ∙ ap (λ (cs : List PatternCell). get_or cs i cell.Any) same ∙ ap (cell_with grid) at
-
-  pub AreWantsAdded-none : (IsAsked : ℕ → Type 0) (before : List Want) → ((k : ℕ) → ¬ IsAsked k) → AreWantsAdded shape grid IsAsked before before
-  AreWantsAdded-none IsAsked before none = record { more = []; added = sym (append-nil before); sound = All-nil (IsWantIn shape grid); complete = λ k asked. absurd (none k asked) }
-
-  pub AreWantsAdded-join : (A B C : ℕ → Type 0) (before now later : List Want) → AreWantsAdded shape grid A before now → AreWantsAdded shape grid B now later → ((k : ℕ) → C k → A k ⊎ B k) → AreWantsAdded shape grid C before later
-  AreWantsAdded-join A B C before now later a b parts = record {
+  AreWantsAdded-join : (allowing : Bool) (A B C : ℕ → Type 0) (before now later : List Want) → AreWantsAdded shape grid allowing A before now → AreWantsAdded shape grid allowing B now later → ((k : ℕ) → C k → A k ⊎ B k) → AreWantsAdded shape grid allowing C before later
+  AreWantsAdded-join allowing A B C before now later a b parts = record {
     more = a.more ++ b.more;
     added = b.added ∙ ap (λ (ws : List Want). ws ++ b.more) a.added ∙ append_assoc before a.more b.more;
     sound = All-append (IsWantIn shape grid) a.more b.more a.sound b.sound;
+    kind = All-append (λ (w : Want). w.empty ≡ allowing) a.more b.more a.kind b.kind;
     complete = λ k asked. elim (parts k asked) [
       | inl first ↦ Any-left (IsWantWith shape grid k) a.more b.more (a.complete k first)
       | inr second ↦ Any-right (IsWantWith shape grid k) a.more b.more (b.complete k second)
@@ -80,55 +111,94 @@ module _ (shape : Shape) (grid : Grid) where
   abbrev IsThis : ℕ → ℕ → ℕ → Type 0
   IsThis rank n k = (k ≡ n) × (rank_of (cell_with grid k) ≡ rank)
 
-  this-added : (rank n : ℕ) (now later : List Want) → IsCellAdded shape grid rank n now later → AreWantsAdded shape grid (IsThis rank n) now later
-  this-added rank n now later cell = elim (cases_eq (rank_of (cell_with grid n)) rank) [
-    | inl has ↦
-        let (want, is, e) = cell.pushed has in
-        let one : IsWantIn shape grid want = (is.dx, is.dy, is.column, is.row, is.is) in
-        record {
-          more = want ∷ [];
-          added = e;
-          sound = All-cons (IsWantIn shape grid) want [] one (All-nil (IsWantIn shape grid));
-          complete = λ k this. (0, want, omega arith, refl, subst (λ (i : ℕ). IsWantWith shape grid i want) (sym this.0) is);
-        }
-    | inr other ↦
-        subst (AreWantsAdded shape grid (IsThis rank n) now) (sym (cell.kept other))
-        (AreWantsAdded-none (IsThis rank n) now (λ k this. other (ap (λ (i : ℕ). rank_of (cell_with grid i)) (sym this.0) ∙ this.1)))
-  ]
+  module _ (rank : ℕ) (allowing : Bool) (of_kind : OfKind rank allowing) (size : Shape) (cols : cols_of size ≡ grid.cols) (rows : rows_of size ≡ grid.rows) (dx dy : ℕ) (column : dx < cols_of size) (row : dy < rows_of size) where
+    this-added : (now later : List Want) → IsPut rank (cell_in grid dx dy) (dy * cols_of shape + dx) now later → AreWantsAdded shape grid allowing (IsThis rank (dy * grid.cols + dx)) now later
+    this-added now later put = elim (cases_eq (rank_of (cell_in grid dx dy)) rank) [
+      | inl has ↦
+          let (want, offset, is, e) = put.0 has in
+          let one : IsWantWith shape grid (dy * grid.cols + dx) want = IsWantWith-at dx dy want size cols rows column row offset is in
+          record {
+            more = want ∷ [];
+            added = e;
+            sound = All-cons (IsWantIn shape grid) want [] (one.dx, one.dy, one.column, one.row, one.is) (All-nil (IsWantIn shape grid));
+            kind = All-cons (λ (w : Want). w.empty ≡ allowing) want [] (of_kind (cell_in grid dx dy) want is has) (All-nil (λ (w : Want). w.empty ≡ allowing));
+            complete = λ k this. (0, want, omega arith, refl, subst (λ (i : ℕ). IsWantWith shape grid i want) (sym this.0) one);
+          }
+      | inr other ↦
+          subst (AreWantsAdded shape grid allowing (IsThis rank (dy * grid.cols + dx)) now) (sym (put.1 other))
+          (AreWantsAdded-none allowing (IsThis rank (dy * grid.cols + dx)) now (λ k this. other (ap (λ (i : ℕ). rank_of (cell_with grid i)) (sym this.0) ∙ this.1)))
+    ]
+
+    -- one cell more
+    AreWantsAdded-cell : (before now later : List Want) → AreWantsAdded shape grid allowing (HasRank grid rank (dy * grid.cols + dx)) before now → IsPut rank (cell_in grid dx dy) (dy * cols_of shape + dx) now later →
+        AreWantsAdded shape grid allowing (HasRank grid rank (dy * grid.cols + dx + 1)) before later
+    AreWantsAdded-cell before now later so_far put =
+        AreWantsAdded-join allowing (HasRank grid rank (dy * grid.cols + dx)) (IsThis rank (dy * grid.cols + dx)) (HasRank grid rank (dy * grid.cols + dx + 1)) before now later so_far (this-added now later put)
+        (λ k has. elim (cases_lt k (dy * grid.cols + dx)) [ inl less ↦ inl (less, has.1) | inr from ↦ inr (omega (arith, has.0), has.1) ])
+
+  -- nothing is parted yet
+  pub AreParted-start : (before others : List Want) → others ≡ [] → AreParted shape grid 0 before before others
+  AreParted-start before others none = (
+    AreWantsAdded-none false (HasRank grid 0 0) before (λ k has. absurd (omega (arith, has.0))),
+    subst (AreWantsAdded shape grid true (HasRank grid 1 0) []) (sym none) (AreWantsAdded-none true (HasRank grid 1 0) [] (λ k has. absurd (omega (arith, has.0)))),
+  )
+
+  -- a cell of the list of cells is the one in its column and row
+  pub IsPut-read : (rank : ℕ) (i j dx dy : ℕ) (d : PatternCell) (now later : List Want) → i ≡ dy * grid.cols + dx → i < length grid.cells → j ≡ dy * cols_of shape + dx →
+      IsPut rank (get_or grid.cells i d) j now later → IsPut rank (cell_in grid dx dy) (dy * cols_of shape + dx) now later
+  IsPut-read rank i j dx dy d now later at lt behind put =
+      let read : get_or grid.cells i d ≡ cell_in grid dx dy = get_or_default grid.cells i d cell.Any lt ∙ ap (λ (n : ℕ). get_or grid.cells n cell.Any) at in
+      subst (λ (c : PatternCell). IsPut rank c (dy * cols_of shape + dx) now later) read (subst (λ (n : ℕ). IsPut rank (get_or grid.cells i d) n now later) behind put)
+
+  pub ArePartedOn-none : (n : ℕ) (stones others : List Want) → ArePartedOn shape grid n n stones others stones others
+  ArePartedOn-none n stones others before parted = parted
 
   -- one cell more
-  pub AreWantsAdded-cell : (rank n : ℕ) (before now later : List Want) → AreWantsAdded shape grid (HasRank grid rank n) before now → IsCellAdded shape grid rank n now later → AreWantsAdded shape grid (HasRank grid rank (n + 1)) before later
-  AreWantsAdded-cell rank n before now later so_far cell =
-      AreWantsAdded-join (HasRank grid rank n) (IsThis rank n) (HasRank grid rank (n + 1)) before now later so_far (this-added rank n now later cell)
-      (λ k has. elim (cases_lt k n) [ inl less ↦ inl (less, has.1) | inr from ↦ inr (omega (arith, has.0), has.1) ])
+  pub ArePartedOn-more : (size : Shape) → cols_of size ≡ grid.cols → rows_of size ≡ grid.rows → (dx dy : ℕ) → dx < cols_of size → dy < rows_of size → (from : ℕ) (stones others now_stones now_others later_stones later_others : List Want) →
+      ArePartedOn shape grid from (dy * grid.cols + dx) stones others now_stones now_others → IsPut 0 (cell_in grid dx dy) (dy * cols_of shape + dx) now_stones later_stones → IsPut 1 (cell_in grid dx dy) (dy * cols_of shape + dx) now_others later_others →
+      ArePartedOn shape grid from (dy * grid.cols + dx + 1) stones others later_stones later_others
+  ArePartedOn-more size cols rows dx dy column row from stones others now_stones now_others later_stones later_others so_far stone other before parted =
+      let now = so_far before parted in (
+        AreWantsAdded-cell 0 false must_be_stone size cols rows dx dy column row before now_stones later_stones now.0 stone,
+        AreWantsAdded-cell 1 true may_be_empty size cols rows dx dy column row [] now_others later_others now.1 other,
+      )
 
-  -- one rank more
-  pub AreWantsAdded-rank : (rank : ℕ) (before now later : List Want) → AreWantsAdded shape grid (HasLess grid rank) before now → AreWantsAdded shape grid (HasRank grid rank (grid.cols * grid.rows)) now later → AreWantsAdded shape grid (HasLess grid (rank + 1)) before later
-  AreWantsAdded-rank rank before now later so_far one =
-      AreWantsAdded-join (HasLess grid rank) (HasRank grid rank (grid.cols * grid.rows)) (HasLess grid (rank + 1)) before now later so_far one
-      (λ k has. elim (cases_lt (rank_of (cell_with grid k)) rank) [ inl less ↦ inl (has.0, less) | inr from ↦ inr (has.0, omega (arith, has.1)) ])
+  -- each cell but wildcards has one of the ranks
+  rank-of : (c : PatternCell) → c ≢ cell.Any → (rank_of c ≡ 0) ⊎ (rank_of c ≡ 1)
+  rank-of cell.Empty ne = inr refl
+  rank-of cell.Black ne = inl refl
+  rank-of cell.White ne = inl refl
+  rank-of cell.NotWhite ne = inr refl
+  rank-of cell.NotBlack ne = inr refl
+  rank-of cell.Any ne = absurd (ne refl)
 
-  -- each cell but wildcards has a lesser rank than these
-  rank-lt : (c : PatternCell) → c ≢ cell.Any → rank_of c < 3
-  rank-lt cell.Empty ne = omega arith
-  rank-lt cell.Black ne = omega arith
-  rank-lt cell.White ne = omega arith
-  rank-lt cell.NotWhite ne = omega arith
-  rank-lt cell.NotBlack ne = omega arith
-  rank-lt cell.Any ne = absurd (ne refl)
-
-  pub AreWantsOf-added : (before after : List Want) (added : AreWantsAdded shape grid (HasLess grid 3) before after) → AreWantsOf shape grid added.more
-  AreWantsOf-added before after added = record {
-    sound = added.sound;
-    complete = λ dx dy in_cols in_rows asks.
-        let k : ℕ = dy * grid.cols + dx in
-        let lt : k < grid.cols * grid.rows = mul-add-lt dy grid.cols dx grid.rows in_rows in_cols in
-        Any-weaker (IsWantWith shape grid k) (IsWantAt shape grid dx dy)
-        (λ want is.
-        let same = is.only dx dy in_cols in_rows refl in
-        subst (λ (x : ℕ). IsWantAt shape grid x dy want) (sym same.0) (subst (λ (y : ℕ). IsWantAt shape grid is.dx y want) (sym same.1) is.is))
-        added.more (added.complete k (lt, rank-lt (cell_in grid dx dy) asks));
-  }
+  -- the wants of the stones, and behind them those of the other cells
+  pub AreWantsOf-parted : (count : ℕ) → count ≡ grid.cols * grid.rows → (before stones others : List Want) (parted : AreParted shape grid count before stones others) → AreWantsOf shape grid (parted.0.more ++ others)
+  AreWantsOf-parted count all before stones others (first, second) =
+      let is : others ≡ second.more = second.added in
+      record {
+        sound = All-append (IsWantIn shape grid) first.more others first.sound (subst (All (IsWantIn shape grid)) (sym is) second.sound);
+        complete = λ dx dy in_cols in_rows asks.
+            let k : ℕ = dy * grid.cols + dx in
+            let lt : k < count = omega (arith, mul-add-lt dy grid.cols dx grid.rows in_rows in_cols, all) in
+            Any-weaker (IsWantWith shape grid k) (IsWantAt shape grid dx dy)
+            (λ want is.
+            let same = is.only dx dy in_cols in_rows refl in
+            subst (λ (x : ℕ). IsWantAt shape grid x dy want) (sym same.0) (subst (λ (y : ℕ). IsWantAt shape grid is.dx y want) (sym same.1) is.is))
+            (first.more ++ others) (elim (rank-of (cell_in grid dx dy) asks) [
+              | inl stone ↦ Any-left (IsWantWith shape grid k) first.more others (first.complete k (lt, stone))
+              | inr other ↦ Any-right (IsWantWith shape grid k) first.more others (subst (Any (IsWantWith shape grid k)) (sym is) (second.complete k (lt, other)))
+            ]);
+        stones_first = λ j k less lt e. elim (cases_lt k (length first.more)) [
+          | inl stone ↦
+              let early : slice_index_or (first.more ++ others) j no_want ≡ slice_index_or first.more j no_want = get_or_append_left first.more others no_want j (omega (arith, less, stone)) in
+              absurd (false≢true (sym (first.kind j no_want (omega arith)) ∙ ap (λ (w : Want). w.empty) (sym early) ∙ e))
+          | inr other ↦
+              let late : slice_index_or (first.more ++ others) k no_want ≡ slice_index_or others (k - length first.more) no_want = get_or-append_right first.more others k no_want other in
+              let below : k - length first.more < length others = omega (arith, length-append first.more others) in
+              ap (λ (w : Want). w.empty) late ∙ subst (All (λ (w : Want). w.empty ≡ true)) (sym is) second.kind (k - length first.more) no_want below
+        ];
+      }
 
 -- ---- the wants of all classes
 
@@ -155,10 +225,10 @@ module _ (shape : Shape) (grids : List Grid) where
     each = λ k d lt. absurd (omega arith);
   }
 
-  pub HaveWantsTo-more : (n : ℕ) (ranges later : List WantRange) (wants now : List Want) (range : WantRange) → HaveWantsTo shape grids n ranges wants → AreWantsAdded shape (grid_at grids n) (HasLess (grid_at grids n) 3) wants now →
+  pub HaveWantsTo-more : (n : ℕ) (ranges later : List WantRange) (wants now : List Want) (range : WantRange) → HaveWantsTo shape grids n ranges wants → IsClassAdded shape (grid_at grids n) wants now →
       range.start ≡ length wants → range.end ≡ length now → later ≡ ranges ++ range ∷ [] → HaveWantsTo shape grids (n + 1) later now
-  HaveWantsTo-more n ranges later wants now range have added from to pushed =
-      let longer : length now ≡ length wants + length added.more = ap length added.added ∙ length-append wants added.more in
+  HaveWantsTo-more n ranges later wants now range have (more, added, are) from to pushed =
+      let longer : length now ≡ length wants + length more = ap length added ∙ length-append wants more in
       let kept : All (IsRangeOf now) ranges = All-weaker (IsRangeOf wants) (IsRangeOf now) (λ r w. record { ordered = w.ordered; ends = omega (arith, w.ends) }) ranges have.within in
       record {
         count = ap length pushed ∙ length_push ranges range ∙ ap (λ (i : ℕ). i + 1) have.count;
@@ -168,15 +238,15 @@ module _ (shape : Shape) (grids : List Grid) where
               let same : get_or (ranges ++ range ∷ []) k d ≡ get_or ranges k d = get_or_append_left ranges (range ∷ []) d k (omega (arith, have.count)) in
               let here : wants_in now (get_or (ranges ++ range ∷ []) k d) ≡ wants_in wants (get_or ranges k d) =
               ap (wants_in now) same
-              ∙ ap (λ (ws : List Want). wants_in ws (get_or ranges k d)) added.added
-              ∙ sym (wants_in-kept wants added.more (get_or ranges k d) (have.within k d (omega (arith, have.count)))) in
+              ∙ ap (λ (ws : List Want). wants_in ws (get_or ranges k d)) added
+              ∙ sym (wants_in-kept wants more (get_or ranges k d) (have.within k d (omega (arith, have.count)))) in
               subst (AreWantsOf shape (grid_at grids k)) (sym here) (have.each k d below)
           | inr last ↦
               let here : n ≡ k = omega arith in
               let at : get_or (ranges ++ range ∷ []) k d ≡ range = get_or_push ranges range d k (have.count ∙ here) in
-              let last_wants : wants_in now (get_or (ranges ++ range ∷ []) k d) ≡ added.more =
-              ap (wants_in now) at ∙ ap (λ (ws : List Want). wants_in ws range) added.added ∙ wants_in-last wants added.more range from (to ∙ ap length added.added) in
-              subst (AreWantsOf shape (grid_at grids k)) (sym last_wants) (subst (λ (i : ℕ). AreWantsOf shape (grid_at grids i) added.more) here (AreWantsOf-added shape (grid_at grids n) wants now added))
+              let last_wants : wants_in now (get_or (ranges ++ range ∷ []) k d) ≡ more =
+              ap (wants_in now) at ∙ ap (λ (ws : List Want). wants_in ws range) added ∙ wants_in-last wants more range from (to ∙ ap length added) in
+              subst (AreWantsOf shape (grid_at grids k)) (sym last_wants) (subst (λ (i : ℕ). AreWantsOf shape (grid_at grids i) more) here are)
         ]);
       }
 

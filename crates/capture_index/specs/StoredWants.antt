@@ -1,5 +1,5 @@
 -- The wants of classes in one list, and how they are added to it: words for the private functions.
-use Rattle.std.specs.Prelude.{◌≡◌, ◌≢◌, ℕ, ◌+◌, ◌*◌, ◌<◌, ◌≤◌, List, [], ◌∷◌, ◌++◌, length, slice_index_or, slice_range, All, Any}
+use Rattle.std.specs.Prelude.{◌≡◌, ◌≢◌, ℕ, ◌+◌, ◌*◌, ◌<◌, ◌≤◌, Bool, true, false, List, [], ◌∷◌, ◌++◌, length, slice_index_or, slice_range, All, Any}
 use Rattle.kb_geometry.specs.declared.shape.Shape.{Shape}
 use Rattle.kb_geometry.specs.Board.{cols_of, rows_of}
 use Rattle.pattern_images.specs.declared.cell.PatternCell.{PatternCell}
@@ -8,7 +8,7 @@ use Rattle.pattern_images.specs.Grid.{Grid}
 use Rattle.pattern_images.specs.ImageList.{grid_at}
 use Rattle.capture_index.specs.declared.stretch.Want.{Want}
 use Rattle.capture_index.specs.declared.wants.WantRange.{WantRange}
-use Rattle.capture_index.specs.Wants.{AreWantsOf, IsWantAt, IsWantIn}
+use Rattle.capture_index.specs.Wants.{AreWantsOf, IsWantAt, IsWantIn, IsWantOf}
 
 -- the wants in the range
 abbrev pub wants_in : List Want → WantRange → List Want
@@ -27,15 +27,15 @@ pub record HaveWantsTo (shape : Shape) (grids : List Grid) (n : ℕ) (ranges : L
   pub each : (k : ℕ) (d : WantRange) → k < n →
       AreWantsOf shape (grid_at grids k) (wants_in wants (slice_index_or ranges k d))
 
--- where a cell's want stands: stones come first, then half wildcards, then empty cells, and
--- wildcards have none
+-- where a cell's want stands: those that must be a stone come first, then those that may be empty,
+-- and wildcards have none
 abbrev pub rank_of : PatternCell → ℕ
 rank_of cell.Black = 0
 rank_of cell.White = 0
 rank_of cell.NotWhite = 1
 rank_of cell.NotBlack = 1
-rank_of cell.Empty = 2
-rank_of cell.Any = 3
+rank_of cell.Empty = 1
+rank_of cell.Any = 2
 
 -- the rectangle of this size with these cells
 abbrev pub grid_with : Shape → List PatternCell → Grid
@@ -55,25 +55,41 @@ pub record IsWantWith (shape : Shape) (grid : Grid) (k : ℕ) (want : Want) : Ty
   pub only : (ex ey : ℕ) → ex < grid.cols → ey < grid.rows → ey * grid.cols + ex ≡ k →
       (ex ≡ dx) × (ey ≡ dy)
 
--- the list grows by the want of the cell with this number if the cell has the rank
-pub record IsCellAdded (shape : Shape) (grid : Grid) (rank k : ℕ) (before after : List Want) :
-    Type 0 where
-  pub pushed : rank_of (cell_with grid k) ≡ rank →
-      (want : Want) × IsWantWith shape grid k want × (after ≡ before ++ want ∷ [])
-  pub kept : rank_of (cell_with grid k) ≢ rank → after ≡ before
+-- the list grows by the want of a cell that stands so far behind the upper left one, if the cell
+-- has the rank
+abbrev pub IsPut : ℕ → PatternCell → ℕ → List Want → List Want → Type 0
+IsPut rank cell offset before after =
+    (rank_of cell ≡ rank → (want : Want) × (want.offset ≡ offset) × IsWantOf cell want
+    × (after ≡ before ++ want ∷ []))
+    × (rank_of cell ≢ rank → after ≡ before)
 
--- the list grows by wants of cells, among them those of all cells with numbers that are asked for
-pub record AreWantsAdded (shape : Shape) (grid : Grid) (IsAsked : ℕ → Type 0)
+-- The list grows by wants of cells that all allow an empty point, or all don't, among them those of
+-- all cells with numbers that are asked for.
+pub record AreWantsAdded (shape : Shape) (grid : Grid) (allowing : Bool) (IsAsked : ℕ → Type 0)
     (before after : List Want) : Type 0 where
   pub more : List Want
   pub added : after ≡ before ++ more
   pub sound : All (IsWantIn shape grid) more
+  pub kind : All (λ (w : Want). w.empty ≡ allowing) more
   pub complete : (k : ℕ) → IsAsked k → Any (IsWantWith shape grid k) more
 
 -- the cell with the number is one of the first so many, and has the rank
 abbrev pub HasRank : Grid → ℕ → ℕ → ℕ → Type 0
 HasRank grid rank count k = (k < count) × (rank_of (cell_with grid k) ≡ rank)
 
--- the cell with the number has a lesser rank
-abbrev pub HasLess : Grid → ℕ → ℕ → Type 0
-HasLess grid rank k = (k < grid.cols * grid.rows) × (rank_of (cell_with grid k) < rank)
+-- Of the first so many cells those that must be a stone have their wants behind a list, and those
+-- that may be empty in another list.
+abbrev pub AreParted : Shape → Grid → ℕ → List Want → List Want → List Want → Type 0
+AreParted shape grid count before stones others =
+    AreWantsAdded shape grid false (HasRank grid 0 count) before stones
+    × AreWantsAdded shape grid true (HasRank grid 1 count) [] others
+
+-- so for the cells from one number on up to another: what was so with the first ones, is
+abbrev pub ArePartedOn : Shape → Grid → ℕ → ℕ → (stones others stones' others' : List Want) → Type 0
+ArePartedOn shape grid from to stones others stones' others' = (before : List Want) →
+    AreParted shape grid from before stones others → AreParted shape grid to before stones' others'
+
+-- the list grows by the wants of a class
+abbrev pub IsClassAdded : Shape → Grid → List Want → List Want → Type 0
+IsClassAdded shape grid before after =
+    (more : List Want) × (after ≡ before ++ more) × AreWantsOf shape grid more

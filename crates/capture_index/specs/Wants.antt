@@ -1,5 +1,5 @@
 -- What the classes of a query's images ask of points.
-use Rattle.std.specs.Prelude.{◌≡◌, ◌≢◌, ℕ, ◌+◌, ◌*◌, ◌<◌, ◌↔◌, IsTrue, List, All, Any}
+use Rattle.std.specs.Prelude.{◌≡◌, ◌≢◌, ℕ, ◌+◌, ◌*◌, ◌<◌, ◌↔◌, IsTrue, List, length, slice_index_or, All, Any}
 use Rattle.kb_geometry.specs.declared.shape.Shape.{Shape}
 use Rattle.kb_geometry.specs.declared.stone.Cell.{Cell}
 use Rattle.kb_geometry.specs.Board.{cols_of, number_of}
@@ -10,7 +10,7 @@ use Rattle.pattern_images.specs.Grid.{Grid, cell_in}
 use Rattle.pattern_images.specs.Holds.{Allows}
 use Rattle.pattern_images.specs.Placements.{Placement}
 use Rattle.capture_index.specs.declared.stretch.Want.{Want}
-use Rattle.capture_index.specs.Stretches.{is_wanted}
+use Rattle.capture_index.specs.Stretches.{is_wanted, no_want}
 
 -- The shape of a board, and the rectangles of cells of the classes.
 pub record ClassesOn : Type 0 where
@@ -36,9 +36,15 @@ abbrev pub IsWantIn : Shape → Grid → Want → Type 0
 IsWantIn shape grid want =
     (dx : ℕ) × (dy : ℕ) × (dx < grid.cols) × (dy < grid.rows) × IsWantAt shape grid dx dy want
 
+-- behind a want that allows an empty point stand such wants alone
+abbrev pub AreStonesFirst : List Want → Type 0
+AreStonesFirst wants = (j k : ℕ) → j < k → k < length wants →
+    IsTrue (slice_index_or wants j no_want).empty → IsTrue (slice_index_or wants k no_want).empty
+
 -- Each want is that of a cell of the rectangle on a board of the shape, and each cell but wildcards
--- has one.
+-- has one. Those of cells that must be a stone come first.
 pub record AreWantsOf (shape : Shape) (grid : Grid) (wants : List Want) : Type 0 where
   pub sound : All (IsWantIn shape grid) wants
   pub complete : (dx dy : ℕ) → dx < grid.cols → dy < grid.rows → cell_in grid dx dy ≢ cell.Any →
       Any (IsWantAt shape grid dx dy) wants
+  pub stones_first : AreStonesFirst wants

@@ -1,78 +1,89 @@
 // The wants of one class.
-ghost use Rattle.std.specs.Prelude.{◌≡◌, ◌+◌, ◌*◌, ◌<◌, ◌≤◌, ℕ, OnOk, length};
+ghost use Rattle.std.specs.Prelude.{◌≡◌, ◌+◌, ◌*◌, ◌<◌, ◌≤◌, OnOk, length};
 ghost use Rattle.kb_geometry.specs.Board.{cols_of, point_count, rows_of};
 ghost use Rattle.pattern_images.specs.ImageList.{grid_at};
 ghost use Rattle.capture_index.specs.StoredWants.{
-  AreWantsAdded,
-  HasLess,
-  HasRank,
-  IsCellAdded,
+  ArePartedOn,
+  IsClassAdded,
+  IsPut,
   grid_with,
   rank_of,
 };
 ghost use Rattle.capture_index.specs.Wants.{IsWantOf};
 
 use crate::stretch::Want;
-use kb_geometry::{NoMemory, Point, Shape};
+use kb_geometry::{NoMemory, Shape};
 use pattern_images::{Images, PatternCell};
 
-// Wildcards have this rank, and no want.
-const WILDCARD: u8 = 3;
+// The ranks of cells: their wants stand in this order, and wildcards have none.
+const STONE: u8 = 0;
+const OTHER: u8 = 1;
+const WILDCARD: u8 = 2;
 
-// Adds the wants of a class, by rank.
+// Adds the wants of a class. What is in `others` doesn't count.
 pub(crate) fn add_wants(
     images: &Images,
     class: usize,
     wants: &mut Vec<Want>,
+    others: &mut Vec<Want>,
 ) -> Result<(), NoMemory>
     requires { class < length images.now.grids }
-    ensures { OnOk result (AreWantsAdded images.now.shape (grid_at images.now.grids class)
-        (HasLess (grid_at images.now.grids class) WILDCARD) wants.old.items wants.new.items) }
+    ensures { OnOk result (IsClassAdded images.now.shape (grid_at images.now.grids class)
+        wants.old.items wants.new.items) }
 {
+    others.clear();
     let size = images.class_size(class);
     let cells = images.class_cells(class);
-    for rank in 0..WILDCARD {
-        add_rank(images.shape(), size, cells, rank, wants)?;
+    for y in 0..size.rows() {
+        add_row(images.shape(), size, cells, y, wants, others)?;
     }
+    wants.extend_from_slice(others)?;
     Ok(())
 }
 
-// Adds the wants of the cells of a rectangle that have a rank.
-fn add_rank(
+// Adds the wants of the cells in a row of a rectangle: to the first list those that must be a stone,
+// and to the other one those that may be empty.
+fn add_row(
     shape: Shape,
     size: Shape,
     cells: &[PatternCell],
-    rank: u8,
+    y: u8,
     wants: &mut Vec<Want>,
-) -> Result<(), NoMemory>
-    requires { length cells.now ≡ point_count size }
-    ensures { OnOk result (AreWantsAdded shape (grid_with size cells.now)
-        (HasRank (grid_with size cells.now) rank (cols_of size * rows_of size)) wants.old.items
-        wants.new.items) }
-{
-    for number in 0..size.count() {
-        add_cell(shape, size, cells, rank, number, wants)?;
-    }
-    Ok(())
-}
-
-// Adds the want of a cell of a rectangle if it has the rank.
-fn add_cell(
-    shape: Shape,
-    size: Shape,
-    cells: &[PatternCell],
-    rank: u8,
-    number: u16,
-    wants: &mut Vec<Want>,
+    others: &mut Vec<Want>,
 ) -> Result<(), NoMemory>
     requires count { length cells.now ≡ point_count size }
-    requires number { number < point_count size }
-    ensures { OnOk result (IsCellAdded shape (grid_with size cells.now) rank number wants.old.items
-        wants.new.items) }
+    requires row { y < rows_of size }
+    ensures { OnOk result (ArePartedOn shape (grid_with size cells.now) (y * cols_of size)
+        ((y + 1) * cols_of size) wants.old.items others.old.items wants.new.items
+        others.new.items) }
 {
-    let cell = cells[usize::from(number)];
-    if rank_of(cell) == rank {
-        wants.push(want_of(cell, offset(shape, size.point(number))))?;
+    let cols = usize::from(size.cols());
+    let first = usize::from(y) * cols;
+    let offset = u16::from(y) * u16::from(shape.cols());
+    for x in 0..cols {
+        add_cell(cells[first + x], offset + x as u16, wants, others)?;
+    }
+    Ok(())
+}
+
+// Adds the want of a cell that stands so far behind the upper left one.
+fn add_cell(
+    cell: PatternCell,
+    offset: u16,
+    wants: &mut Vec<Want>,
+    others: &mut Vec<Want>,
+) -> Result<(), NoMemory>
+    ensures stones { OnOk result (IsPut STONE cell offset wants.old.items wants.new.items) }
+    ensures others { OnOk result (IsPut OTHER cell offset others.old.items others.new.items) }
+{
+    let rank = rank_of(cell);
+    if rank == STONE {
+        wants.push(want_of(cell, offset))?;
+        return Ok(());
+    }
+    if rank == OTHER {
+        others.push(want_of(cell, offset))?;
+        return Ok(());
     }
     Ok(())
 }
@@ -82,22 +93,10 @@ fn rank_of(cell: PatternCell) -> u8
     ensures { result ≡ rank_of cell }
 {
     match cell {
-        PatternCell::Black => 0,
-        PatternCell::White => 0,
-        PatternCell::NotWhite => 1,
-        PatternCell::NotBlack => 1,
-        PatternCell::Empty => 2,
+        PatternCell::Black | PatternCell::White => STONE,
+        PatternCell::Empty | PatternCell::NotWhite | PatternCell::NotBlack => OTHER,
         PatternCell::Any => WILDCARD,
     }
-}
-
-// How far a point in column x and row y of a rectangle stands behind its upper left one.
-fn offset(shape: Shape, at: Point) -> u16
-    requires column { at.x < 52 }
-    requires row { at.y < 52 }
-    ensures { result ≡ at.y * cols_of shape + at.x }
-{
-    u16::from(at.y) * u16::from(shape.cols()) + u16::from(at.x)
 }
 
 // What a pattern's cell asks of a point so far behind.

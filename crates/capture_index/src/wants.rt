@@ -13,8 +13,8 @@ use std::marker::Model;
 /// What each class of a query's images asks of points: for each cell that isn't a wildcard how far
 /// its point stands behind the upper left one, by number on the board, and which cells it allows.
 ///
-/// Cells that must be a stone come first, then half wildcards, then empty cells: what fewer nodes
-/// have is asked first.
+/// Cells that must be a stone come first, then those that may be empty: what fewer nodes have is
+/// asked first.
 #[derive(Debug, Drop)]
 pub struct Wants<'a> {
     images: &'a Images,
@@ -57,9 +57,10 @@ impl<'a> Wants<'a> {
         let count = images.class_count();
         let mut ranges = Vec::with_capacity(alloc, count)?;
         let mut wants = Vec::new(alloc);
+        let mut others = Vec::new(alloc);
         for class in 0..count {
             let start = wants.len();
-            add_wants(images, class, &mut wants)?;
+            add_wants(images, class, &mut wants, &mut others)?;
             ranges.push(WantRange {
                 start,
                 end: wants.len(),

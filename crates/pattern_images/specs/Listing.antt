@@ -1,6 +1,6 @@
 -- Words of the private functions that list the places of a query, in order, label by label at each
 -- point.
-use Rattle.std.specs.Prelude.{◌≡◌, ℕ, ◌<◌, ◌≤◌, ◌⊎◌, List, length, map, Option, Some, None, All, Any, AllPairs}
+use Rattle.std.specs.Prelude.{◌≡◌, ℕ, ◌<◌, ◌≤◌, ◌⊎◌, List, length, map, slice_index_or, take, Option, Some, None, All, Any, AllPairs}
 use Rattle.kb_geometry.specs.declared.shape.Shape.{Shape}
 use Rattle.kb_geometry.specs.declared.shape.Point.{Point}
 use Rattle.kb_geometry.specs.Board.{IsInside}
@@ -53,6 +53,20 @@ ListsOn shape turns y x label before y' x' label' after =
 abbrev pub GivesAt : ℕ → Point → Option Turn → Type 0
 GivesAt class p None = ⊥
 GivesAt class p (Some turn) = (turn.class ≡ class) × IsInside turn.corners p
+
+-- there is a turn, and it has the rectangle of cells with this number
+abbrev pub HasClass : ℕ → Option Turn → Type 0
+HasClass class None = ⊥
+HasClass class (Some turn) = turn.class ≡ class
+
+-- the turn at this place, if there is one, has another rectangle of cells than each before it
+abbrev pub IsDifferentAt : List (Option Turn) → ℕ → Type 0
+IsDifferentAt turns k = (turn : Turn) → slice_index_or turns k None ≡ Some turn →
+    ¬ Any (HasClass turn.class) (take k turns)
+
+-- no two turns have one rectangle of cells
+abbrev pub AreDifferent : List (Option Turn) → Type 0
+AreDifferent turns = (k : ℕ) → k < length turns → IsDifferentAt turns k
 
 -- there is a turn, and some of its upper left points lie in this row
 abbrev pub Reaches : ℕ → Option Turn → Type 0

@@ -1,8 +1,30 @@
 // The places of a query's pattern on a board, in order.
-ghost use Rattle.std.specs.Prelude.{◌≡◌, ◌↔◌, ◌+◌, ◌<◌, [], Any, IsTrue, length, IfOk};
+ghost use Rattle.std.specs.Prelude.{
+  ◌≡◌,
+  ◌↔◌,
+  ◌+◌,
+  ◌<◌,
+  [],
+  Any,
+  IsTrue,
+  None,
+  Some,
+  false,
+  length,
+  IfOk,
+  slice_index_or,
+  take,
+};
 ghost use Rattle.kb_geometry.specs.declared.shape.Shape.{Shape};
 ghost use Rattle.kb_geometry.specs.Board.{rows_of};
-ghost use Rattle.pattern_images.specs.Listing.{GivesAt, ListsOn, Reaches};
+ghost use Rattle.pattern_images.specs.Listing.{
+  AreDifferent,
+  GivesAt,
+  HasClass,
+  IsDifferentAt,
+  ListsOn,
+  Reaches,
+};
 
 use crate::turn::Turn;
 use kb_geometry::{Label, Point, Shape};
@@ -32,9 +54,10 @@ pub(crate) fn list_places(
     ensures { IfOk result (λ places. ListsOn shape turns.now 0 0 0 [] (rows_of shape) 0 0
         places.items) }
 {
+    let repeated = are_repeated(turns);
     let mut places = Vec::new(alloc);
     for y in 0..shape.rows() {
-        list_row(turns, shape, y, &mut places)?;
+        list_row(turns, repeated, shape, y, &mut places)?;
     }
     Ok(places)
 }
@@ -42,11 +65,13 @@ pub(crate) fn list_places(
 // Adds the places in one row.
 fn list_row(
     turns: &[Option<Turn>],
+    repeated: bool,
     shape: Shape,
     y: u8,
     places: &mut Vec<StoredPlace>,
 ) -> Result<(), AllocError>
-    requires { length turns.now ≡ 16 }
+    requires each { length turns.now ≡ 16 }
+    requires repeated { repeated ≡ false → AreDifferent turns.now }
     ensures { IfOk result (λ _. ListsOn shape turns.now y 0 0 places.old.items (y + 1) 0 0
         places.new.items) }
 {
@@ -54,7 +79,7 @@ fn list_row(
         return Ok(());
     }
     for x in 0..shape.cols() {
-        list_point(turns, Point { x, y }, places)?;
+        list_point(turns, repeated, Point { x, y }, places)?;
     }
     Ok(())
 }
@@ -78,15 +103,17 @@ fn reaches(turn: Option<Turn>, y: u8) -> bool
 // Adds the places at one point.
 fn list_point(
     turns: &[Option<Turn>],
+    repeated: bool,
     p: Point,
     places: &mut Vec<StoredPlace>,
 ) -> Result<(), AllocError>
-    requires { length turns.now ≡ 16 }
+    requires each { length turns.now ≡ 16 }
+    requires repeated { repeated ≡ false → AreDifferent turns.now }
     ensures { IfOk result (λ _. (shape : Shape) →
         ListsOn shape turns.now p.y p.x 0 places.old.items p.y (p.x + 1) 0 places.new.items) }
 {
     for number in 0..turns.len() {
-        list_label(turns, number, p, places)?;
+        list_label(turns, repeated, number, p, places)?;
     }
     Ok(())
 }
@@ -94,11 +121,13 @@ fn list_point(
 // Adds the place at one point under one label, if there is one that no lesser label gives.
 fn list_label(
     turns: &[Option<Turn>],
+    repeated: bool,
     number: usize,
     p: Point,
     places: &mut Vec<StoredPlace>,
 ) -> Result<(), AllocError>
-    requires { number < length turns.now }
+    requires number { number < length turns.now }
+    requires repeated { repeated ≡ false → AreDifferent turns.now }
     ensures { IfOk result (λ _. (shape : Shape) →
         ListsOn shape turns.now p.y p.x number places.old.items p.y p.x (number + 1)
         places.new.items) }
@@ -109,7 +138,7 @@ fn list_label(
     if !turn.corners.contains(p) {
         return Ok(());
     }
-    if is_given(&turns[..number], turn.class, p) {
+    if is_given_before(turns, repeated, number, turn, p) {
         return Ok(());
     }
     places.push(StoredPlace {
@@ -119,6 +148,23 @@ fn list_label(
         class: turn.class,
     })?;
     Ok(())
+}
+
+// Whether a lesser label than that of the turn with this number gives the same rectangle of cells at
+// this point. Where no two turns have one rectangle, as those of most patterns, none is asked.
+fn is_given_before(
+    turns: &[Option<Turn>],
+    repeated: bool,
+    number: usize,
+    turn: Turn,
+    p: Point,
+) -> bool
+    requires number { number < length turns.now }
+    requires turn { slice_index_or turns.now number None ≡ Some turn }
+    requires repeated { repeated ≡ false → AreDifferent turns.now }
+    ensures { IsTrue result ↔ Any (GivesAt turn.class p) (take number turns.now) }
+{
+    repeated && is_given(&turns[..number], turn.class, p)
 }
 
 // Whether one of the turns gives the rectangle of cells with this number at this point.
@@ -133,6 +179,45 @@ fn gives_at(turn: Option<Turn>, class: u8, p: Point) -> bool
 {
     match turn {
         Some(turn) => turn.class == class && turn.corners.contains(p),
+        None => false,
+    }
+}
+
+// Whether two turns may have one rectangle of cells.
+fn are_repeated(turns: &[Option<Turn>]) -> bool
+    ensures { result ≡ false → AreDifferent turns.now }
+{
+    for number in 0..turns.len() {
+        if is_repeated(turns, number) {
+            return true;
+        }
+    }
+    false
+}
+
+// Whether a turn before the one with this number has its rectangle of cells.
+fn is_repeated(turns: &[Option<Turn>], number: usize) -> bool
+    requires { number < length turns.now }
+    ensures { result ≡ false → IsDifferentAt turns.now number }
+{
+    match turns[number] {
+        Some(turn) => have_class(&turns[..number], turn.class),
+        None => false,
+    }
+}
+
+// Whether one of the turns has the rectangle of cells with this number.
+fn have_class(turns: &[Option<Turn>], class: u8) -> bool
+    ensures { IsTrue result ↔ Any (HasClass class) turns.now }
+{
+    turns.iter().any(|turn| has_class(*turn, class))
+}
+
+fn has_class(turn: Option<Turn>, class: u8) -> bool
+    ensures { IsTrue result ↔ HasClass class turn }
+{
+    match turn {
+        Some(turn) => turn.class == class,
         None => false,
     }
 }

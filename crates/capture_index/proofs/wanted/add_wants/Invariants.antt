@@ -1,7 +1,8 @@
-use Rattle.pattern_images.specs.ImageList.{grid_at}
-use Rattle.capture_index.specs.StoredWants.{AreWantsAdded, HasLess}
+use Rattle.std.proofs.Common.{◌*◌}
+use Rattle.kb_geometry.specs.Board.{cols_of}
+use Rattle.capture_index.specs.StoredWants.{AreParted, grid_with}
 use Rattle.capture_index.proofs.wanted.add_wants.Given as goal
 
--- the ranks so far
-abbrev pub invariant-loop-rank : goal.invariant-loop-rank
-invariant-loop-rank l = AreWantsAdded l.images.shape (grid_at l.images.grids l.class) (HasLess (grid_at l.images.grids l.class) l.rank) l.initial.wants.items l.wants.items
+-- the rows so far
+abbrev pub invariant-loop-y : goal.invariant-loop-y
+invariant-loop-y l = AreParted l.images.shape (grid_with l.size l.cells) (l.y * cols_of l.size) l.initial.wants.items l.wants.items l.others.items

@@ -8,21 +8,21 @@ use Rattle.pattern_images.proofs.listing.list_label.Goals as goal
 
 pub returns-then-not-contains : goal.returns-then-not-contains
 returns-then-not-contains c = λ shape query grids are listed.
-    outside-listed query shape grids c.args.turns.now are c.args.p c.args.number c.requires c.args.places.now.items listed c.in-Some.turn
-    (get_or_default c.args.turns.now c.args.number None _ c.requires ∙ c.in-Some.is) (λ inside. let no : false ≡ true = c.if-not-contains.ensures.1 inside in cc)
+    outside-listed query shape grids c.args.turns.now are c.args.p c.args.number c.requires.number c.args.places.now.items listed c.in-Some.turn
+    (get_or_default c.args.turns.now c.args.number None _ c.requires.number ∙ c.in-Some.is) (λ inside. let no : false ≡ true = c.if-not-contains.ensures.1 inside in cc)
 
-pub returns-then-is_given : goal.returns-then-is_given
-returns-then-is_given c = λ shape query grids are listed.
-    given-listed query shape grids c.args.turns.now are c.args.p c.args.number c.requires c.args.places.now.items listed c.in-Some.turn
-    (get_or_default c.args.turns.now c.args.number None _ c.requires ∙ c.in-Some.is) (c.if-is_given.ensures.0 refl)
+pub returns-then-is_given_before : goal.returns-then-is_given_before
+returns-then-is_given_before c = λ shape query grids are listed.
+    given-listed query shape grids c.args.turns.now are c.args.p c.args.number c.requires.number c.args.places.now.items listed c.in-Some.turn
+    (get_or_default c.args.turns.now c.args.number None _ c.requires.number ∙ c.in-Some.is) (c.if-is_given_before.ensures.0 refl)
 
 pub returns : goal.returns
 returns c = λ shape query grids are listed.
     subst (λ (stored : List StoredPlace). IsListedTo query shape grids c.args.p.y c.args.p.x (c.args.number + 1) stored) (sym c.in_ok-push.ensures.items)
-    (new-listed query shape grids c.args.turns.now are c.args.p c.args.number c.requires c.args.places.now.items listed c.in-Some.turn
-    (get_or_default c.args.turns.now c.args.number None _ c.requires ∙ c.in-Some.is) (c.if-not-contains.ensures.0 refl) (λ given. let no : false ≡ true = c.if-is_given.ensures.1 given in cc))
+    (new-listed query shape grids c.args.turns.now are c.args.p c.args.number c.requires.number c.args.places.now.items listed c.in-Some.turn
+    (get_or_default c.args.turns.now c.args.number None _ c.requires.number ∙ c.in-Some.is) (c.if-not-contains.ensures.0 refl) (λ given. let no : false ≡ true = c.if-is_given_before.ensures.1 given in cc))
 
 pub returns-in_default : goal.returns-in_default
 returns-in_default c = λ shape query grids are listed.
-    no_turn-listed query shape grids c.args.turns.now are c.args.p c.args.number c.requires c.args.places.now.items listed
-    (get_or_default c.args.turns.now c.args.number None _ c.requires ∙ c.in_default.is)
+    no_turn-listed query shape grids c.args.turns.now are c.args.p c.args.number c.requires.number c.args.places.now.items listed
+    (get_or_default c.args.turns.now c.args.number None _ c.requires.number ∙ c.in_default.is)

@@ -21,4 +21,4 @@ returns c =
 
 pub returns-then-not-is_reached : goal.returns-then-not-is_reached
 returns-then-not-is_reached c =
-    ListsOn-passed c.args.shape c.args.turns.now c.args.y c.args.places.now.items c.requires (λ reached. let no : false ≡ true = c.if-not-is_reached.ensures.1 reached in cc)
+    ListsOn-passed c.args.shape c.args.turns.now c.args.y c.args.places.now.items c.requires.each (λ reached. let no : false ≡ true = c.if-not-is_reached.ensures.1 reached in cc)
