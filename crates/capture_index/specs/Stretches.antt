@@ -1,5 +1,5 @@
 -- Stretches of nodes, and the nodes at which the cells that are wanted stand.
-use Rattle.std.specs.Prelude.{ℕ, ◌+◌, ◌<◌, ◌≤◌, Bool, IsTrue, false, List, Option, Some, None, length, slice_index_or}
+use Rattle.std.specs.Prelude.{◌≡◌, ℕ, ◌+◌, ◌<◌, ◌≤◌, Bool, IsTrue, false, List, Option, Some, None, length, slice_index_or}
 use Rattle.kb_geometry.specs.declared.stone.Cell.{Cell}
 use Rattle.kb_geometry.specs.declared.stone.Cell.TheVariants as stone
 use Rattle.capture_index.specs.declared.stretch.Stretch.{Stretch}
@@ -39,6 +39,11 @@ no_want = record { offset = 0; empty = false; black = false; white = false }
 -- the want is met at a node, by the point so far behind base
 abbrev pub IsWantedAt : NodePositions → ℕ → Want → ℕ → Type 0
 IsWantedAt seen base want n = IsTrue (is_wanted want (cell_in seen (base + want.offset) n))
+
+-- the point of the want has one cell at two nodes
+abbrev pub IsUnchangedAt : NodePositions → ℕ → Want → ℕ → ℕ → Type 0
+IsUnchangedAt seen base want n k =
+    cell_in seen (base + want.offset) k ≡ cell_in seen (base + want.offset) n
 
 -- each want is met at a node
 abbrev pub AreWantedAt : NodePositions → ℕ → List Want → ℕ → Type 0

@@ -1,11 +1,18 @@
 // What searches ask the runs of a game.
-ghost use Rattle.std.specs.Prelude.{◌≡◌, ◌+◌, ◌<◌, ◌≤◌, ◌↔◌, ◌⊎◌, ℕ, All, Contains, IfOk, IfSome, OnOk, length};
+ghost use Rattle.std.specs.Prelude.{◌≡◌, ◌+◌, ◌<◌, ◌≤◌, ◌↔◌, ◌⊎◌, ℕ, All, Contains, IfOk, IfSome, OnOk, length, slice_index_or};
 ghost use Rattle.capture_index.specs.declared.stretch.Stretch.{Stretch};
 ghost use Rattle.capture_index.specs.declared.stretch.Want.{Want};
 ghost use Rattle.kb_geometry.specs.Board.{point_count};
 ghost use Rattle.capture_index.specs.NodePositions.{cell_in, count_in, parent_in, positions_of};
 ghost use Rattle.capture_index.specs.Seen.{GoesOnTo, StaysTo};
-ghost use Rattle.capture_index.specs.Stretches.{AreApart, AreWantedAt, BeginsIn, IsIn};
+ghost use Rattle.capture_index.specs.Stretches.{
+  AreApart,
+  AreWantedAt,
+  BeginsIn,
+  IsIn,
+  IsUnchangedAt,
+  no_want,
+};
 
 use crate::branches::{next_branch, parent};
 use crate::packed_runs::PackedRuns;
@@ -85,6 +92,24 @@ impl RunIndex {
         ensures { StaysTo (cell_in self.now point) (count_in self.now) node result }
     {
         self.packed.next_run(point, node)
+    }
+
+    /// The next node behind this one, in order of the text, at which the cell of a wanted point
+    /// changes; the number of nodes, where none does.
+    pub fn unchanged_to(&self, base: u16, wants: &[Want], node: u32) -> u32
+        requires on_board { All (λ (w : Want). base + w.offset < point_count self.now.shape)
+            wants.now }
+        requires in_range { node < count_in self.now }
+        ensures more { node < result }
+        ensures most { result ≤ count_in self.now }
+        ensures stays { (k : ℕ) → node ≤ k → k < result → (w : ℕ) → w < length wants.now →
+            IsUnchangedAt self.now base (slice_index_or wants.now w no_want) node k }
+    {
+        let mut to = self.node_count();
+        for want in wants {
+            to = to.min(self.next_run(base + want.offset, node));
+        }
+        to
     }
 
     // The first branch behind the node; the number of nodes, where there is none.

@@ -61,14 +61,15 @@ fn is_outside(span: Span, number: u16) -> bool
     number < span.first || number > span.last
 }
 
-// Whether a placement still holds at a node. It is known to hold at the parent. The place and the
-// span are those of the placement.
+// Whether a placement still holds at a node. It is known to hold at the parent, and at the node itself
+// if that stands before `known`. The place and the span are those of the placement.
 pub(crate) fn still_holds(
     deltas: &NodeDeltas,
     images: &Images,
     i: usize,
     place: Place,
     span: Span,
+    known: u32,
     node: u32,
 ) -> bool
     requires shape { images.now.shape ≡ deltas.now.shape }
@@ -78,10 +79,15 @@ pub(crate) fn still_holds(
     requires span { IsSpan images.now.shape (placement_at images.now.placements i) span.first
         span.last }
     requires node { node < node_count deltas.now }
+    requires known { node < known →
+        HoldsAt deltas.now (placement_at images.now.placements i) node }
     ensures { (above : ℕ) → parent_of deltas.now node ≡ Some above →
         HoldsAt deltas.now (placement_at images.now.placements i) above →
         (IsTrue result ↔ HoldsAt deltas.now (placement_at images.now.placements i) node) }
 {
+    if node < known {
+        return true;
+    }
     are_allowed(images, i, place, span, deltas.changes(node))
 }
 

@@ -42,5 +42,5 @@ pub fn next_of(tree: &GameTree, deltas: &NodeDeltas, images: &Images, found: &Fo
     if !holds_at(deltas, images, i, found.node) {
         return None;
     }
-    next_below(tree, deltas, images, i, found.node)
+    next_below(tree, deltas, images, i, found.node, found.node)
 }

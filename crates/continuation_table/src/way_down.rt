@@ -1,5 +1,5 @@
 // How a game goes on below a node.
-ghost use Rattle.std.specs.Prelude.{◌≡◌, ◌<◌, List, length, IfNone, IfSome};
+ghost use Rattle.std.specs.Prelude.{◌≡◌, ◌<◌, ◌≤◌, ℕ, List, length, IfNone, IfSome};
 ghost use Rattle.kb_geometry.specs.Capture.{Position};
 ghost use Rattle.kb_geometry.specs.Symmetry.{point_of};
 ghost use Rattle.game_tree.specs.Position.{ArePositions};
@@ -28,21 +28,25 @@ use pattern_images::{Images, Next, Place};
 /// the way down by first children whose point lies in the placement's rectangle, if the placement
 /// holds as far as to the parent of its node. `None` exactly where there is none.
 ///
-/// The deltas are those of the tree, and the images are for its board. Nothing is allocated, and no
-/// position is built: the cost is that of the nodes down to the move, or to the first one where the
-/// placement doesn't hold.
+/// The deltas are those of the tree, and the images are for its board. It is known that the placement
+/// holds at each node from this one up to before `known`, so their changes aren't looked at. Nothing
+/// is allocated, and no position is built: the cost is that of the nodes down to the move, or to the
+/// first one where the placement doesn't hold.
 pub fn next_below(
     tree: &GameTree,
     deltas: &NodeDeltas,
     images: &Images,
     i: usize,
     node: u32,
+    known: u32,
 ) -> Option<Next>
     requires deltas { AreNodeChanges tree.now deltas.now }
     requires shape { images.now.shape ≡ tree.now.shape }
     requires placement { i < length images.now.placements }
     requires node { node < node_count tree.now }
     requires holds { HoldsAt deltas.now (placement_at images.now.placements i) node }
+    requires known { (k : ℕ) → node ≤ k → k < known →
+        HoldsAt deltas.now (placement_at images.now.placements i) k }
     ensures some { IfSome result
         (λ next. IsContinuation tree.now deltas.now (placement_at images.now.placements i) node
         next) }
@@ -58,7 +62,7 @@ pub fn next_below(
             let now = tree.move_number(here) == tree.move_number(node);
             return Some(next_by(images, i, colour, point, now));
         }
-        if !still_holds(deltas, images, i, place, span, child) {
+        if !still_holds(deltas, images, i, place, span, known, child) {
             return None;
         }
         here = child;

@@ -1,4 +1,5 @@
 pub mod BegunNodes
 pub mod FewPlacements
+pub mod HoldingOn
 pub mod KeyLists
 pub mod OccurrencesOfOne

@@ -7,6 +7,7 @@
 
 mod buffers;
 mod gathered;
+mod holding;
 mod keys;
 mod matching;
 mod run_matcher;

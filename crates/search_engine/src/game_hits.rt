@@ -15,7 +15,8 @@ use continuation_table::next_below;
 use game_tree::GameTree;
 use kb_geometry::NoMemory;
 use line_matcher::Occurrence;
-use pattern_images::{Hit, Images, Query};
+use pattern_images::{Hit, Query};
+use run_matcher::RunMatcher;
 use segment_store::FinishedGame;
 
 // Adds the hits of the occurrences in the game with this number, on whose board the query looks.
@@ -23,18 +24,19 @@ pub(crate) fn add_hits_in(
     query: &Query,
     number: u32,
     game: &FinishedGame,
-    images: &Images,
+    matcher: &RunMatcher,
     occurrences: &[Occurrence],
     hits: &mut Vec<Hit>,
 ) -> Result<(), NoMemory>
-    requires shape { images.now.shape ≡ game.now.tree.shape }
-    requires images { ArePlacements query.now game.now.tree.shape images.now.placements }
+    requires shape { matcher.now.images.now.shape ≡ game.now.tree.shape }
+    requires images { ArePlacements query.now game.now.tree.shape
+        matcher.now.images.now.placements }
     requires occurrences { AreOccurrencesIn query.now game.now.tree occurrences.now }
     ensures { OnOk result (AreHitsAdded (AreHitsIn query.now number game.now.tree)
         hits.old.items hits.new.items) }
 {
     let deltas = game.deltas();
-    add_hits(query, number, game, deltas, images, occurrences, hits)
+    add_hits(query, number, game, deltas, matcher, occurrences, hits)
 }
 
 // Adds the hits of the occurrences in a game with these changes.
@@ -43,21 +45,22 @@ fn add_hits(
     number: u32,
     game: &FinishedGame,
     deltas: &NodeDeltas,
-    images: &Images,
+    matcher: &RunMatcher,
     occurrences: &[Occurrence],
     hits: &mut Vec<Hit>,
 ) -> Result<(), NoMemory>
     requires changes { AreNodeChanges game.now.tree deltas.now }
-    requires shape { images.now.shape ≡ game.now.tree.shape }
-    requires occurrences { occurrences.now ≡ occurrences_in deltas.now images.now.placements }
+    requires shape { matcher.now.images.now.shape ≡ game.now.tree.shape }
+    requires occurrences { occurrences.now ≡ occurrences_in deltas.now
+        matcher.now.images.now.placements }
     ensures { OnOk result (AreHitsAdded
-        (AreHitsOf query.now number game.now.tree deltas.now images.now.placements
-        occurrences.now)
+        (AreHitsOf query.now number game.now.tree deltas.now
+        matcher.now.images.now.placements occurrences.now)
         hits.old.items hits.new.items) }
 {
     for occurrence in occurrences {
         if looks_at(query, game.tree(), occurrence.node) {
-            hits.push(hit_of(number, game, deltas, images, *occurrence))?;
+            hits.push(hit_of(number, game, deltas, matcher, *occurrence))?;
         }
     }
     Ok(())
@@ -75,30 +78,34 @@ fn looks_at(query: &Query, tree: &GameTree, node: u32) -> bool
     query.from_move <= moves && moves <= query.to_move
 }
 
-// The hit of an occurrence in the game with this number and these changes.
+// The hit of an occurrence in the game with this number and these changes. What the runs tell at once,
+// as long as no point of the placement changes, needn't be asked of the changes.
 fn hit_of(
     number: u32,
     game: &FinishedGame,
     deltas: &NodeDeltas,
-    images: &Images,
+    matcher: &RunMatcher,
     occurrence: Occurrence,
 ) -> Hit
     requires changes { AreNodeChanges game.now.tree deltas.now }
-    requires shape { images.now.shape ≡ game.now.tree.shape }
+    requires shape { matcher.now.images.now.shape ≡ game.now.tree.shape }
     requires node { occurrence.node < node_count game.now.tree }
-    requires placement { occurrence.placement < length images.now.placements }
+    requires placement { occurrence.placement < length matcher.now.images.now.placements }
     requires holds { HoldsAt deltas.now
-        (placement_at images.now.placements occurrence.placement) occurrence.node }
-    ensures { IsHit number game.now.tree deltas.now images.now.placements occurrence result }
+        (placement_at matcher.now.images.now.placements occurrence.placement) occurrence.node }
+    ensures { IsHit number game.now.tree deltas.now matcher.now.images.now.placements occurrence
+        result }
 {
     let Occurrence { node, placement } = occurrence;
     let placement = placement as usize;
+    let images = matcher.images;
+    let known = matcher.sought(placement).holds_to(game.runs(), node);
     Hit {
         game: number,
         node,
         place: images.place(placement),
         moves: game.tree().move_number(node),
         outcome: game.outcome(),
-        next: next_below(game.tree(), deltas, images, placement, node),
+        next: next_below(game.tree(), deltas, images, placement, node, known),
     }
 }

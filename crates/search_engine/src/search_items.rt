@@ -175,7 +175,7 @@ fn add_on_its_board(
         matchers.query(),
         number,
         game,
-        matcher.images,
+        &matcher.runs,
         occurrences,
         hits,
     )

@@ -19,6 +19,7 @@ loop-child-init c =
     let count = move_number_of c.args.tree.now c.args.node in
     record {
       in_range = c.requires.node;
+      behind = omega arith;
       moves = omega arith;
       way = subst (λ (now : Bool). IsWayDown c.args.tree.now c.args.deltas.now (placement_at c.args.images.now.placements c.args.i) c.args.node c.args.node now)
           (sym (eq-eqb count count refl))
@@ -47,6 +48,9 @@ still_holds-requires-clause-span c =
     subst (λ (s : Shape). IsSpan s placement c.span_of-span.result.first c.span_of-span.result.last) (c.shape.ensures.value ∙ sym c.requires.shape)
     (c.span_of-span.ensures placement c.place-place.ensures.value)
 
+pub still_holds-requires-clause-known : goal.still_holds-requires-clause-known
+still_holds-requires-clause-known c = λ before. c.requires.known c.in-Some.child (omega (arith, c.loop-child.invariant.behind, c.in-Some.ensures.in_range.0)) before
+
 pub returns-then-not-still_holds-clause-none : goal.returns-then-not-still_holds-clause-none
 returns-then-not-still_holds-clause-none c =
     let placement = placement_at c.args.images.now.placements c.args.i in
@@ -69,6 +73,7 @@ loop-child-preserved c =
     let more = moves-more tree c.shape.ensures.tree child here c.in-Some.ensures.child in
     record {
       in_range = c.in-Some.ensures.in_range.1;
+      behind = omega (arith, c.loop-child.invariant.behind, c.in-Some.ensures.in_range.0);
       moves = omega (arith, more, c.loop-child.invariant.moves);
       way = IsWayDown-more tree c.args.deltas.now placement c.args.node here now c.loop-child.invariant.way
           child (sym c.in-Some.ensures.value) (c.in_default-move_inside.ensures.none placement c.place-place.ensures.value)

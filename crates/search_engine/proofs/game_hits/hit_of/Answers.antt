@@ -8,7 +8,7 @@ use Rattle.search_engine.proofs.game_hits.hit_of.Goals as goal
 pub returns : goal.returns
 returns c =
     let o = c.args.occurrence in
-    let placement = placement_at c.args.images.now.placements o.placement in
+    let placement = placement_at c.args.matcher.now.images.now.placements o.placement in
     let changes = c.args.deltas.now in record {
       game = refl;
       node = refl;
