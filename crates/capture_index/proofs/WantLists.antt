@@ -82,7 +82,7 @@ module _ (shape : Shape) (grid : Grid) where
         let at : Point = record { x = dx; y = dy } in
         let p : Point = record { x = ex; y = ey } in
         let same : p ≡ at = point-numbered size (number_of size at) p (omega (arith, in_cols, cols), omega (arith, in_rows, rows)) (subst (λ (n : ℕ). ey * n + ex ≡ dy * n + dx) (sym cols) e)
-            ∙ sym (point-numbered size (number_of size at) at (column, row) refl) in
+        ∙ sym (point-numbered size (number_of size at) at (column, row) refl) in
         (ap (λ (q : Point). q.x) same, ap (λ (q : Point). q.y) same);
   }
 

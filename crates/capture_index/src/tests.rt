@@ -109,6 +109,26 @@ fn expect_found(
     Ok(())
 }
 
+// The next node at which one of two wanted points changes.
+fn expect_next(
+    rt: &impl Abort,
+    index: &RunIndex,
+    base: u16,
+    wants: [Want; 2],
+    node: u32,
+    next: u32,
+) {
+    let count = index.shape().count();
+    assert!(rt; base < 100 && wants[0].offset < 100 && wants[1].offset < 100);
+    assert!(rt; base + wants[0].offset < count && base + wants[1].offset < count);
+    assert!(rt; node < index.node_count());
+    assert_eq!(rt;
+        index.unchanged_to(base, &wants, node),
+        next,
+        "{base} {node}"
+    );
+}
+
 fn want(offset: u16, empty: bool, black: bool, white: bool) -> Want {
     Want {
         offset,
@@ -155,6 +175,28 @@ fn a_ko_that_is_fought_twice(rt: HostRuntime) -> Result<(), Fail> {
     expect_where(&rt, alloc, &index, 0, BLACK, &[])?;
     expect_where(&rt, alloc, &index, 1, BLACK, &[0])?;
     expect_where(&rt, alloc, &index, 1, EMPTY, &[])
+}
+
+#[test]
+fn the_next_node_at_which_a_wanted_point_changes(rt: HostRuntime) -> Result<(), Fail> {
+    let alloc = rt.alloc();
+    let deltas = made::<Brand>(&rt, alloc, 4, 3, &KO, Blank::new(1))?;
+    let index = RunIndex::of(alloc, &deltas)?;
+    let wants = [want(0, true, true, true), want(1, true, true, true)];
+    // The points 5 and 6 change at each node, and 1, 2, 9 and 10 never behind the root; of 4 and 5,
+    // and of 6 and 7, one does.
+    for (base, node, next) in [
+        (5, 0, 1),
+        (5, 3, 4),
+        (5, 4, 5),
+        (1, 0, 5),
+        (9, 2, 5),
+        (4, 1, 2),
+        (6, 2, 3),
+    ] {
+        expect_next(&rt, &index, base, wants, node, next);
+    }
+    Ok(())
 }
 
 // A stone on point 4 that goes and comes, in variations.

@@ -17,7 +17,9 @@ use pattern_images::{Images, PatternCell};
 
 // The ranks of cells: their wants stand in this order, and wildcards have none.
 const STONE: u8 = 0;
+
 const OTHER: u8 = 1;
+
 const WILDCARD: u8 = 2;
 
 // Adds the wants of a class. What is in `others` doesn't count.
