@@ -3,9 +3,7 @@ use Rattle.std.proofs.Common.{◌≡◌, ℕ, ◌<◌, length, sym, ap, ◌∙�
 use Rattle.std.specs.Prelude.{slice_index_or}
 use Rattle.capture_board.specs.Deltas.{Deltas, node_count}
 use Rattle.kb_geometry.specs.declared.shape.Shape.{Shape}
-use Rattle.kb_geometry.specs.declared.stone.Cell.{Cell}
 use Rattle.pattern_images.specs.ImageList.{IsPlacedOn, placement_at}
-use Rattle.pattern_images.specs.Placements.{Placement}
 use Rattle.line_matcher.specs.Occurrences.{HoldsAt}
 use Rattle.capture_index.specs.NodePositions.{NodePositions, count_in, positions_of}
 use Rattle.capture_index.specs.Stretches.{AreWantedAt, IsUnchangedAt, no_want}
