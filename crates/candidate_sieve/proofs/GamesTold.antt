@@ -1,5 +1,5 @@
 -- The games of a block that have a placement's cells, in words of bits.
-use Rattle.std.proofs.Common.{◌≡◌, ◌≢◌, ℕ, ◌+◌, ◌<◌, ◌↔◌, true, false, List, Option, None, Some, length, slice_index_or, refl, sym, ◌∙◌, ap, subst, arith, inl, inr}
+use Rattle.std.proofs.Common.{◌≡◌, ◌≢◌, ℕ, ◌+◌, ◌<◌, ◌≤◌, ◌↔◌, true, false, List, Option, None, Some, length, slice_index_or, refl, sym, ◌∙◌, ap, subst, arith, inl, inr}
 use Rattle.std.specs.Int.{bit_at}
 use Rattle.std.specs.Option.{IsSome, IsSomeAnd}
 use Rattle.std.specs.Prelude.{◌&&◌, Contains, IsTrue}
@@ -8,6 +8,7 @@ use Rattle.std.proofs.lemmas.List.{get_or_default}
 use Rattle.kb_geometry.specs.declared.shape.Shape.{Shape}
 use Rattle.kb_geometry.specs.declared.stone.Cell.{Cell}
 use Rattle.kb_geometry.specs.declared.stone.Cell.TheVariants as stone
+use Rattle.kb_geometry.specs.Board.{point_count}
 use Rattle.pattern_images.specs.declared.cell.PatternCell.{PatternCell}
 use Rattle.pattern_images.specs.declared.cell.PatternCell.TheVariants as cell
 use Rattle.pattern_images.specs.Grid.{cell_in}
@@ -16,12 +17,12 @@ use Rattle.pattern_images.specs.ImageList.{IsPlacedOn}
 use Rattle.pattern_images.specs.Placements.{Placement}
 use Rattle.capture_index.specs.declared.stretch.Want.{Want}
 use Rattle.capture_index.specs.Stretches.{is_wanted, no_want}
-use Rattle.capture_index.specs.Wants.{AreWantsOf, IsWantOf, base_of}
+use Rattle.capture_index.specs.Wants.{AreStonesFirst, AreWantsOf, IsWantOf, base_of}
 use Rattle.capture_index.proofs.WantsOfPlacements.{number_under-base}
 use Rattle.final_index.specs.declared.ever_sets.EverSets.{EverSets}
 use Rattle.final_index.specs.Ever.{set_of}
 use Rattle.final_index.specs.Planes.{PlaneGames}
-use Rattle.candidate_sieve.specs.BlockGames.{HadEach, HadWanted, HaveEach, wants_all}
+use Rattle.candidate_sieve.specs.BlockGames.{AreBare, HadEach, HadWanted, HaveEach, wants_all}
 use Rattle.candidate_sieve.specs.Candidates.{IsPossibleIn, MeetsCells}
 
 -- ---- the first wants
@@ -54,6 +55,33 @@ pub each-kept : (games : List (Option EverSets)) (base i : ℕ) (wants : List Wa
 each-kept games base i wants there count word next want is so_far kept = each-more games (base + i) wants there count word next so_far
     (λ g lt. subst (λ (w : Want). (bit_at next g ≡ 1) ↔ ((bit_at word g ≡ 1) × HadWanted games g w (base + i + w.offset))) (sym is)
     (subst (λ (p : ℕ). (bit_at next g ≡ 1) ↔ ((bit_at word g ≡ 1) × HadWanted games g want p)) (omega arith) (kept g lt)))
+
+-- the wants that are left are met by each game of the word
+pub each-settled : (games : List (Option EverSets)) (base : ℕ) (wants : List Want) (there count n word : ℕ) → HaveEach games base wants there count word → count ≤ n →
+    ((g : ℕ) → g < 64 → bit_at word g ≡ 1 → (k : ℕ) → count ≤ k → k < n → HadWanted games g (slice_index_or wants k no_want) (base + (slice_index_or wants k no_want).offset)) → HaveEach games base wants there n word
+each-settled games base wants there count n word so_far few settled g lt = (
+  λ e. let was = (so_far g lt).0 e in (
+    was.0,
+    λ k below. elim (cases_lt k count) [
+      | inl before ↦ was.1 k before
+      | inr from ↦ settled g lt e k from below
+    ],
+  ),
+  λ h. (so_far g lt).1 (h.0, λ k below. h.1 k (omega (arith, below, few))),
+)
+
+-- where the games of the word are bare, wants that allow an empty point are met
+pub bare-settled : (planes : PlaneGames) (bare base i : ℕ) (wants : List Want) (there count word : ℕ) → AreBare planes bare → AreStonesFirst wants → ((k : ℕ) → k < length wants → base + (slice_index_or wants k no_want).offset + i < point_count planes.shape) →
+    HaveEach planes.games (base + i) wants there count word → count ≤ length wants → ((g : ℕ) → bit_at word g ≡ 1 → bit_at bare g ≡ 1) → ((g : ℕ) → bit_at word g ≡ 1 → count < length wants → IsTrue (slice_index_or wants count no_want).empty) →
+    HaveEach planes.games (base + i) wants there (length wants) word
+bare-settled planes bare base i wants there count word are first on_board so_far few in_bare rest =
+    each-settled planes.games (base + i) wants there count (length wants) word so_far few
+    (λ g lt e k from below asks.
+    let empty : IsTrue (slice_index_or wants k no_want).empty = elim (cases_lt count k) [
+      | inl behind ↦ first count k behind below (rest g e (omega (arith, from, below)))
+      | inr last ↦ subst (λ (j : ℕ). IsTrue (slice_index_or wants j no_want).empty) (omega (arith, from, last)) (rest g e (omega (arith, from, below)))
+    ] in
+    (stone.Empty, empty, are g (base + i + (slice_index_or wants k no_want).offset) lt (in_bare g e) (omega (arith, on_board k below))))
 
 -- ---- a placement's cells by its wants
 

@@ -12,6 +12,7 @@ ghost use Rattle.std.specs.Prelude.{
   length,
   slice_index,
   slice_index_or,
+  true,
 };
 ghost use Rattle.std.specs.Int.{bit_at};
 ghost use Rattle.kb_geometry.specs.Board.{point_count};
@@ -102,54 +103,50 @@ fn keep_wanted(planes: &Planes, bare: u64, base: u16, wants: &[Want], words: &mu
     ensures kept { (k : ℕ) → k < length words.old → HaveEach planes.now.games (base + k) wants.now
         (slice_index words.old k) (length wants.now) (slice_index words.new k) }
 {
-    let stones = keep_stones(planes, base, wants, words);
+    let stones = keep_wants(planes, base, wants, 0, true, words);
     if have_none_but(words, bare) {
         return;
     }
-    keep_rest(planes, base, wants, stones, words);
-}
-
-// Keeps in each word the games that had a cell which is allowed, for each want before the first one
-// that allows an empty point, and tells how many these are. Where no game is left in any word, it
-// may tell of fewer.
-fn keep_stones(planes: &Planes, base: u16, wants: &[Want], words: &mut [u64]) -> usize
-    requires { All (λ (w : Want). base + w.offset + length words.old ≤ point_count planes.now.shape)
-        wants.now }
-    ensures count { length words.new ≡ length words.old }
-    ensures few { result ≤ length wants.now }
-    ensures kept { (k : ℕ) → k < length words.old → HaveEach planes.now.games (base + k) wants.now
-        (slice_index words.old k) result (slice_index words.new k) }
-    ensures rest { (k g : ℕ) → k < length words.old → bit_at (slice_index words.new k) g ≡ 1 →
-        result < length wants.now → IsTrue (slice_index_or wants.now result no_want).empty }
-{
-    for k in 0..wants.len() {
-        let want = wants[k];
-        if want.empty || are_empty(words) {
-            return k;
-        }
-        keep_want(planes, want, base + want.offset, words);
-    }
-    wants.len()
+    keep_wants(planes, base, wants, stones, false, words);
 }
 
 // Keeps in each word the games that had a cell which is allowed, for each want from the one with this
-// number on. Where no game is left in any word, the rest isn't looked at.
-fn keep_rest(planes: &Planes, base: u16, wants: &[Want], from: usize, words: &mut [u64])
+// number on, or for each before the first that allows an empty point if `stones` says so. Tells the
+// number of the first want that is left. Where no game is left in any word, it may leave more.
+fn keep_wants(
+    planes: &Planes,
+    base: u16,
+    wants: &[Want],
+    from: usize,
+    stones: bool,
+    words: &mut [u64],
+) -> usize
     requires from { from ≤ length wants.now }
     requires on_board { All (λ (w : Want). base + w.offset + length words.old
         ≤ point_count planes.now.shape) wants.now }
     ensures count { length words.new ≡ length words.old }
+    ensures few { result ≤ length wants.now }
     ensures kept { (k there : ℕ) → k < length words.old →
         HaveEach planes.now.games (base + k) wants.now there from (slice_index words.old k) →
-        HaveEach planes.now.games (base + k) wants.now there (length wants.now)
-        (slice_index words.new k) }
+        HaveEach planes.now.games (base + k) wants.now there result (slice_index words.new k) }
+    ensures rest { (k g : ℕ) → k < length words.old → bit_at (slice_index words.new k) g ≡ 1 →
+        result < length wants.now →
+        (stones ≡ true) × IsTrue (slice_index_or wants.now result no_want).empty }
 {
     for k in from..wants.len() {
-        if are_empty(words) {
-            return;
+        if is_left(wants[k], stones) || are_empty(words) {
+            return k;
         }
         keep_want(planes, wants[k], base + wants[k].offset, words);
     }
+    wants.len()
+}
+
+// Whether a want is left if only stones are asked for.
+fn is_left(want: Want, stones: bool) -> bool
+    ensures { IsTrue result → (stones ≡ true) × IsTrue want.empty }
+{
+    stones && want.empty
 }
 
 // Whether the words have no games but these.

@@ -1,6 +1,6 @@
 use Rattle.std.proofs.Common.{◌≡◌, ℕ, ◌+◌, ◌<◌, length, slice_index}
 use Rattle.candidate_sieve.specs.BlockGames.{HaveEach}
-use Rattle.candidate_sieve.proofs.candidates.keep_rest.Given as goal
+use Rattle.candidate_sieve.proofs.candidates.keep_wants.Given as goal
 
 -- the wants so far
 abbrev pub invariant-loop-k : goal.invariant-loop-k

@@ -3,7 +3,7 @@ use Rattle.std.proofs.lemmas.List.{get_or_default}
 use Rattle.capture_index.specs.Stretches.{no_want}
 use Rattle.candidate_sieve.specs.BlockGames.{HaveEach}
 use Rattle.candidate_sieve.proofs.GamesTold.{each-kept}
-use Rattle.candidate_sieve.proofs.candidates.keep_rest.Goals as goal
+use Rattle.candidate_sieve.proofs.candidates.keep_wants.Goals as goal
 
 pub loop-k-preserved : goal.loop-k-preserved
 loop-k-preserved c = record {
