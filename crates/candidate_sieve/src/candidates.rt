@@ -93,7 +93,7 @@ fn fill_room(
 
 // Keeps in each word the games that had, for each want, a cell that it allows on its point, which
 // stands behind the base for the first word, behind the next point for the next, and so on. Most
-// games are bare, and then wants that allow an empty point ask nothing.
+// games are bare, and then wants that allow an empty point ask nothing. The others stand first.
 fn keep_wanted(planes: &Planes, bare: u64, base: u16, wants: &[Want], words: &mut [u64])
     requires bare { AreBare planes.now bare }
     requires stones_first { AreStonesFirst wants.now }
@@ -103,16 +103,16 @@ fn keep_wanted(planes: &Planes, bare: u64, base: u16, wants: &[Want], words: &mu
     ensures kept { (k : ℕ) → k < length words.old → HaveEach planes.now.games (base + k) wants.now
         (slice_index words.old k) (length wants.now) (slice_index words.new k) }
 {
-    let stones = keep_wants(planes, base, wants, 0, true, words);
+    let left = keep_wants(planes, base, wants, 0, true, words);
     if have_none_but(words, bare) {
         return;
     }
-    keep_wants(planes, base, wants, stones, false, words);
+    keep_wants(planes, base, wants, left, false, words);
 }
 
-// Keeps in each word the games that had a cell which is allowed, for each want from the one with this
-// number on, or for each before the first that allows an empty point if `stones` says so. Tells the
-// number of the first want that is left. Where no game is left in any word, it may leave more.
+// Keeps in each word the games that had a cell which is allowed, for the wants from this number on:
+// up to before the first that allows an empty point if `stones` says so, else for all. Tells the
+// number of the first want that wasn't kept. Where no game is left in any word it may end earlier.
 fn keep_wants(
     planes: &Planes,
     base: u16,
@@ -144,7 +144,7 @@ fn keep_wants(
 
 // Whether a want is left if only stones are asked for.
 fn is_left(want: Want, stones: bool) -> bool
-    ensures { IsTrue result → (stones ≡ true) × IsTrue want.empty }
+    ensures { IsTrue result ↔ ((stones ≡ true) × IsTrue want.empty) }
 {
     stones && want.empty
 }

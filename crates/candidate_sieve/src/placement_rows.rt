@@ -74,7 +74,8 @@ fn add_class(
     Ok(())
 }
 
-// The label of a placement.
+// The label of a placement. The call is made for its clause, by which a placement's number fits into
+// 32 bits.
 fn label(images: &Images, i: usize) -> Label
     requires { i < length images.now.placements }
     ensures { (placement_at images.now.placements i).label < 16 }

@@ -19,7 +19,7 @@ use Rattle.pattern_images.specs.ImageList.{grid_at}
 use Rattle.pattern_images.proofs.Turned.{point-numbered}
 use Rattle.capture_index.specs.declared.stretch.Want.{Want}
 use Rattle.capture_index.specs.declared.wants.WantRange.{WantRange}
-use Rattle.capture_index.specs.StoredWants.{AreParted, ArePartedOn, AreWantsAdded, HasRank, HaveWantsTo, IsClassAdded, IsPut, IsRangeOf, IsWantWith, cell_with, grid_with, rank_of, wants_in}
+use Rattle.capture_index.specs.StoredWants.{AreParted, ArePartedOn, AreWantsAdded, HasRank, HaveWantsTo, IsClassAdded, IsWantPut, IsRangeOf, IsWantWith, cell_with, grid_with, rank_of, wants_in}
 use Rattle.capture_index.specs.Stretches.{no_want}
 use Rattle.capture_index.specs.Wants.{AreWantsOf, ClassesOn, IsWantAt, IsWantIn, IsWantOf}
 
@@ -112,7 +112,7 @@ module _ (shape : Shape) (grid : Grid) where
   IsThis rank n k = (k ≡ n) × (rank_of (cell_with grid k) ≡ rank)
 
   module _ (rank : ℕ) (allowing : Bool) (of_kind : OfKind rank allowing) (size : Shape) (cols : cols_of size ≡ grid.cols) (rows : rows_of size ≡ grid.rows) (dx dy : ℕ) (column : dx < cols_of size) (row : dy < rows_of size) where
-    this-added : (now later : List Want) → IsPut rank (cell_in grid dx dy) (dy * cols_of shape + dx) now later → AreWantsAdded shape grid allowing (IsThis rank (dy * grid.cols + dx)) now later
+    this-added : (now later : List Want) → IsWantPut rank (cell_in grid dx dy) (dy * cols_of shape + dx) now later → AreWantsAdded shape grid allowing (IsThis rank (dy * grid.cols + dx)) now later
     this-added now later put = elim (cases_eq (rank_of (cell_in grid dx dy)) rank) [
       | inl has ↦
           let (want, offset, is, e) = put.0 has in
@@ -130,7 +130,7 @@ module _ (shape : Shape) (grid : Grid) where
     ]
 
     -- one cell more
-    AreWantsAdded-cell : (before now later : List Want) → AreWantsAdded shape grid allowing (HasRank grid rank (dy * grid.cols + dx)) before now → IsPut rank (cell_in grid dx dy) (dy * cols_of shape + dx) now later →
+    AreWantsAdded-cell : (before now later : List Want) → AreWantsAdded shape grid allowing (HasRank grid rank (dy * grid.cols + dx)) before now → IsWantPut rank (cell_in grid dx dy) (dy * cols_of shape + dx) now later →
         AreWantsAdded shape grid allowing (HasRank grid rank (dy * grid.cols + dx + 1)) before later
     AreWantsAdded-cell before now later so_far put =
         AreWantsAdded-join allowing (HasRank grid rank (dy * grid.cols + dx)) (IsThis rank (dy * grid.cols + dx)) (HasRank grid rank (dy * grid.cols + dx + 1)) before now later so_far (this-added now later put)
@@ -144,18 +144,18 @@ module _ (shape : Shape) (grid : Grid) where
   )
 
   -- a cell of the list of cells is the one in its column and row
-  pub IsPut-read : (rank : ℕ) (i j dx dy : ℕ) (d : PatternCell) (now later : List Want) → i ≡ dy * grid.cols + dx → i < length grid.cells → j ≡ dy * cols_of shape + dx →
-      IsPut rank (get_or grid.cells i d) j now later → IsPut rank (cell_in grid dx dy) (dy * cols_of shape + dx) now later
-  IsPut-read rank i j dx dy d now later at lt behind put =
+  pub IsWantPut-read : (rank : ℕ) (i j dx dy : ℕ) (d : PatternCell) (now later : List Want) → i ≡ dy * grid.cols + dx → i < length grid.cells → j ≡ dy * cols_of shape + dx →
+      IsWantPut rank (get_or grid.cells i d) j now later → IsWantPut rank (cell_in grid dx dy) (dy * cols_of shape + dx) now later
+  IsWantPut-read rank i j dx dy d now later at lt behind put =
       let read : get_or grid.cells i d ≡ cell_in grid dx dy = get_or_default grid.cells i d cell.Any lt ∙ ap (λ (n : ℕ). get_or grid.cells n cell.Any) at in
-      subst (λ (c : PatternCell). IsPut rank c (dy * cols_of shape + dx) now later) read (subst (λ (n : ℕ). IsPut rank (get_or grid.cells i d) n now later) behind put)
+      subst (λ (c : PatternCell). IsWantPut rank c (dy * cols_of shape + dx) now later) read (subst (λ (n : ℕ). IsWantPut rank (get_or grid.cells i d) n now later) behind put)
 
   pub ArePartedOn-none : (n : ℕ) (stones others : List Want) → ArePartedOn shape grid n n stones others stones others
   ArePartedOn-none n stones others before parted = parted
 
   -- one cell more
   pub ArePartedOn-more : (size : Shape) → cols_of size ≡ grid.cols → rows_of size ≡ grid.rows → (dx dy : ℕ) → dx < cols_of size → dy < rows_of size → (from : ℕ) (stones others now_stones now_others later_stones later_others : List Want) →
-      ArePartedOn shape grid from (dy * grid.cols + dx) stones others now_stones now_others → IsPut 0 (cell_in grid dx dy) (dy * cols_of shape + dx) now_stones later_stones → IsPut 1 (cell_in grid dx dy) (dy * cols_of shape + dx) now_others later_others →
+      ArePartedOn shape grid from (dy * grid.cols + dx) stones others now_stones now_others → IsWantPut 0 (cell_in grid dx dy) (dy * cols_of shape + dx) now_stones later_stones → IsWantPut 1 (cell_in grid dx dy) (dy * cols_of shape + dx) now_others later_others →
       ArePartedOn shape grid from (dy * grid.cols + dx + 1) stones others later_stones later_others
   ArePartedOn-more size cols rows dx dy column row from stones others now_stones now_others later_stones later_others so_far stone other before parted =
       let now = so_far before parted in (

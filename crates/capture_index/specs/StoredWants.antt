@@ -27,8 +27,8 @@ pub record HaveWantsTo (shape : Shape) (grids : List Grid) (n : ℕ) (ranges : L
   pub each : (k : ℕ) (d : WantRange) → k < n →
       AreWantsOf shape (grid_at grids k) (wants_in wants (slice_index_or ranges k d))
 
--- where a cell's want stands: those that must be a stone come first, then those that may be empty,
--- and wildcards have none
+-- where a cell's want stands: those that must be a stone come first, then the others, and wildcards
+-- have none
 abbrev pub rank_of : PatternCell → ℕ
 rank_of cell.Black = 0
 rank_of cell.White = 0
@@ -56,15 +56,15 @@ pub record IsWantWith (shape : Shape) (grid : Grid) (k : ℕ) (want : Want) : Ty
       (ex ≡ dx) × (ey ≡ dy)
 
 -- the list grows by the want of a cell that stands so far behind the upper left one, if the cell
--- has the rank
-abbrev pub IsPut : ℕ → PatternCell → ℕ → List Want → List Want → Type 0
-IsPut rank cell offset before after =
+-- has the rank, and else stays as it is
+abbrev pub IsWantPut : ℕ → PatternCell → ℕ → List Want → List Want → Type 0
+IsWantPut rank cell offset before after =
     (rank_of cell ≡ rank → (want : Want) × (want.offset ≡ offset) × IsWantOf cell want
     × (after ≡ before ++ want ∷ []))
     × (rank_of cell ≢ rank → after ≡ before)
 
--- The list grows by wants of cells that all allow an empty point, or all don't, among them those of
--- all cells with numbers that are asked for.
+-- The list grows by wants of cells that all allow an empty point, or all don't, as `allowing` says.
+-- Among them are those of all cells with numbers that are asked for.
 pub record AreWantsAdded (shape : Shape) (grid : Grid) (allowing : Bool) (IsAsked : ℕ → Type 0)
     (before after : List Want) : Type 0 where
   pub more : List Want
@@ -77,19 +77,20 @@ pub record AreWantsAdded (shape : Shape) (grid : Grid) (allowing : Bool) (IsAske
 abbrev pub HasRank : Grid → ℕ → ℕ → ℕ → Type 0
 HasRank grid rank count k = (k < count) × (rank_of (cell_with grid k) ≡ rank)
 
--- Of the first so many cells those that must be a stone have their wants behind a list, and those
--- that may be empty in another list.
+-- One list has gained the wants of those of the first so many cells that must be a stone; another,
+-- empty before, those of the others but wildcards.
 abbrev pub AreParted : Shape → Grid → ℕ → List Want → List Want → List Want → Type 0
 AreParted shape grid count before stones others =
     AreWantsAdded shape grid false (HasRank grid 0 count) before stones
     × AreWantsAdded shape grid true (HasRank grid 1 count) [] others
 
--- so for the cells from one number on up to another: what was so with the first ones, is
+-- if the lists were parted for the cells before one number, then the new lists are parted for those
+-- before another
 abbrev pub ArePartedOn : Shape → Grid → ℕ → ℕ → (stones others stones' others' : List Want) → Type 0
 ArePartedOn shape grid from to stones others stones' others' = (before : List Want) →
     AreParted shape grid from before stones others → AreParted shape grid to before stones' others'
 
--- the list grows by the wants of a class
+-- the list grows by the wants of the class with this rectangle
 abbrev pub IsClassAdded : Shape → Grid → List Want → List Want → Type 0
 IsClassAdded shape grid before after =
     (more : List Want) × (after ≡ before ++ more) × AreWantsOf shape grid more

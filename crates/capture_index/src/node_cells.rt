@@ -1,5 +1,5 @@
 // The cell of a point at a node, by its runs.
-ghost use Rattle.std.specs.Prelude.{◌≡◌, ◌<◌, ◌≤◌, ℕ};
+ghost use Rattle.std.specs.Prelude.{◌≡◌, ◌<◌, ◌≤◌, ℕ, [], ◌∷◌};
 ghost use Rattle.kb_geometry.specs.Board.{point_count};
 ghost use Rattle.capture_index.specs.Finding.{packed_cell};
 ghost use Rattle.capture_index.specs.Lists.{run_of_word};
@@ -35,7 +35,7 @@ impl PackedRuns {
         if time.is_many() {
             next_run(self.list(time.list()), node, self.nodes)
         } else {
-            next_run(&[run_of(time)], node, self.nodes)
+            next_of_word(time, node, self.nodes)
         }
     }
 }
@@ -60,6 +60,19 @@ fn cell_at(runs: &[Run], node: u32) -> Cell
         }
     }
     Cell::Empty
+}
+
+// The first node of the run that a word tells, if it begins behind the node; else the number of
+// nodes.
+fn next_of_word(time: Time, node: u32, nodes: u32) -> u32
+    requires { node < nodes }
+    ensures { StaysTo (cell_by (run_of_word time ∷ [])) nodes node result }
+{
+    let first = u32::from(time.first());
+    if first <= node {
+        return nodes;
+    }
+    nodes.min(first)
 }
 
 // The first of the runs that begin behind the node; the number of nodes, where none does.

@@ -94,8 +94,9 @@ impl RunIndex {
         self.packed.next_run(point, node)
     }
 
-    /// The next node behind this one, in order of the text, at which the cell of a wanted point
-    /// changes; the number of nodes, where none does.
+    /// The next node behind this one, in order of the text, at which a run of one of the wants'
+    /// points begins; the number of nodes, where none does. Before it these points keep their cells.
+    /// Which cells are wanted doesn't count.
     pub fn unchanged_to(&self, base: u16, wants: &[Want], node: u32) -> u32
         requires on_board { All (λ (w : Want). base + w.offset < point_count self.now.shape)
             wants.now }

@@ -187,12 +187,25 @@ fn the_next_node_at_which_a_wanted_point_changes(rt: HostRuntime) -> Result<(), 
     // and of 6 and 7, one does.
     for (base, node, next) in [
         (5, 0, 1),
-        (5, 3, 4),
         (5, 4, 5),
         (1, 0, 5),
         (9, 2, 5),
         (4, 1, 2),
         (6, 2, 3),
+    ] {
+        expect_next(&rt, &index, base, wants, node, next);
+    }
+    let deltas = made::<Brand>(&rt, alloc, 3, 3, &VARIATIONS, Blank::new(1))?;
+    let index = RunIndex::of(alloc, &deltas)?;
+    // Where the text goes back to a parent, stones go too: of the point 4 at nodes 2 and 4, of 8 at
+    // nodes 4 and 5, and of 0 at node 3.
+    for (base, node, next) in [
+        (4, 0, 1),
+        (4, 1, 2),
+        (4, 5, 7),
+        (7, 0, 3),
+        (7, 4, 5),
+        (0, 2, 3),
     ] {
         expect_next(&rt, &index, base, wants, node, next);
     }

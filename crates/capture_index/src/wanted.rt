@@ -5,7 +5,7 @@ ghost use Rattle.pattern_images.specs.ImageList.{grid_at};
 ghost use Rattle.capture_index.specs.StoredWants.{
   ArePartedOn,
   IsClassAdded,
-  IsPut,
+  IsWantPut,
   grid_with,
   rank_of,
 };
@@ -22,7 +22,7 @@ const OTHER: u8 = 1;
 
 const WILDCARD: u8 = 2;
 
-// Adds the wants of a class. What is in `others` doesn't count.
+// Adds the wants of a class. `others` is room, which is written over.
 pub(crate) fn add_wants(
     images: &Images,
     class: usize,
@@ -43,8 +43,8 @@ pub(crate) fn add_wants(
     Ok(())
 }
 
-// Adds the wants of the cells in a row of a rectangle: to the first list those that must be a stone,
-// and to the other one those that may be empty.
+// Adds the wants of the cells in a row of a rectangle: of those that must be a stone to the first
+// list, and of the others but wildcards to the second.
 fn add_row(
     shape: Shape,
     size: Shape,
@@ -75,8 +75,8 @@ fn add_cell(
     wants: &mut Vec<Want>,
     others: &mut Vec<Want>,
 ) -> Result<(), NoMemory>
-    ensures stones { OnOk result (IsPut STONE cell offset wants.old.items wants.new.items) }
-    ensures others { OnOk result (IsPut OTHER cell offset others.old.items others.new.items) }
+    ensures stones { OnOk result (IsWantPut STONE cell offset wants.old.items wants.new.items) }
+    ensures others { OnOk result (IsWantPut OTHER cell offset others.old.items others.new.items) }
 {
     let rank = rank_of(cell);
     if rank == STONE {

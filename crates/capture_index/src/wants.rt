@@ -13,8 +13,7 @@ use std::marker::Model;
 /// What each class of a query's images asks of points: for each cell that isn't a wildcard how far
 /// its point stands behind the upper left one, by number on the board, and which cells it allows.
 ///
-/// Cells that must be a stone come first, then those that may be empty: what fewer nodes have is
-/// asked first.
+/// Cells that must be a stone come first, then the others.
 #[derive(Debug, Drop)]
 pub struct Wants<'a> {
     images: &'a Images,

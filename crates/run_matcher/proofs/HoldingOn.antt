@@ -6,8 +6,7 @@ use Rattle.kb_geometry.specs.declared.shape.Shape.{Shape}
 use Rattle.pattern_images.specs.ImageList.{IsPlacedOn, placement_at}
 use Rattle.line_matcher.specs.Occurrences.{HoldsAt}
 use Rattle.capture_index.specs.NodePositions.{NodePositions, count_in, positions_of}
-use Rattle.capture_index.specs.Stretches.{AreWantedAt, IsUnchangedAt, no_want}
-use Rattle.capture_index.specs.Stretches.{is_wanted}
+use Rattle.capture_index.specs.Stretches.{AreWantedAt, IsUnchangedAt, is_wanted, no_want}
 use Rattle.capture_index.specs.Wants.{AreWantsOf, base_of}
 use Rattle.capture_index.proofs.WantsOfPlacements.{wanted-holds}
 use Rattle.run_matcher.specs.SoughtPlacements.{IsSought}

@@ -10,14 +10,15 @@ use crate::Sought;
 use capture_index::RunIndex;
 
 impl<'a> Sought<'a> {
-    /// A node behind this one, in order of the text, before which the placement holds at each node
-    /// from this one on, if it holds at this one: none of its points but those under wildcards
-    /// changes before. The runs are those of a game on a board of the images' shape.
+    /// The number of a node behind this one, in order of the text, or the number of nodes: if the
+    /// placement holds at this node, it holds at each one from it on up to before that one. The runs
+    /// are those of a game on a board of the images' shape.
     pub fn holds_to(&self, runs: &RunIndex, node: u32) -> u32
         requires shape { self.now.images.now.shape ≡ runs.now.shape }
         requires sought { IsSought self.now }
         requires in_range { node < count_in runs.now }
         ensures more { node < result }
+        ensures most { result ≤ count_in runs.now }
         ensures holds { (deltas : Deltas) → AreDeltas deltas → runs.now ≡ positions_of deltas →
             HoldsAt deltas (placement_at self.now.images.now.placements self.now.number) node →
             (k : ℕ) → node ≤ k → k < result →

@@ -78,8 +78,8 @@ fn looks_at(query: &Query, tree: &GameTree, node: u32) -> bool
     query.from_move <= moves && moves <= query.to_move
 }
 
-// The hit of an occurrence in the game with this number and these changes. What the runs tell at once,
-// as long as no point of the placement changes, needn't be asked of the changes.
+// The hit of an occurrence in the game with this number and these changes. The runs tell how far the
+// placement goes on to hold, and the changes of the nodes before that needn't be asked.
 fn hit_of(
     number: u32,
     game: &FinishedGame,

@@ -43,15 +43,15 @@ fn wants_of(
     Ok(all)
 }
 
-// Stones come first, then half wildcards, then empty cells, each row by row.
+// Stones come first, then the cells that may be empty, each of them row by row.
 #[test]
 fn stones_are_asked_first(rt: HostRuntime) -> Result<(), Fail> {
     let mixed = [
         want(1, false, true, false),
         want(6, false, false, true),
+        want(0, true, false, false),
         want(2, true, true, false),
         want(7, true, false, true),
-        want(0, true, false, false),
     ];
     let pair = [
         want(0, false, true, false),

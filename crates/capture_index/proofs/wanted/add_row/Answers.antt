@@ -3,7 +3,7 @@ use Rattle.std.proofs.Common.{◌≡◌, ℕ, ◌+◌, ◌*◌, ◌<◌, ◌∙�
 use Rattle.std.proofs.lemmas.Nat.{mul-add-lt}
 use Rattle.kb_geometry.specs.Board.{cols_of, rows_of}
 use Rattle.capture_index.specs.StoredWants.{ArePartedOn, grid_with}
-use Rattle.capture_index.proofs.WantLists.{ArePartedOn-more, ArePartedOn-none, IsPut-read}
+use Rattle.capture_index.proofs.WantLists.{ArePartedOn-more, ArePartedOn-none, IsWantPut-read}
 use Rattle.capture_index.proofs.wanted.add_row.Goals as goal
 
 pub loop-x-init : goal.loop-x-init
@@ -24,8 +24,8 @@ loop-x-preserved c =
     let behind : c.from-2.result * c.from-3.result + x ≡ y * cols_of c.args.shape + x = ap (λ (n : ℕ). n * c.from-3.result + x) c.from-2.ensures ∙ ap (λ (n : ℕ). y * n + x) (c.from-3.ensures ∙ c.cols-2.ensures.value) in
     subst (λ (n : ℕ). ArePartedOn c.args.shape grid (y * cols_of c.args.size) n c.args.wants.now.items c.args.others.now.items c.add_cell.new.wants.items c.add_cell.new.others.items) (omega arith)
     (ArePartedOn-more c.args.shape grid c.args.size refl refl x y column c.requires.row (y * cols_of c.args.size) c.args.wants.now.items c.args.others.now.items c.loop-x.wants.items c.loop-x.others.items c.add_cell.new.wants.items c.add_cell.new.others.items c.loop-x.invariant
-    (IsPut-read c.args.shape grid 0 _ _ x y _ c.loop-x.wants.items c.add_cell.new.wants.items at lt behind c.in_ok-add_cell.ensures.stones)
-    (IsPut-read c.args.shape grid 1 _ _ x y _ c.loop-x.others.items c.add_cell.new.others.items at lt behind c.in_ok-add_cell.ensures.others))
+    (IsWantPut-read c.args.shape grid 0 _ _ x y _ c.loop-x.wants.items c.add_cell.new.wants.items at lt behind c.in_ok-add_cell.ensures.stones)
+    (IsWantPut-read c.args.shape grid 1 _ _ x y _ c.loop-x.others.items c.add_cell.new.others.items at lt behind c.in_ok-add_cell.ensures.others))
 
 pub returns : goal.returns
 returns c =
