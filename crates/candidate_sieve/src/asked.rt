@@ -1,5 +1,5 @@
 // The points and cells that the placements of a query ask for.
-ghost use Rattle.std.specs.Prelude.{◌≡◌, ◌+◌, ◌<◌, ◌≤◌, ◌↔◌, [], IsTrue, Contains, length};
+ghost use Rattle.std.specs.Prelude.{◌+◌, ◌<◌, ◌≤◌, ◌↔◌, IsTrue, Contains, length};
 ghost use Rattle.kb_bits.specs.declared.bit_board.TheConstants.{BOUND};
 ghost use Rattle.pattern_images.specs.ImageList.{placement_at};
 ghost use Rattle.candidate_sieve.specs.NodeCandidates.{AreAsked, AsksThere, noted};

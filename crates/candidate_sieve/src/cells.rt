@@ -1,5 +1,5 @@
 // The cells of a placement against the sets of a game.
-ghost use Rattle.std.specs.Prelude.{◌≡◌, ◌≢◌, ◌+◌, ◌<◌, ◌≤◌, ◌↔◌, ℕ, IsTrue, length, slice_index_or};
+ghost use Rattle.std.specs.Prelude.{◌≡◌, ◌≢◌, ◌+◌, ◌<◌, ◌↔◌, ℕ, IsTrue, length, slice_index_or};
 ghost use Rattle.pattern_images.specs.declared.cell.PatternCell.TheVariants as pattern;
 ghost use Rattle.pattern_images.specs.Grid.{cell_in};
 ghost use Rattle.pattern_images.specs.ImageList.{grid_at, placement_at};

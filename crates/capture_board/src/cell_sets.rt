@@ -1,17 +1,5 @@
 // The cells of a board by their points, and the points of the board by their cells.
-ghost use Rattle.std.specs.Prelude.{
-  ◌≡◌,
-  ◌≢◌,
-  ℕ,
-  ◌<◌,
-  ◌≤◌,
-  ◌⊎◌,
-  ◌↔◌,
-  length,
-  slice_set,
-  All,
-  Contains,
-};
+ghost use Rattle.std.specs.Prelude.{◌≡◌, ◌≢◌, ℕ, ◌<◌, ◌⊎◌, ◌↔◌, slice_set, All, Contains};
 ghost use Rattle.kb_geometry.specs.declared.stone.Cell.{Cell};
 ghost use Rattle.kb_geometry.specs.declared.stone.Change.{Change};
 ghost use Rattle.kb_geometry.specs.Board.{point_count};

@@ -1,5 +1,5 @@
 // The nodes of stretches at which something begins.
-ghost use Rattle.std.specs.Prelude.{◌≡◌, ◌+◌, ◌<◌, ◌≤◌, ◌↔◌, ◌⊎◌, ℕ, Contains, IsTrue, OnOk, length};
+ghost use Rattle.std.specs.Prelude.{◌≡◌, ◌+◌, ◌<◌, ◌↔◌, ◌⊎◌, ℕ, Contains, IsTrue, OnOk, length};
 ghost use Rattle.capture_index.specs.Begins.{
   AreBehind,
   AreFalling,

@@ -1,5 +1,5 @@
 // Parents, by the nodes at which the text goes back.
-ghost use Rattle.std.specs.Prelude.{◌≡◌, ◌+◌, ◌<◌, ◌≤◌, All, IfSome};
+ghost use Rattle.std.specs.Prelude.{◌≡◌, ◌+◌, ◌<◌, All, IfSome};
 ghost use Rattle.capture_index.specs.declared.run.Branch.{Branch};
 ghost use Rattle.capture_index.specs.Branches.{AreAscending, IsFirstAt, parent_by};
 ghost use Rattle.capture_index.specs.Seen.{GoesOnTo};

@@ -1,6 +1,20 @@
 // The runs of the points while they are made.
-ghost use Rattle.std.specs.Prelude.{◌≡◌, ◌+◌, ◌<◌, ◌≤◌, ◌∷◌, ◌++◌, ℕ, [], IfOk, OnOk, length, replicate, slice_set};
-ghost use Rattle.capture_index.specs.Building.{IsMade, IsPut};
+ghost use Rattle.std.specs.Prelude.{
+  ◌≡◌,
+  ◌+◌,
+  ◌<◌,
+  ◌≤◌,
+  ◌∷◌,
+  ◌++◌,
+  ℕ,
+  [],
+  IfOk,
+  OnOk,
+  length,
+  replicate,
+  slice_set,
+};
+ghost use Rattle.capture_index.specs.Building.{IsMade};
 ghost use Rattle.capture_index.specs.Packing.{AreFew};
 ghost use Rattle.capture_index.specs.Links.{AreLinks, runs_from};
 ghost use Rattle.capture_index.specs.Runs.{BeginBy, BeginsBy, cell_by, position_by, runs_at};

@@ -1,5 +1,5 @@
 // The cell of a point at a node, by its runs.
-ghost use Rattle.std.specs.Prelude.{◌≡◌, ◌<◌, ◌≤◌, ℕ, [], ◌∷◌};
+ghost use Rattle.std.specs.Prelude.{◌≡◌, ◌<◌, [], ◌∷◌};
 ghost use Rattle.kb_geometry.specs.Board.{point_count};
 ghost use Rattle.capture_index.specs.Finding.{packed_cell};
 ghost use Rattle.capture_index.specs.Lists.{run_of_word};

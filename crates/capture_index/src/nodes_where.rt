@@ -1,8 +1,8 @@
 // The nodes at which a point begins to have a cell.
-ghost use Rattle.std.specs.Prelude.{◌≡◌, ◌+◌, ◌<◌, ◌≤◌, ℕ, IfSome, IsTrue, false};
+ghost use Rattle.std.specs.Prelude.{◌≡◌, ◌+◌, ◌<◌, ◌≤◌, ℕ, IfSome, false};
 ghost use Rattle.std.specs.Iterator.{YieldsFirst, item_count};
 ghost use Rattle.kb_geometry.specs.Board.{point_count};
-ghost use Rattle.capture_index.specs.NodePositions.{begins_at, count_in, is_cell, nodes_where, was_cell};
+ghost use Rattle.capture_index.specs.NodePositions.{begins_at, count_in, nodes_where};
 ghost use Rattle.capture_index.specs.Seen.{IsNextBegin};
 
 use crate::run_index::RunIndex;

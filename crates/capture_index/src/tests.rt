@@ -1,5 +1,5 @@
 // Runs of games that are made by hand, with values worked out by hand.
-ghost use Rattle.std.specs.Prelude.{◌≡◌, ◌<◌};
+ghost use Rattle.std.specs.Prelude.{◌<◌};
 
 mod made;
 mod wanted;

@@ -1,5 +1,5 @@
 // The wants of one class.
-ghost use Rattle.std.specs.Prelude.{◌≡◌, ◌+◌, ◌*◌, ◌<◌, ◌≤◌, OnOk, length};
+ghost use Rattle.std.specs.Prelude.{◌≡◌, ◌+◌, ◌*◌, ◌<◌, OnOk, length};
 ghost use Rattle.kb_geometry.specs.Board.{cols_of, point_count, rows_of};
 ghost use Rattle.pattern_images.specs.ImageList.{grid_at};
 ghost use Rattle.capture_index.specs.StoredWants.{

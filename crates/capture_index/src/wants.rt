@@ -1,6 +1,5 @@
 // What the classes of a query's images ask of points.
-ghost use Rattle.std.specs.Prelude.{◌≡◌, ◌+◌, ◌*◌, ◌<◌, IfOk, OnOk, length};
-ghost use Rattle.kb_geometry.specs.Board.{cols_of, rows_of};
+ghost use Rattle.std.specs.Prelude.{◌≡◌, ◌<◌, IfOk, length};
 ghost use Rattle.pattern_images.specs.ImageList.{grid_at};
 
 use crate::stretch::Want;

@@ -1,7 +1,6 @@
 // The placement that has a place, and whether it holds at a node.
-ghost use Rattle.std.specs.Prelude.{◌≡◌, ℕ, ◌+◌, ◌≤◌, ◌<◌, ◌↔◌, length, IsTrue};
-ghost use Rattle.kb_geometry.specs.Capture.{cell_at};
-ghost use Rattle.capture_board.specs.Deltas.{node_count, position_at};
+ghost use Rattle.std.specs.Prelude.{◌≡◌, ℕ, ◌+◌, ◌<◌, ◌↔◌, length, IsTrue};
+ghost use Rattle.capture_board.specs.Deltas.{node_count};
 ghost use Rattle.pattern_images.specs.Grid.{cell_in};
 ghost use Rattle.pattern_images.specs.Holds.{Allows, number_under};
 ghost use Rattle.pattern_images.specs.ImageList.{IsPlaceOf, placement_at};

@@ -1,5 +1,5 @@
 // How many hits, how many of them go on, and who won their games.
-ghost use Rattle.std.specs.Prelude.{◌≡◌, ◌<◌, []};
+ghost use Rattle.std.specs.Prelude.{◌≡◌, []};
 ghost use Rattle.continuation_table.specs.Counting.{IsWithinCount, counted};
 ghost use Rattle.continuation_table.specs.Table.{is_colour, is_later, is_now, is_win, tally_of};
 

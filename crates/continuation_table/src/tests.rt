@@ -1,5 +1,5 @@
 // Continuations and tables by hand.
-ghost use Rattle.std.specs.Prelude.{◌≡◌, ◌<◌, length};
+ghost use Rattle.std.specs.Prelude.{◌<◌};
 
 use crate::{Row, Table, Tally, next_of};
 use game_tree::{GameTree, build};

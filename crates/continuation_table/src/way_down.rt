@@ -1,8 +1,6 @@
 // How a game goes on below a node.
-ghost use Rattle.std.specs.Prelude.{◌≡◌, ◌<◌, ◌≤◌, ℕ, List, length, IfNone, IfSome};
-ghost use Rattle.kb_geometry.specs.Capture.{Position};
+ghost use Rattle.std.specs.Prelude.{◌≡◌, ◌<◌, ◌≤◌, ℕ, length, IfNone, IfSome};
 ghost use Rattle.kb_geometry.specs.Symmetry.{point_of};
-ghost use Rattle.game_tree.specs.Position.{ArePositions};
 ghost use Rattle.game_tree.specs.Tree.{node_count};
 ghost use Rattle.node_position.specs.Games.{AreNodeChanges};
 ghost use Rattle.pattern_images.specs.declared.hit.Next.{Next};

@@ -1,6 +1,21 @@
 // Numbers of a corner and the games that had them, as two lists.
-ghost use Rattle.std.specs.Prelude.{◌≡◌, ◌<◌, ◌≤◌, ◌+◌, ◌-◌, ◌∷◌, ◌++◌, [], ◌↔◌, IfOk, IsTrue, OnOk, length, replicate, slice_index};
-ghost use Rattle.std.specs.List.Sorted.{IsStrictlyIncreasing};
+ghost use Rattle.std.specs.Prelude.{
+  ◌≡◌,
+  ◌<◌,
+  ◌≤◌,
+  ◌+◌,
+  ◌-◌,
+  ◌∷◌,
+  ◌++◌,
+  [],
+  ◌↔◌,
+  IfOk,
+  IsTrue,
+  OnOk,
+  length,
+  replicate,
+  slice_index,
+};
 ghost use Rattle.corner_index.specs.Entries.{AreAllBelow, AreListsJoined, AreOrdered};
 
 use kb_geometry::NoMemory;

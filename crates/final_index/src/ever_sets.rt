@@ -1,8 +1,7 @@
 // The points that had each cell at some node, gathered in one pass over the changes.
-ghost use Rattle.std.specs.Prelude.{◌≡◌, ◌≢◌, ℕ, ◌<◌, ◌≤◌, ◌⊎◌, ◌↔◌, All, Contains};
+ghost use Rattle.std.specs.Prelude.{◌≡◌, ℕ, ◌<◌, ◌≤◌, ◌⊎◌, ◌↔◌, All, Contains};
 ghost use Rattle.kb_geometry.specs.declared.stone.Cell.{Cell};
 ghost use Rattle.kb_geometry.specs.declared.stone.Change.{Change};
-ghost use Rattle.kb_geometry.specs.Board.{point_count};
 ghost use Rattle.capture_board.specs.Deltas.{node_count};
 ghost use Rattle.final_index.specs.Ever.{AreSetsOf, set_of};
 ghost use Rattle.final_index.specs.Gathering.{AreAdded, AreGathered, AreUntouched};

@@ -1,33 +1,23 @@
 // One game: from its raw nodes to its tree.
 ghost use Rattle.std.specs.Prelude.{
   ◌≡◌,
-  ◌⊎◌,
-  ◌≤◌,
   ◌<◌,
   ◌+◌,
   ◌∷◌,
-  ◌++◌,
   ℕ,
-  List,
-  [],
   length,
-  map,
   drop,
   All,
-  Contains,
   Option,
   Some,
   None,
   IfOk,
-  IfErr,
   IfSome,
   Err,
 };
 ghost use Rattle.kb_geometry.specs.declared.shape.Shape.{Shape};
-ghost use Rattle.sgf_reader.specs.declared.collection.RawNode.{RawNode};
 ghost use Rattle.sgf_reader.specs.declared.fault.FaultKind.{FaultKind};
 ghost use Rattle.sgf_reader.specs.declared.fault.SgfFault.{SgfFault};
-ghost use Rattle.sgf_reader.specs.Faults.{IsRead};
 ghost use Rattle.game_tree.specs.declared.building.BuildError.TheVariants.{Fault};
 ghost use Rattle.game_tree.specs.declared.node.Move.{Move};
 ghost use Rattle.game_tree.specs.GameFaults.{HasGameFault, IsFirstGameFault};

@@ -4,18 +4,14 @@ ghost use Rattle.std.specs.Prelude.{
   ◌+◌,
   ◌<◌,
   ◌≤◌,
-  ℕ,
   List,
   [],
-  ◌∷◌,
-  ◌++◌,
   length,
   All,
   Option,
   Some,
   None,
   IfOk,
-  IfErr,
   IfSome,
   Err,
 };
@@ -24,7 +20,7 @@ ghost use Rattle.kb_geometry.specs.Board.{IsOnBoard};
 ghost use Rattle.sgf_reader.specs.declared.fault.SgfFault.{SgfFault};
 ghost use Rattle.game_tree.specs.declared.node.Move.{Move};
 ghost use Rattle.game_tree.specs.declared.node.Setup.{Setup};
-ghost use Rattle.game_tree.specs.declared.building.BuildError.TheVariants.{Fault, NoMemory};
+ghost use Rattle.game_tree.specs.declared.building.BuildError.TheVariants.{Fault};
 ghost use Rattle.game_tree.specs.NodeValues.{
   AreValuesRead,
   Ascend,

@@ -1,23 +1,8 @@
 // The properties of a node, by their identifiers.
-ghost use Rattle.std.specs.Prelude.{
-  ◌≡◌,
-  ◌≢◌,
-  ◌≤◌,
-  ℕ,
-  List,
-  [],
-  ◌∷◌,
-  length,
-  filter,
-  Some,
-  None,
-  IfSome,
-  IsTrue,
-};
+ghost use Rattle.std.specs.Prelude.{◌≡◌, ◌≢◌, ℕ, [], ◌∷◌, filter, Some, None, IfSome};
 ghost use Rattle.std.specs.Str.{bytes_eq};
 ghost use Rattle.kb_geometry.specs.declared.stone.Cell.{Cell};
 ghost use Rattle.kb_geometry.specs.declared.stone.Colour.{Colour};
-ghost use Rattle.game_tree.specs.declared.property.Property.TheVariants as property;
 ghost use Rattle.game_tree.specs.declared.property.Letters.TheVariants as letters;
 ghost use Rattle.game_tree.specs.Property.{is_upper, property_named};
 

@@ -1,14 +1,9 @@
 // What the root of a game says of the game as a whole.
 ghost use Rattle.std.specs.Prelude.{
   ◌≡◌,
-  ◌≢◌,
   ◌≤◌,
   ◌<◌,
   ◌+◌,
-  ℕ,
-  List,
-  [],
-  ◌∷◌,
   length,
   All,
   Option,
@@ -25,11 +20,10 @@ ghost use Rattle.std.specs.Prelude.{
   is_some,
 };
 ghost use Rattle.sgf_reader.specs.declared.fault.SgfFault.{SgfFault};
-ghost use Rattle.sgf_reader.specs.declared.fault.FaultKind.TheVariants as kind;
 ghost use Rattle.sgf_reader.specs.Limits.{most_bytes};
 ghost use Rattle.kb_geometry.specs.declared.shape.Shape.{Shape};
 ghost use Rattle.game_tree.specs.NodeValues.{LiesIn};
-ghost use Rattle.game_tree.specs.Property.{bytes_of, mover_of, offset_of};
+ghost use Rattle.game_tree.specs.Property.{bytes_of, mover_of};
 ghost use Rattle.game_tree.specs.Roots.{
   first_in,
   letters,

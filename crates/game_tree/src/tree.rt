@@ -1,5 +1,5 @@
 // A game tree.
-ghost use Rattle.std.specs.Prelude.{◌≡◌, ℕ, ◌<◌, ◌≤◌, ◌↔◌, IsTrue, IfOk, IfSome, All};
+ghost use Rattle.std.specs.Prelude.{◌≡◌, ◌<◌, ◌≤◌, ◌↔◌, IsTrue, IfOk, IfSome, All};
 
 use crate::stored::{TreeNode, setups_start};
 use crate::{Children, Info, Move, Setup};

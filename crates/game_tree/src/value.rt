@@ -16,7 +16,6 @@ ghost use Rattle.std.specs.Prelude.{
   Some,
   None,
   IfSome,
-  IfNone,
   IsTrue,
   ◌↔◌,
   codes,

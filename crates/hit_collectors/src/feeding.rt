@@ -1,5 +1,5 @@
 // Hits are given to boxes.
-ghost use Rattle.std.specs.Prelude.{◌≡◌, ◌∷◌, ◌++◌, [], List, map, OnErr, OnOk};
+ghost use Rattle.std.specs.Prelude.{◌≡◌, map, OnErr, OnOk};
 ghost use Rattle.pattern_images.specs.declared.hit.Hit.{Hit};
 ghost use Rattle.hit_collectors.specs.Boxes.{IsFedInPart, IsPartTaken, all_with_hits};
 ghost use Rattle.hit_collectors.specs.Tallies.{with_hits};

@@ -3,7 +3,6 @@ ghost use Rattle.std.specs.Prelude.{◌≡◌, ◌++◌, OnErr, OnOk};
 ghost use Rattle.std.specs.List.{flat_map};
 ghost use mathlib.Core.List.{IsPrefix};
 ghost use Rattle.hit_collectors.specs.Reports.{behind_space, report_line, word_of};
-ghost use Rattle.hit_collectors.specs.Tallies.{BoxTally};
 
 use crate::Kind;
 use kb_geometry::{NoMemory, append, append_decimal};

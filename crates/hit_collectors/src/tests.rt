@@ -1,5 +1,5 @@
 // Tallies and report lines by hand.
-ghost use Rattle.std.specs.Prelude.{◌≡◌, ◌∷◌, [], codes};
+ghost use Rattle.std.specs.Prelude.{◌∷◌, [], codes};
 
 use crate::counter::{filled, one_more};
 use crate::report::append_report;

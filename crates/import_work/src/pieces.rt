@@ -1,5 +1,5 @@
 // What is found in the files of a batch, in up to eight pieces side by side.
-ghost use Rattle.std.specs.Prelude.{◌≡◌, ◌≤◌, ◌++◌, [], length, IfOk, OnOk};
+ghost use Rattle.std.specs.Prelude.{◌≡◌, ◌≤◌, ◌++◌, length, IfOk, OnOk};
 ghost use Rattle.import_work.specs.Judged.{AreFound, IsFoundFile};
 ghost use Rattle.import_work.specs.Pieces.{AreJoined, IsPieceAdded, group_texts};
 ghost use Rattle.import_work.specs.Reads.{file_text, file_texts};

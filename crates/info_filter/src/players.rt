@@ -5,7 +5,7 @@ ghost use Rattle.std.specs.Iterator.{YieldsFirstBy, item_count};
 ghost use Rattle.info_filter.specs.Players.{IsPlayersTable, TableRow, is_black_win, is_white_win};
 
 use crate::score::Score;
-use crate::seat::{Seat, add_side, seat_of};
+use crate::seat::{add_side, seat_of};
 use game_tree::Info;
 use indexmap::IndexMap;
 use indexmap::map::Iter;
@@ -21,7 +21,7 @@ pub struct Players {
 }
 
 impl Model for Players {
-    ghost use Rattle.std.specs.Prelude.{List, map};
+    ghost use Rattle.std.specs.Prelude.{List};
     ghost use Rattle.info_filter.specs.Players.{TableRow};
     ghost use Rattle.info_filter.specs.Seats.{table_rows_of};
 

@@ -1,4 +1,4 @@
-ghost use Rattle.std.specs.Prelude.{◌≤◌, List, length, map, IfOk};
+ghost use Rattle.std.specs.Prelude.{◌≤◌, length, map, IfOk};
 ghost use Rattle.game_tree.specs.Tree.{Tree};
 ghost use Rattle.info_filter.specs.Players.{IsPlayersTable};
 

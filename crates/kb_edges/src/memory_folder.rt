@@ -14,7 +14,6 @@ ghost use Rattle.std.specs.Prelude.{
   All,
   AllPairs,
   Contains,
-  IsTrue,
   IsErrOf,
   IsSome,
   IfOk,

@@ -1,5 +1,4 @@
 // Stones, the changes that a move makes, and who won.
-ghost use Rattle.std.specs.Prelude.{◌≡◌};
 
 /// A side of the game.
 #[derive(Clone, Copy, Debug, PartialEq, Eq, Hash)]

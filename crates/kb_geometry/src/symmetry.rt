@@ -1,6 +1,6 @@
 // The eight symmetries of a board by their numbers, and the labels: a symmetry, with or without an
 // exchange of the colours.
-ghost use Rattle.std.specs.Prelude.{◌≡◌, ◌<◌, ◌≤◌, ◌↔◌, IsTrue, IsSome, IfSome};
+ghost use Rattle.std.specs.Prelude.{◌≡◌, ◌<◌, ◌↔◌, IsTrue, IsSome, IfSome};
 
 use crate::shape::Shape;
 

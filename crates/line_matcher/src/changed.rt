@@ -1,12 +1,12 @@
 // Where placements can begin to hold at a node.
-ghost use Rattle.std.specs.Prelude.{◌≡◌, ◌≤◌, ◌↔◌, ◌<◌, ◌⊎◌, ℕ, [], All, IsTrue, MatchOption};
+ghost use Rattle.std.specs.Prelude.{◌≡◌, ◌≤◌, ◌↔◌, ◌<◌, ◌⊎◌, [], All, IsTrue, MatchOption};
 ghost use Rattle.kb_geometry.specs.declared.shape.Shape.{Shape};
 ghost use Rattle.kb_geometry.specs.declared.shape.Point.{Point};
 ghost use Rattle.kb_geometry.specs.declared.stone.Change.{Change};
-ghost use Rattle.kb_geometry.specs.Board.{IsInside, IsOnBoard, IsOrderedRectOnBoard, cols_of};
-ghost use Rattle.kb_geometry.specs.Board.{number_of, point_count, rows_of};
+ghost use Rattle.kb_geometry.specs.Board.{IsInside, IsOnBoard, IsOrderedRectOnBoard};
+ghost use Rattle.kb_geometry.specs.Board.{point_count};
 ghost use Rattle.line_matcher.specs.Areas.{HoldsChanges, IsWidenedBy, IsReach};
-ghost use Rattle.line_matcher.specs.Concerned.{AreConcerned, Concerns, IsWithChange, no_points};
+ghost use Rattle.line_matcher.specs.Concerned.{AreConcerned, IsWithChange, no_points};
 
 use kb_bits::BitBoard;
 use kb_geometry::{Cell, Change, MAX_POINTS, Point, Rect, Shape};

@@ -27,7 +27,7 @@ pub(crate) struct GridRows {
 }
 
 impl Model for GridRows {
-    ghost use Rattle.std.specs.Prelude.{◌≤◌, List, map, All, length};
+    ghost use Rattle.std.specs.Prelude.{List, map, All, length};
     ghost use Rattle.line_matcher.specs.declared.mask.RowMask.{RowMask};
 
     ghost Value = { List (List RowMask) };

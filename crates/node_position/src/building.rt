@@ -1,12 +1,12 @@
 // The changes at the nodes of a game tree.
-ghost use Rattle.std.specs.Prelude.{◌≡◌, ◌<◌, List, All, IfOk, IfSome, IsSome};
+ghost use Rattle.std.specs.Prelude.{◌≡◌, ◌<◌, All, IfOk, IfSome, IsSome};
 ghost use Rattle.std.specs.Option.{IsSomeAnd};
 ghost use Rattle.kb_geometry.specs.declared.shape.Point.{Point};
 ghost use Rattle.kb_geometry.specs.Board.{IsOnBoard, IsOrderedRectOnBoard};
 ghost use Rattle.kb_geometry.specs.Capture.{Position};
 ghost use Rattle.game_tree.specs.declared.node.Move.{Move};
 ghost use Rattle.game_tree.specs.declared.node.Setup.{Setup};
-ghost use Rattle.game_tree.specs.Position.{ArePositions, IsMoved, set_up_all};
+ghost use Rattle.game_tree.specs.Position.{IsMoved, set_up_all};
 ghost use Rattle.capture_board.specs.Changes.{LeadFrom};
 ghost use Rattle.capture_board.specs.Walking.{MayLeaveTo, parent_here};
 ghost use Rattle.node_position.specs.Games.{AreNodeChanges};

@@ -1,5 +1,5 @@
 // Laws of pattern texts and their faults, for who reads a contract of this crate.
-ghost use Rattle.std.specs.Prelude.{◌≡◌, ◌+◌, ◌*◌, ◌<◌, ◌⊎◌, ◌↔◌, List, ℕ};
+ghost use Rattle.std.specs.Prelude.{◌≡◌, ◌*◌, ◌<◌, ◌⊎◌, ◌↔◌, List, ℕ};
 ghost use Rattle.pattern_images.specs.Grid.{Grid};
 ghost use Rattle.pattern_syntax.specs.Text.{SpellsPattern};
 ghost use Rattle.pattern_syntax.specs.Faults.{HasPatternFault, IsFirstPatternFault};

@@ -2,7 +2,6 @@
 ghost use Rattle.std.specs.Prelude.{◌≡◌, ◌↔◌};
 ghost use Rattle.std.specs.Prelude.{
   ℕ,
-  List,
   map,
   codes,
   string_bytes,

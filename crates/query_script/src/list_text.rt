@@ -1,6 +1,5 @@
 // The printed texts of the statements that list games and players.
-ghost use Rattle.std.specs.Prelude.{◌≡◌, ◌++◌, ◌∷◌, [], OnErr, OnOk, codes};
-ghost use Rattle.std.specs.Fmt.{decimal};
+ghost use Rattle.std.specs.Prelude.{◌≡◌, ◌++◌, ◌∷◌, OnErr, OnOk};
 ghost use Rattle.std.specs.List.{flat_map};
 ghost use mathlib.Core.List.{IsPrefix};
 ghost use Rattle.info_filter.specs.Rows.{shown_row};
@@ -9,7 +8,6 @@ ghost use Rattle.query_script.specs.Texts.{
   doubles_head,
   kept_text,
   player_text,
-  players_head,
   players_text,
   signature_head,
   found_game_text,

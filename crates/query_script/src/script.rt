@@ -1,5 +1,5 @@
 // Reads a script.
-ghost use Rattle.std.specs.Prelude.{◌≡◌, ◌≤◌, ℕ, length, IfOk, IsErrOf};
+ghost use Rattle.std.specs.Prelude.{◌≤◌, ℕ, length, IfOk, IsErrOf};
 ghost use Rattle.query_script.specs.Script.{
   AreStatements,
   IsLeastBadLine,

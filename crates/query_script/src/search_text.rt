@@ -1,17 +1,14 @@
 // The printed text of a search.
-ghost use Rattle.std.specs.Prelude.{◌≡◌, ◌++◌, ◌∷◌, [], None, OnErr, OnOk, Some, codes};
+ghost use Rattle.std.specs.Prelude.{◌≡◌, ◌++◌, None, OnErr, OnOk, Some};
 ghost use mathlib.Core.List.{IsPrefix};
-ghost use Rattle.std.specs.Fmt.{decimal};
 ghost use Rattle.std.specs.List.{flat_map};
 ghost use Rattle.query_script.specs.Texts.{
   colour_letter,
   hit_head,
   hit_text,
-  line_text,
   next_text,
   row_head,
   row_text,
-  search_head,
   search_text,
   tally_text,
   total_text,
@@ -20,7 +17,7 @@ ghost use Rattle.query_script.specs.Texts.{
 
 use crate::head::append_head;
 use continuation_table::{Row, Table, Tally};
-use kb_geometry::{Colour, NoMemory, append, append_decimal, append_decimal_and, cut_back};
+use kb_geometry::{Colour, NoMemory, append, append_decimal_and, cut_back};
 use pattern_images::{Hit, Next};
 
 // The letter of a colour.

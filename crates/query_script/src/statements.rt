@@ -32,7 +32,6 @@ ghost use Rattle.query_script.specs.Statements.{
   IsSignaturePattern,
   IsStatement,
   most_games_made,
-  most_number,
 };
 ghost use Rattle.query_script.specs.Words.{IsNumber, bare};
 

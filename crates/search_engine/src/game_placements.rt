@@ -1,5 +1,5 @@
 // The placements that each game of a block may have.
-ghost use Rattle.std.specs.Prelude.{◌≡◌, ℕ, ◌<◌, [], Contains, IfOk, OnOk, length};
+ghost use Rattle.std.specs.Prelude.{◌≡◌, ℕ, ◌<◌, Contains, OnOk, length};
 ghost use Rattle.search_engine.specs.BlockCandidates.{AreByGame, IsAddedBelow, list_of};
 
 use crate::bits::next_bit;

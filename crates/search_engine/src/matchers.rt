@@ -1,20 +1,6 @@
 // What is looked for on each board: the images of a query are made once for each shape of a board,
 // and read by all pieces of a search.
-ghost use Rattle.std.specs.Prelude.{
-  ◌≡◌,
-  ◌<◌,
-  ◌≤◌,
-  [],
-  ◌∷◌,
-  All,
-  Contains,
-  IfNone,
-  IfOk,
-  IfSome,
-  OnOk,
-  length,
-  map,
-};
+ghost use Rattle.std.specs.Prelude.{◌≡◌, ◌<◌, All, Contains, IfNone, IfOk, IfSome, map};
 ghost use Rattle.pattern_images.specs.Placements.{ArePlacements};
 ghost use Rattle.pattern_images.specs.Query.{IsForBoard};
 ghost use Rattle.search_engine.specs.ImagesMade.{AreImagesOf};

@@ -1,5 +1,5 @@
 // A search in pieces, side by side.
-ghost use Rattle.std.specs.Prelude.{◌≤◌, ◌<◌, ◌*◌, ◌++◌, [], IfOk, OnOk, length};
+ghost use Rattle.std.specs.Prelude.{◌≤◌, ◌<◌, ◌*◌, [], IfOk, OnOk};
 ghost use Rattle.search_engine.specs.Hits.{AreHits};
 ghost use Rattle.search_engine.specs.Items.{AreNumberedFrom, games_of};
 ghost use Rattle.search_engine.specs.Searching.{

@@ -1,5 +1,5 @@
 // A search over a version, and over one part of it.
-ghost use Rattle.std.specs.Prelude.{◌≡◌, ◌≤◌, ◌+◌, ℕ, IfOk, length};
+ghost use Rattle.std.specs.Prelude.{◌≤◌, ◌+◌, ℕ, IfOk, length};
 ghost use Rattle.version_publisher.specs.Contents.{items_in};
 ghost use Rattle.continuation_table.specs.Table.{IsTable};
 ghost use Rattle.search_engine.specs.Hits.{AreHits, AreHitsFrom};

@@ -13,7 +13,6 @@ ghost use Rattle.std.specs.Prelude.{
   IfOk,
   IfSome,
   OnOk,
-  length,
 };
 ghost use Rattle.std.specs.List.{slice_get};
 ghost use Rattle.search_engine.specs.ShapePlaces.{shape_number};

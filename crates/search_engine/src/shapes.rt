@@ -1,5 +1,5 @@
 // The shapes of the boards of games.
-ghost use Rattle.std.specs.Prelude.{[], ◌∷◌, All, IfOk, OnOk, map};
+ghost use Rattle.std.specs.Prelude.{[], ◌∷◌, All, IfOk, OnOk};
 ghost use Rattle.kb_geometry.specs.declared.shape.Shape.{Shape};
 ghost use Rattle.pattern_images.specs.Query.{IsForBoard};
 ghost use Rattle.search_engine.specs.Items.{games_of};

@@ -18,7 +18,6 @@ ghost use Rattle.std.specs.Prelude.{
   MatchResult,
   OnErr,
   OnOk,
-  drop,
   length,
   map,
   take,
@@ -29,8 +28,7 @@ ghost use Rattle.hit_collectors.specs.Tallies.{BoxTally};
 ghost use Rattle.kb_edges.specs.Faults.{Rose};
 ghost use Rattle.kb_edges.specs.Told.{IfTold};
 ghost use Rattle.query_script.specs.declared.statement.Placed.{Placed};
-ghost use Rattle.query_script.specs.declared.statement.Statement.{Statement};
-ghost use Rattle.version_publisher.specs.Contents.{IsNewSearcher, items_in};
+ghost use Rattle.version_publisher.specs.Contents.{IsNewSearcher};
 ghost use Rattle.import_work.specs.Imports.{games_reported};
 ghost use Rattle.search_run.specs.Beside.{
   HasAnsweredAll,
@@ -58,7 +56,6 @@ ghost use Rattle.serial_run.specs.Steps.{
 ghost use Rattle.serial_run.specs.Texts.{opening_text};
 
 use crate::beside::answer_beside;
-use crate::carried::Carried;
 use crate::importer::{Ended, Importing, Order, Tools, import};
 use crate::searchers::Searchers;
 use hit_collectors::Collector;

@@ -10,7 +10,7 @@ use crate::write::write_all;
 use hit_collectors::Collector;
 use kb_edges::{Folder, Sink, SinkError};
 use kb_geometry::NoMemory;
-use query_script::{MAX_SCRIPT, Placed};
+use query_script::Placed;
 use session_core::Session;
 use std::alloc::Global;
 use std::thread::Threads;

@@ -1,6 +1,5 @@
 // The answers of statements that speak of the boxes.
 ghost use Rattle.std.specs.Prelude.{◌≡◌, ◌++◌, List, ℕ, map, OnErr, OnOk};
-ghost use Rattle.std.specs.List.{flat_map};
 ghost use mathlib.Core.List.{IsPrefix};
 ghost use Rattle.hit_collectors.specs.Boxes.{IsFedInPart, all_with_hits};
 ghost use Rattle.hit_collectors.specs.Reports.{report_line};

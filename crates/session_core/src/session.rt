@@ -1,19 +1,5 @@
 // The answers of statements.
-ghost use Rattle.std.specs.Prelude.{
-  ◌≡◌,
-  ◌≤◌,
-  ◌++◌,
-  ◌∷◌,
-  [],
-  ℕ,
-  All,
-  List,
-  OnErr,
-  OnOk,
-  length,
-  map,
-  string_bytes,
-};
+ghost use Rattle.std.specs.Prelude.{◌≡◌, ◌++◌, ◌∷◌, [], ℕ, List, OnErr, OnOk, length, map};
 ghost use mathlib.Core.List.{IsPrefix};
 ghost use Rattle.continuation_table.specs.Table.{IsTable};
 ghost use Rattle.sgf_writer.specs.Written.{IsWritten};

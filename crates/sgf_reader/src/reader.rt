@@ -1,5 +1,5 @@
 // Reading of a text.
-ghost use Rattle.std.specs.Prelude.{◌≡◌, ◌≤◌, ◌⊎◌, length, IfOk, Err};
+ghost use Rattle.std.specs.Prelude.{◌≡◌, ◌≤◌, length, IfOk, Err};
 ghost use Rattle.sgf_reader.specs.declared.fault.ReadError.TheVariants.{Fault};
 ghost use Rattle.sgf_reader.specs.declared.fault.SgfFault.{SgfFault};
 ghost use Rattle.sgf_reader.specs.declared.fault.FaultKind.TheVariants as kind;

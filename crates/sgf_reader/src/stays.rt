@@ -1,5 +1,5 @@
 // How far a reader stays where it stands.
-ghost use Rattle.std.specs.Prelude.{◌≡◌, ◌≢◌, ◌<◌, ◌≤◌, ◌↔◌, IsTrue, length, slice_index};
+ghost use Rattle.std.specs.Prelude.{◌≢◌, ◌<◌, ◌≤◌, ◌↔◌, IsTrue, length, slice_index};
 ghost use Rattle.sgf_reader.specs.Bytes.{round_open, space};
 ghost use Rattle.sgf_reader.specs.Stays.{EachFrom, IsPlain, StaysAt, IsNodeNext};
 

@@ -1,15 +1,7 @@
 // What one byte means to a reader inside a tree.
 ghost use Rattle.std.specs.Prelude.{◌≡◌, ◌<◌, ◌^◌, ◌+◌, List, ℕ, Bool, true, false};
 ghost use Rattle.sgf_reader.specs.Grammar.{SpelledGame};
-ghost use Rattle.sgf_reader.specs.Scan.{
-  Inside,
-  step_within,
-  step_node,
-  step_between,
-  is_white,
-  is_upper,
-  is_letter,
-};
+ghost use Rattle.sgf_reader.specs.Scan.{Inside, step_within, step_node, step_between, is_white};
 ghost use Rattle.sgf_reader.specs.Turn.{phase_of, apply_turn, is_in_node, StaysInNode};
 
 use crate::Span;

@@ -5,11 +5,8 @@ ghost use Rattle.std.specs.Prelude.{
   ◌<◌,
   ◌≤◌,
   ◌==◌,
-  List,
   [],
-  ◌∷◌,
   length,
-  Bool,
   Option,
   None,
   Some,
@@ -20,7 +17,6 @@ ghost use Rattle.std.specs.Prelude.{
   if◌then◌else◌,
 };
 ghost use mathlib.Core.List.{IsPrefix};
-ghost use Rattle.std.specs.Option.{option_map_or};
 ghost use Rattle.kb_geometry.specs.declared.stone.Cell.{Cell};
 ghost use Rattle.game_tree.specs.declared.node.Move.{Move};
 ghost use Rattle.game_tree.specs.declared.node.Setup.{Setup};
@@ -32,12 +28,10 @@ ghost use Rattle.sgf_writer.specs.Written.{
   move_text,
   mover_name,
   node_text,
-  rect_text,
   root_text,
   setter_name,
   setups_text,
   text_property,
-  value_text,
 };
 
 use crate::values::{write_escaped, write_rect, write_size, write_target};

@@ -1,5 +1,5 @@
 // The writer and the readers of the published value under its rule.
-ghost use Rattle.std.specs.Prelude.{◌≡◌, [], ◌∷◌, ◌++◌, ◌||◌, map, drop, IfOk, OnOk, MatchResult};
+ghost use Rattle.std.specs.Prelude.{◌≡◌, [], ◌++◌, ◌||◌, map, drop, IfOk, OnOk, MatchResult};
 ghost use Rattle.std.specs.Arc.{arc_value};
 ghost use Rattle.left_right.specs.Sides.{view};
 ghost use Rattle.version_publisher.specs.Contents.{

@@ -1,5 +1,5 @@
 // The neighbours of a point of a board.
-ghost use Rattle.std.specs.Prelude.{◌≡◌, ℕ, ◌<◌, ◌↔◌, ◌+◌, ◌-◌, ◌*◌, length, Contains};
+ghost use Rattle.std.specs.Prelude.{◌≡◌, ℕ, ◌<◌, ◌↔◌, ◌+◌, ◌-◌, length, Contains};
 ghost use Rattle.kb_geometry.specs.Board.{point_count, AreNeighbours};
 
 use kb_geometry::{Point, Shape};

@@ -1,17 +1,5 @@
 // The group of a point, by a walk over neighbours that stops at the first liberty.
-ghost use Rattle.std.specs.Prelude.{
-  ◌≡◌,
-  ℕ,
-  ◌<◌,
-  ◌≤◌,
-  ◌↔◌,
-  ◌⊎◌,
-  length,
-  slice_index,
-  [],
-  IsTrue,
-  Contains,
-};
+ghost use Rattle.std.specs.Prelude.{◌≡◌, ℕ, ◌<◌, ◌↔◌, ◌⊎◌, length, [], IsTrue, Contains};
 ghost use Rattle.std.specs.Bool.{OnTrue, OnFalse};
 ghost use Rattle.kb_geometry.specs.Board.{point_count, AreNeighbours};
 ghost use Rattle.kb_geometry.specs.Capture.{cell_at, IsInGroup, HasLiberty};

@@ -1,6 +1,5 @@
 // Nodes that are pushed by hand, and walks over them.
 ghost use Rattle.std.specs.Prelude.{◌≡◌, ◌<◌, IfOk, IsTrue};
-ghost use Rattle.kb_geometry.specs.Board.{point_count};
 ghost use Rattle.capture_board.specs.Changes.{AreChangesOf};
 ghost use Rattle.capture_board.specs.Deltas.{IsNextParent, node_count};
 ghost use Rattle.capture_board.specs.Walking.{node_before, StandsIn};

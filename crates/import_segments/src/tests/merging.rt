@@ -8,7 +8,6 @@ use kb_edges::{FileEntry, Gate, MemoryFolder, OpenGate};
 use segment_store::Segment;
 use std::alloc::Global;
 use std::marker::Brand;
-use std::process::Abort;
 use std::sync::{Mutex, Wait};
 use std::test::Fail;
 use std::thread::Threads;

@@ -1,6 +1,5 @@
 // The occurrences in a game by the plain definition: each placement at each node, cell by cell.
 ghost use Rattle.std.specs.Prelude.{◌≡◌, ◌<◌, length};
-ghost use Rattle.pattern_images.specs.ImageList.{placement_at};
 
 use capture_board::{NodeDeltas, Steps, Walker};
 use kb_geometry::{Cell, Point};
