@@ -1,25 +1,27 @@
 -- The turned pattern: the image of a pattern under a label has one size and one list of cells, wherever its base place
 -- is, and one upper left point.
-use Rattle.std.proofs.Common.{◌≡◌, ℕ, ◌+◌, ◌-◌, ◌*◌, ◌/◌, ◌%◌, ◌<◌, ◌≤◌, if◌then◌else◌, true, false, List, [], ◌∷◌, ◌++◌, length, get_or, map, refl, sym, ap, ◌∙◌, subst, arith, rules}
+use Rattle.std.proofs.Common.{◌≡◌, ℕ, ◌+◌, ◌-◌, ◌*◌, ◌/◌, ◌%◌, ◌<◌, ◌≤◌, if◌then◌else◌, true, false, List, length, get_or, set, inl, inr, refl, sym, ap, ◌∙◌, subst, arith, rules}
 use Rattle.std.specs.Prelude.{nat_lt}
-use Rattle.std.specs.List.{range_with_len}
 use Rattle.std.proofs.Math.Nat.{mod-lt, div-lt_iff_lt-mul, mul_comm, mod-add-div'}
 use Rattle.std.proofs.lemmas.Nat.{div-mul-add, mod-mul-add, mul-add-lt}
-use Rattle.std.proofs.lemmas.List.{same_lists, get_or_default}
-use Rattle.std.proofs.lemmas.List.FromFn.{length-map-range_with_len, get_or-map-range_with_len, map-range_with_len_more}
+use Rattle.std.proofs.lemmas.Bool.{cases_lt}
+use Rattle.std.proofs.lemmas.Grind.{get_or-set_at}
+use Rattle.std.proofs.lemmas.List.{same_lists, ext_get_or, get_or_default, get_or-set_other, length-set}
+use Rattle.std.proofs.lemmas.List.FromFn.{length-map-range_with_len, get_or-map-range_with_len}
 use Rattle.kb_geometry.specs.declared.shape.Shape.{Shape}
 use Rattle.kb_geometry.specs.declared.shape.Point.{Point}
 use Rattle.kb_geometry.specs.Board.{cols_of, rows_of, number_of, point_count, IsOnBoard}
-use Rattle.kb_geometry.specs.Symmetry.{moved, symmetry_of, IsAllowed, point_of}
-use Rattle.kb_geometry.proofs.Symmetries.{same_point, IsTurned, moved-turned, turned-back, inverse-turned, back-turned}
+use Rattle.kb_geometry.specs.Symmetry.{moved, inverse_number, symmetry_of, turned_cols, IsAllowed, point_of}
+use Rattle.kb_geometry.proofs.Symmetries.{each_symmetry, same_point, IsTurned, moved-turned, turned-back, inverse-turned, back-turned}
 use Rattle.pattern_images.specs.declared.cell.PatternCell.{PatternCell}
 use Rattle.pattern_images.specs.declared.cell.PatternCell.TheVariants as cell
 use Rattle.pattern_images.specs.declared.pattern.Pattern.{Pattern}
 use Rattle.pattern_images.specs.declared.query.Query.{Query}
+use Rattle.pattern_images.specs.declared.turning.Way.{Way}
 use Rattle.pattern_images.specs.Grid.{Grid, cell_in, exchanged_cell, labelled_cell}
 use Rattle.pattern_images.specs.Pattern.{grid_of, size_of}
 use Rattle.pattern_images.specs.Placements.{Placement, Covers, IsImagePoint, IsImage, image_point}
-use Rattle.pattern_images.specs.Turned.{numbered, source, turned_cell, grid_by, upper_left}
+use Rattle.pattern_images.specs.Turned.{numbered, source, turned_cell, first_cells, grid_by, upper_left, AreFilledTo, IsWay}
 use Rattle.pattern_images.proofs.Frames.{Fits, offset, moved-offset}
 
 -- the size after a symmetry
@@ -44,15 +46,74 @@ pub point-numbered : (size : Shape) (k : ℕ) (p : Point) → IsOnBoard size p �
 point-numbered size k p on is = subst (λ (n : ℕ). p ≡ numbered size n) is
     (sym (same_point (numbered size (number_of size p)) p (mod-mul-add p.y (cols_of size) p.x on.0) (div-mul-add p.y (cols_of size) p.x on.0)))
 
+-- no cell is filled in yet
+pub filled-start : (size : Shape) (f : Point → PatternCell) (n : ℕ) (cells : List PatternCell) → length cells ≡ point_count size → n ≡ 0 → AreFilledTo size f n cells
+filled-start size f n cells all none = record { all = all; filled = λ k below. absurd (omega (arith, none)) }
+
 -- one cell more
-pub grid_by-more : (size : Shape) (f : Point → PatternCell) (k : ℕ) (p : Point) (before after : List PatternCell) →
-    IsOnBoard size p → number_of size p ≡ k → before ≡ map (λ k. f (numbered size k)) (range_with_len 0 k) → after ≡ before ++ f p ∷ [] →
-    after ≡ map (λ k. f (numbered size k)) (range_with_len 0 (k + 1))
-grid_by-more size f k p before after on is so_far pushed =
-    pushed
-    ∙ ap (λ cells. cells ++ f p ∷ []) so_far
-    ∙ ap (λ q. map (λ k. f (numbered size k)) (range_with_len 0 k) ++ f q ∷ []) (point-numbered size k p on is)
-    ∙ sym (map-range_with_len_more (λ k. f (numbered size k)) 0 k k (omega arith))
+pub filled-more : (size : Shape) (f : Point → PatternCell) (k : ℕ) (p : Point) (before after : List PatternCell) →
+    IsOnBoard size p → number_of size p ≡ k → AreFilledTo size f k before → after ≡ set before k (f p) → AreFilledTo size f (k + 1) after
+filled-more size f k p before after on is so_far now =
+    let within : k < length before = subst (λ n. k < n) (sym so_far.all) (subst (λ n. n < point_count size) is (mul-add-lt p.y (cols_of size) p.x (rows_of size) on.1 on.0)) in
+    record {
+      all = ap length now ∙ length-set before k (f p) ∙ so_far.all;
+      filled = λ j below. ap (λ cells. get_or cells j cell.Any) now ∙ elim (cases_lt j k) [
+        | inl earlier ↦ get_or-set_other before k j (f p) cell.Any (λ same. absurd (omega (arith, same))) ∙ so_far.filled j earlier
+        | inr later ↦ let same : j ≡ k = omega arith in
+            get_or-set_at before k j (f p) cell.Any same within ∙ ap f (point-numbered size k p on is) ∙ ap (λ n. f (numbered size n)) (sym same)
+      ];
+    }
+
+-- all cells are filled in
+pub filled-all : (size : Shape) (f : Point → PatternCell) (n : ℕ) (cells : List PatternCell) → AreFilledTo size f n cells → n ≡ point_count size → cells ≡ first_cells size f (point_count size)
+filled-all size f n cells filled all =
+    ext_get_or cell.Any cells (first_cells size f (point_count size)) (filled.all ∙ sym (length-map-range_with_len (λ k. f (numbered size k)) 0 (point_count size)))
+    (λ k below.
+    let within : k < point_count size = subst (λ n. k < n) filled.all below in
+    filled.filled k (subst (λ n. k < n) (sym all) within)
+    ∙ sym (get_or-map-range_with_len (λ k. f (numbered size k)) 0 (point_count size) k k cell.Any within (omega arith)))
+
+-- a symmetry's inverse gives back the columns
+turned_cols-back : (size to : Shape) (n : ℕ) → n < 8 → IsTurned n size to → turned_cols (inverse_number n) to ≡ cols_of size
+turned_cols-back size to = each_symmetry (λ n. IsTurned n size to → turned_cols (inverse_number n) to ≡ cols_of size)
+    (λ t. t.0) (λ t. t.0) (λ t. t.0) (λ t. t.0) (λ t. t.1) (λ t. t.1) (λ t. t.1) (λ t. t.1)
+
+-- the steps of a cell's row and of its place in it are those of its point
+pub way-number : (n : ℕ) (to : Shape) (way : Way) (p : Point) (below right base at : ℕ) → IsWay n to way → IsOnBoard to p →
+    below ≡ rows_of to - 1 - p.y → right ≡ cols_of to - 1 - p.x → base ≡ p.y * way.down + below * way.up → at ≡ base + p.x * way.forward + right * way.backward →
+    at ≡ (moved n to p).y * turned_cols n to + (moved n to p).x
+way-number n to way p below right base at is on rows cols row_part all =
+    all
+    ∙ ap (λ k. k + p.x * way.forward + right * way.backward) (row_part ∙ ap (λ k. p.y * way.down + k * way.up) rows)
+    ∙ ap (λ k. (p.y * way.down + (rows_of to - 1 - p.y) * way.up) + p.x * way.forward + k * way.backward) cols
+    ∙ is p on
+
+module _ (pattern : Pattern) (label : ℕ) (to : Shape) (p : Point) (turned : IsTurned (symmetry_of label) (size_of pattern) to) where
+  -- the number of a point of the pattern, told by the turned rectangle
+  pub source-number : (n : ℕ) → n ≡ inverse_number (symmetry_of label) →
+      (moved n to p).y * turned_cols n to + (moved n to p).x ≡ number_of (size_of pattern) (source label to p)
+  source-number n is =
+      ap (λ m. (moved m to p).y * turned_cols m to + (moved m to p).x) is
+      ∙ ap (λ cols. (source label to p).y * cols + (source label to p).x) (turned_cols-back (size_of pattern) to (symmetry_of label) (mod-lt label (omega arith)) turned)
+
+  pub source-lt : IsOnBoard to p → number_of (size_of pattern) (source label to p) < point_count (size_of pattern)
+  source-lt on =
+      let there = source-on_board pattern label to p turned on in
+      mul-add-lt (source label to p).y (cols_of (size_of pattern)) (source label to p).x (rows_of (size_of pattern)) there.1 there.0
+
+  -- a cell that is read there
+  module _ (n at : ℕ) (from : List PatternCell) (on : IsOnBoard to p) (is : n ≡ inverse_number (symmetry_of label))
+      (there : at ≡ (moved n to p).y * turned_cols n to + (moved n to p).x) (same : from ≡ (grid_of pattern).cells) where
+    pub from-lt : at < length from
+    from-lt =
+        let below : at < point_count (size_of pattern) = subst (λ k. k < point_count (size_of pattern)) (sym (there ∙ source-number n is)) (source-lt on) in
+        subst (λ k. at < k) (sym (ap length same ∙ pattern.filled)) below
+
+    pub cell-from : (d : PatternCell) → labelled_cell label (get_or from at d) ≡ turned_cell label to (grid_of pattern) p
+    cell-from d = ap (labelled_cell label)
+        (get_or_default from at d cell.Any from-lt
+        ∙ ap (λ cells. get_or cells at cell.Any) same
+        ∙ ap (λ k. get_or (grid_of pattern).cells k cell.Any) (there ∙ source-number n is))
 
 -- ---- the pattern under a label
 

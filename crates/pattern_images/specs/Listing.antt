@@ -59,7 +59,7 @@ abbrev pub HasClass : ℕ → Option Turn → Type 0
 HasClass class None = ⊥
 HasClass class (Some turn) = turn.class ≡ class
 
--- the turn at this place, if there is one, has another rectangle of cells than each before it
+-- the turn with this number, if there is one, has another rectangle of cells than each before it
 abbrev pub IsDifferentAt : List (Option Turn) → ℕ → Type 0
 IsDifferentAt turns k = (turn : Turn) → slice_index_or turns k None ≡ Some turn →
     ¬ Any (HasClass turn.class) (take k turns)

@@ -62,7 +62,8 @@ pub(crate) fn list_places(
     Ok(places)
 }
 
-// Adds the places in one row.
+// Adds the places in one row. `repeated` tells whether two turns may have one rectangle of cells:
+// where it is false, lesser labels needn't be asked.
 fn list_row(
     turns: &[Option<Turn>],
     repeated: bool,
@@ -100,7 +101,8 @@ fn reaches(turn: Option<Turn>, y: u8) -> bool
     }
 }
 
-// Adds the places at one point.
+// Adds the places at one point. `repeated` tells whether two turns may have one rectangle of cells:
+// where it is false, lesser labels needn't be asked.
 fn list_point(
     turns: &[Option<Turn>],
     repeated: bool,
@@ -119,6 +121,8 @@ fn list_point(
 }
 
 // Adds the place at one point under one label, if there is one that no lesser label gives.
+// `repeated` tells whether two turns may have one rectangle of cells: where it is false, lesser
+// labels needn't be asked.
 fn list_label(
     turns: &[Option<Turn>],
     repeated: bool,
@@ -151,7 +155,8 @@ fn list_label(
 }
 
 // Whether a lesser label than that of the turn with this number gives the same rectangle of cells at
-// this point. Where no two turns have one rectangle, as those of most patterns, none is asked.
+// this point. Where no two turns have one rectangle of cells, as is so for most patterns, none is
+// asked.
 fn is_given_before(
     turns: &[Option<Turn>],
     repeated: bool,

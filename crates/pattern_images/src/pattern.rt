@@ -81,6 +81,14 @@ impl Pattern {
         self.cells.as_slice()[at]
     }
 
+    // Its cells, row by row.
+    pub(crate) fn cells(&self) -> &[PatternCell]
+        ensures value { result.now ≡ (grid_of self.now).cells }
+        ensures count { length result.now ≡ (grid_of self.now).cols * (grid_of self.now).rows }
+    {
+        self.cells.as_slice()
+    }
+
     /// An equal pattern. The only error is `NoMemory`. For the library's callers
     /// and tests: the program copies none.
     pub fn copy(&self, alloc: Global) -> Result<Pattern, NoMemory>

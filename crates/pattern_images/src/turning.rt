@@ -1,20 +1,77 @@
 // The cells of a pattern under a label.
 ghost use Rattle.std.specs.Prelude.{◌≡◌, ◌+◌, ◌*◌, ◌<◌, IfOk};
-ghost use Rattle.kb_geometry.specs.Board.{cols_of, rows_of, IsOnBoard};
+ghost use Rattle.kb_geometry.specs.Board.{cols_of, rows_of};
 ghost use Rattle.kb_geometry.specs.Symmetry.{
   inverse_number,
+  moved,
   number_of_label,
   number_of_symmetry,
+  point_of,
   symmetry_of,
   turned_cols,
   turned_rows,
 };
+ghost use Rattle.pattern_images.specs.Grid.{labelled_cell};
 ghost use Rattle.pattern_images.specs.Pattern.{grid_of, size_of};
-ghost use Rattle.pattern_images.specs.Turned.{first_cells, turned_cell, grid_by};
+ghost use Rattle.pattern_images.specs.Turned.{
+  turned_cell,
+  grid_by,
+  AreFilledTo,
+  IsTable,
+  IsWay,
+  looked_up,
+};
 
 use crate::{Pattern, PatternCell};
-use kb_geometry::{Label, Point, Shape, Symmetry, apply_within, inverse};
+use kb_geometry::{Label, Shape, Symmetry, inverse};
 use std::alloc::{AllocError, Global};
+
+// Where the cells of a turned rectangle come from: a cell's number in the rectangle before is
+// `forward` for each cell to its left in the turned rectangle, `backward` for each to its right,
+// `down` for each row above it, and `up` for each row below it, all added up.
+#[derive(Clone, Copy, Debug)]
+struct Way {
+    forward: u8,
+    backward: u8,
+    down: u8,
+    up: u8,
+}
+
+impl Way {
+    fn new(forward: u8, backward: u8, down: u8, up: u8) -> Self
+        ensures { result
+            ≡ record { forward = forward; backward = backward; down = down; up = up } }
+    {
+        Way {
+            forward,
+            backward,
+            down,
+            up,
+        }
+    }
+
+    // The part of a cell's number that its row gives.
+    fn base(self, above: u8, below: u8) -> usize
+        ensures value { result ≡ above * self.down + below * self.up }
+        ensures small { result < 131072 }
+    {
+        let before = usize::from(above) * usize::from(self.down);
+        let behind = usize::from(below) * usize::from(self.up);
+        before + behind
+    }
+
+    // A cell's number, by the part that its row gives.
+    fn at(self, base: usize, left: usize, right: usize) -> usize
+        requires base { base < 131072 }
+        requires left { left < 256 }
+        requires right { right < 256 }
+        ensures { result ≡ base + left * self.forward + right * self.backward }
+    {
+        let before = left * usize::from(self.forward);
+        let behind = right * usize::from(self.backward);
+        base + before + behind
+    }
+}
 
 // The cells of the pattern under the label, row by row. Their rectangle has the size `to`.
 pub(crate) fn turned_cells(
@@ -30,51 +87,103 @@ pub(crate) fn turned_cells(
     ensures { IfOk result (λ cells. cells.items
         ≡ (grid_by to (turned_cell (number_of_label label) to (grid_of pattern.now))).cells) }
 {
-    let mut cells = Vec::with_capacity(alloc, usize::from(to.count()))?;
+    let way = way_of(inverse(label.symmetry()), to);
+    let table = table_of(label);
+    let mut cells = vec![in alloc; PatternCell::Any; usize::from(to.count())]?;
     for y in 0..to.rows() {
-        push_row(pattern, label, to, y, &mut cells)?;
+        fill_row(pattern, label, to, way, &table, y, &mut cells);
     }
     Ok(cells)
 }
 
-// Adds the cells of one row of the pattern under the label to those of the rows above it.
-fn push_row(
+// Fills in the cells of one row of the pattern under the label, behind those of the rows above it.
+fn fill_row(
     pattern: &Pattern,
     label: Label,
     to: Shape,
+    way: Way,
+    table: &Table,
     y: u8,
-    cells: &mut Vec<PatternCell>,
-) -> Result<(), AllocError>
+    cells: &mut [PatternCell],
+)
     requires cols { cols_of to
         ≡ turned_cols (symmetry_of (number_of_label label)) (size_of pattern.now) }
     requires rows { rows_of to
         ≡ turned_rows (symmetry_of (number_of_label label)) (size_of pattern.now) }
+    requires way { IsWay (inverse_number (symmetry_of (number_of_label label))) to way }
+    requires table { IsTable (number_of_label label) table.now }
     requires row { y < rows_of to }
-    requires above { cells.old.items ≡ first_cells to
-        (turned_cell (number_of_label label) to (grid_of pattern.now)) (y * cols_of to) }
-    ensures { IfOk result (λ _. cells.new.items ≡ first_cells to
-        (turned_cell (number_of_label label) to (grid_of pattern.now)) ((y + 1) * cols_of to)) }
+    requires above { AreFilledTo to (turned_cell (number_of_label label) to (grid_of pattern.now))
+        (y * cols_of to) cells.old }
+    ensures { AreFilledTo to (turned_cell (number_of_label label) to (grid_of pattern.now))
+        ((y + 1) * cols_of to) cells.new }
 {
-    let back = inverse(label.symmetry());
-    for x in 0..to.cols() {
-        cells.push(turned_cell(pattern, label, back, to, Point { x, y }))?;
+    let from = pattern.cells();
+    let cols = usize::from(to.cols());
+    let last = usize::from(to.cols() - 1);
+    let base = way.base(y, to.rows() - 1 - y);
+    let start = usize::from(y) * cols;
+    for x in 0..cols {
+        let cell = from[way.at(base, x, last - x)];
+        cells[start + x] = table.look_up(cell);
     }
-    Ok(())
 }
 
-// The cell of the pattern under the label at a point of the turned rectangle, which has the size
-// `to`. The symmetry is the inverse of the label's.
-fn turned_cell(pattern: &Pattern, label: Label, back: Symmetry, to: Shape, p: Point) -> PatternCell
-    requires cols { cols_of to
-        ≡ turned_cols (symmetry_of (number_of_label label)) (size_of pattern.now) }
-    requires rows { rows_of to
-        ≡ turned_rows (symmetry_of (number_of_label label)) (size_of pattern.now) }
-    requires back { number_of_symmetry back ≡ inverse_number (symmetry_of (number_of_label label)) }
-    requires on_board { IsOnBoard to p }
-    ensures { result ≡ turned_cell (number_of_label label) to (grid_of pattern.now) p }
+// Where the symmetry moves the points of a rectangle of this size. By the inverse of a label's
+// symmetry, that is where the cells of the turned rectangle come from.
+fn way_of(back: Symmetry, to: Shape) -> Way
+    ensures { IsWay (number_of_symmetry back) to result }
 {
-    let from = apply_within(back, to, p);
-    let cell = pattern.cell(from.x, from.y);
+    let cols = to.cols();
+    let rows = to.rows();
+    match back.number() {
+        0 => Way::new(1, 0, cols, 0),
+        1 => Way::new(0, 1, cols, 0),
+        2 => Way::new(1, 0, 0, cols),
+        3 => Way::new(0, 1, 0, cols),
+        4 => Way::new(rows, 0, 1, 0),
+        5 => Way::new(0, rows, 1, 0),
+        6 => Way::new(rows, 0, 0, 1),
+        _ => Way::new(0, rows, 0, 1),
+    }
+}
+
+// What a label makes of each cell, in the order in which the cells are declared. It is made once a
+// label, so that no cell of a pattern costs a test.
+#[derive(Clone, Copy, Debug)]
+struct Table {
+    made: [PatternCell; 6],
+}
+
+impl Table {
+    // What the label makes of a cell.
+    fn look_up(&self, cell: PatternCell) -> PatternCell
+        ensures { result ≡ looked_up self.now cell }
+    {
+        self.made[usize::from(cell as u8)]
+    }
+}
+
+// The table of a label.
+fn table_of(label: Label) -> Table
+    ensures { IsTable (number_of_label label) result }
+{
+    Table {
+        made: [
+            labelled(label, PatternCell::Empty),
+            labelled(label, PatternCell::Black),
+            labelled(label, PatternCell::White),
+            labelled(label, PatternCell::NotWhite),
+            labelled(label, PatternCell::NotBlack),
+            labelled(label, PatternCell::Any),
+        ],
+    }
+}
+
+// What the label makes of a cell.
+fn labelled(label: Label, cell: PatternCell) -> PatternCell
+    ensures { result ≡ labelled_cell (number_of_label label) cell }
+{
     if label.exchanged() {
         cell.exchanged()
     } else {
