@@ -49,6 +49,12 @@ module _ (games : List (Option EverSets)) (base : ℕ) (wants : List Want) (ther
     λ h. (kept g lt).1 ((so_far g lt).1 (h.0, λ k below. h.1 k (omega (arith, below))), h.1 count (omega arith)),
   )
 
+-- one want more is kept in the word for the base
+pub each-next : (games : List (Option EverSets)) (base : ℕ) (wants : List Want) (there count word next : ℕ) (want : Want) → slice_index_or wants count no_want ≡ want → HaveEach games base wants there count word →
+    ((g : ℕ) → g < 64 → (bit_at next g ≡ 1) ↔ ((bit_at word g ≡ 1) × HadWanted games g want (base + want.offset))) → HaveEach games base wants there (count + 1) next
+each-next games base wants there count word next want is so_far kept = each-more games base wants there count word next so_far
+    (λ g lt. subst (λ (w : Want). (bit_at next g ≡ 1) ↔ ((bit_at word g ≡ 1) × HadWanted games g w (base + w.offset))) (sym is) (kept g lt))
+
 -- one want more is kept in the word for a point behind the base
 pub each-kept : (games : List (Option EverSets)) (base i : ℕ) (wants : List Want) (there count word next : ℕ) (want : Want) → slice_index_or wants count no_want ≡ want → HaveEach games (base + i) wants there count word →
     ((g : ℕ) → g < 64 → (bit_at next g ≡ 1) ↔ ((bit_at word g ≡ 1) × HadWanted games g want (base + want.offset + i))) → HaveEach games (base + i) wants there (count + 1) next
@@ -71,17 +77,18 @@ each-settled games base wants there count n word so_far few settled g lt = (
 )
 
 -- where the games of the word are bare, wants that allow an empty point are met
-pub bare-settled : (planes : PlaneGames) (bare base i : ℕ) (wants : List Want) (there count word : ℕ) → AreBare planes bare → AreStonesFirst wants → ((k : ℕ) → k < length wants → base + (slice_index_or wants k no_want).offset + i < point_count planes.shape) →
-    HaveEach planes.games (base + i) wants there count word → count ≤ length wants → ((g : ℕ) → bit_at word g ≡ 1 → bit_at bare g ≡ 1) → ((g : ℕ) → bit_at word g ≡ 1 → count < length wants → IsTrue (slice_index_or wants count no_want).empty) →
-    HaveEach planes.games (base + i) wants there (length wants) word
-bare-settled planes bare base i wants there count word are first on_board so_far few in_bare rest =
-    each-settled planes.games (base + i) wants there count (length wants) word so_far few
+pub bare-settled : (planes : PlaneGames) (bare base : ℕ) (wants : List Want) (there count word : ℕ) (want : Want) → slice_index_or wants count no_want ≡ want → AreBare planes bare → AreStonesFirst wants → ((k : ℕ) → k < length wants → base + (slice_index_or wants k no_want).offset < point_count planes.shape) →
+    HaveEach planes.games base wants there count word → count < length wants → ((g : ℕ) → bit_at word g ≡ 1 → (bit_at bare g ≡ 1) × IsTrue want.empty) →
+    HaveEach planes.games base wants there (length wants) word
+bare-settled planes bare base wants there count word want is are first on_board so_far within settled =
+    each-settled planes.games base wants there count (length wants) word so_far (omega (arith, within))
     (λ g lt e k from below asks.
+    let here : IsTrue (slice_index_or wants count no_want).empty = subst (λ (w : Want). IsTrue w.empty) (sym is) (settled g e).1 in
     let empty : IsTrue (slice_index_or wants k no_want).empty = elim (cases_lt count k) [
-      | inl behind ↦ first count k behind below (rest g e (omega (arith, from, below)))
-      | inr last ↦ subst (λ (j : ℕ). IsTrue (slice_index_or wants j no_want).empty) (omega (arith, from, last)) (rest g e (omega (arith, from, below)))
+      | inl behind ↦ first count k behind below here
+      | inr last ↦ subst (λ (j : ℕ). IsTrue (slice_index_or wants j no_want).empty) (omega (arith, from, last)) here
     ] in
-    (stone.Empty, empty, are g (base + i + (slice_index_or wants k no_want).offset) lt (in_bare g e) (omega (arith, on_board k below))))
+    (stone.Empty, empty, are g (base + (slice_index_or wants k no_want).offset) lt (settled g e).0 (on_board k below)))
 
 -- ---- a placement's cells by its wants
 

@@ -1,5 +1,5 @@
 -- The games of the placements of a row, by its words.
-use Rattle.std.proofs.Common.{◌≡◌, ◌↔◌, ℕ, ◌+◌, ◌-◌, ◌<◌, ◌≤◌, List, None, drop, length, slice_index, slice_index_or, ap, ◌∙◌, subst, arith}
+use Rattle.std.proofs.Common.{◌≡◌, ◌↔◌, ℕ, ◌+◌, ◌-◌, ◌<◌, ◌≤◌, List, [], ◌∷◌, Option, None, drop, length, slice_index, slice_index_or, ap, ◌∙◌, subst, arith}
 use Rattle.std.specs.Int.{bit_at}
 use Rattle.std.specs.Option.{IsSome}
 use Rattle.std.specs.Prelude.{All, slice_range}
@@ -15,7 +15,9 @@ use Rattle.capture_index.proofs.WantsOfPlacements.{wants-on_board}
 use Rattle.final_index.specs.Planes.{PlaneGames}
 use Rattle.candidate_sieve.specs.declared.placement_rows.PlacementRow.{PlacementRow}
 use Rattle.candidate_sieve.specs.declared.candidates.Candidate.{Candidate}
-use Rattle.candidate_sieve.specs.BlockGames.{AreAddedFor, HaveEach}
+use Rattle.final_index.specs.declared.ever_sets.EverSets.{EverSets}
+use Rattle.candidate_sieve.specs.BlockGames.{AreAddedFor, HaveEach, IsAddedFor, IsRowAdded}
+use Rattle.candidate_sieve.specs.BlockGames.AreAddedFor.{nothing, one_more}
 use Rattle.candidate_sieve.specs.Candidates.{IsPossibleIn}
 use Rattle.candidate_sieve.specs.PlacementRows.{IsRowIn}
 use Rattle.candidate_sieve.proofs.CandidateLists.{AreAddedTo, added-row}
@@ -23,13 +25,13 @@ use Rattle.candidate_sieve.proofs.GamesTold.{possible-told}
 
 -- ---- the part of a list from a place on
 
-sliced-length : (xs : List ℕ) (start count : ℕ) → start + count ≤ length xs → length (slice_range xs start (start + count)) ≡ count
+pub sliced-length : (xs : List ℕ) (start count : ℕ) → start + count ≤ length xs → length (slice_range xs start (start + count)) ≡ count
 sliced-length xs start count within =
     let same : start + count - start ≡ count = omega arith in
     let few : start + count - start ≤ length (drop start xs) = omega (arith, within, length-drop start xs) in
     length-take-le (start + count - start) (drop start xs) few ∙ same
 
-sliced-number : (xs : List ℕ) (start count k : ℕ) → k < count → slice_index (slice_range xs start (start + count)) k ≡ slice_index xs (start + k)
+pub sliced-number : (xs : List ℕ) (start count k : ℕ) → k < count → slice_index (slice_range xs start (start + count)) k ≡ slice_index xs (start + k)
 sliced-number xs start count k lt = get_or-take (start + count - start) (drop start xs) k 0 (omega (arith, lt)) ∙ get_or-drop start xs k 0
 
 -- ---- a row
@@ -63,14 +65,24 @@ module _ (images : ImageList) (are-images : AreImages images) (planes : PlaneGam
       possible-told planes (here k) (placed k lt) wants (wants-of k lt) (row.base + k) (at-base k lt) there (slice_index words k) present (have k lt) g few
 
   -- the candidates of the row are added
-  pub row-added : (there : ℕ) (words : List ℕ) → ((g : ℕ) → g < 64 → bit_at there g ≡ 1 → IsSome (slice_index_or planes.games g None)) →
-      ((k : ℕ) → k < row.count → HaveEach planes.games (row.base + k) wants there (length wants) (slice_index words k)) →
+  pub row-added : (there : ℕ) → ((g : ℕ) → g < 64 → bit_at there g ≡ 1 → IsSome (slice_index_or planes.games g None)) →
       ((j k : ℕ) → j < length numbers → k < length numbers → slice_index numbers j ≡ slice_index numbers k → j ≡ k) →
       (old now next : List Candidate) → AreAddedTo planes images.placements there numbers row.start old now →
-      AreAddedFor (slice_range numbers row.start (row.start + row.count)) words now (length (slice_range numbers row.start (row.start + row.count))) next →
+      IsRowAdded planes.games row.base wants there (slice_range numbers row.start (row.start + row.count)) now next →
       AreAddedTo planes images.placements there numbers (row.start + row.count) old next
-  row-added there words present have once old now next so_far added =
+  row-added there present once old now next so_far added =
       let part : List ℕ = slice_range numbers row.start (row.start + row.count) in
       let all : length part ≡ row.count = sliced-length numbers row.start row.count is.within in
-      added-row planes images.placements there numbers old once row.start now so_far part words row.count next is.within (sliced-number numbers row.start row.count)
-      (row-told there words present have) (subst (λ (n : ℕ). AreAddedFor part words now n next) all added)
+      added-row planes images.placements there numbers old once row.start now so_far part added.words row.count next is.within (sliced-number numbers row.start row.count)
+      (row-told there added.words present (λ k lt. added.have k (omega (arith, all, lt)))) (subst (λ (n : ℕ). AreAddedFor part added.words now n next) all added.added)
+
+-- ---- a row of one placement
+
+pub one-added : (games : List (Option EverSets)) (base : ℕ) (wants : List Want) (there : ℕ) (numbers : List ℕ) (word : ℕ) (old new : List Candidate) → length numbers ≡ 1 → HaveEach games base wants there (length wants) word → IsAddedFor (slice_index numbers 0) word old new → IsRowAdded games base wants there numbers old new
+one-added games base wants there numbers word old new one have added = record {
+  words = word ∷ [];
+  have = λ k lt.
+      let first : 0 ≡ k = omega (arith, lt, one) in
+      subst (λ (i : ℕ). HaveEach games (base + i) wants there (length wants) (slice_index (word ∷ []) i)) first (subst (λ (b : ℕ). HaveEach games b wants there (length wants) word) (omega arith) have);
+  added = subst (λ (n : ℕ). AreAddedFor numbers (word ∷ []) old n new) (omega (arith, one)) (one_more 0 old new nothing added);
+}

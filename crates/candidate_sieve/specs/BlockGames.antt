@@ -1,5 +1,5 @@
 -- The games of a block that have the cells of a placement: words for private functions.
-use Rattle.std.specs.Prelude.{◌≡◌, ◌⊎◌, ◌&&◌, ◌↔◌, ℕ, ◌+◌, ◌<◌, ◌++◌, ◌∷◌, [], Bool, IsTrue, false, List, Option, slice_index, slice_index_or}
+use Rattle.std.specs.Prelude.{◌≡◌, ◌⊎◌, ◌&&◌, ◌↔◌, ℕ, ◌+◌, ◌<◌, ◌++◌, ◌∷◌, [], Bool, IsTrue, false, List, Option, length, slice_index, slice_index_or}
 use Rattle.std.specs.Int.{bit_at}
 use Rattle.kb_geometry.specs.declared.stone.Cell.{Cell}
 use Rattle.kb_geometry.specs.declared.stone.Cell.TheVariants as cell
@@ -49,3 +49,13 @@ pub data AreAddedFor (numbers words : List ℕ)
   one_more : (k : ℕ) (now next : List Candidate) → AreAddedFor numbers words old k now →
       IsAddedFor (slice_index numbers k) (slice_index words k) now next →
       AreAddedFor numbers words old (k + 1) next
+
+-- The list has gained the candidates of a row of placements: the word of each has those of the
+-- games that are there which had its wants, behind the base for the first, behind the next point
+-- for the next.
+pub record IsRowAdded (games : List (Option EverSets)) (base : ℕ) (wants : List Want) (there : ℕ)
+    (numbers : List ℕ) (old new : List Candidate) : Type 0 where
+  pub words : List ℕ
+  pub have : (k : ℕ) → k < length numbers →
+      HaveEach games (base + k) wants there (length wants) (slice_index words k)
+  pub added : AreAddedFor numbers words old (length numbers) new

@@ -5,24 +5,23 @@ ghost use Rattle.std.specs.Prelude.{
   ◌<◌,
   ◌≤◌,
   ◌↔◌,
+  ◌⊎◌,
   ℕ,
   All,
   IsTrue,
   OnOk,
   length,
   slice_index,
-  slice_index_or,
-  true,
 };
 ghost use Rattle.std.specs.Int.{bit_at};
 ghost use Rattle.kb_geometry.specs.Board.{point_count};
 ghost use Rattle.capture_index.specs.declared.stretch.Want.{Want};
-ghost use Rattle.capture_index.specs.Stretches.{no_want};
 ghost use Rattle.capture_index.specs.Wants.{AreStonesFirst};
-ghost use Rattle.candidate_sieve.specs.BlockGames.{AreAddedFor, AreBare, HadWanted, HaveEach, IsAddedFor};
+ghost use Rattle.final_index.specs.Planes.{HadThere};
+ghost use Rattle.candidate_sieve.specs.BlockGames.{AreAddedFor, AreBare, HadWanted, HaveEach, IsAddedFor, IsRowAdded};
 ghost use Rattle.candidate_sieve.specs.Candidates.{AreCandidatesAdded};
 
-use crate::placement_rows::{PlacementRow, PlacementRows};
+use crate::placement_rows::PlacementRows;
 use capture_index::{Want, Wants};
 use final_index::Planes;
 use kb_geometry::{Cell, NoMemory};
@@ -60,34 +59,139 @@ pub fn add_candidates(
     let bare = planes.always_empty();
     let _count = rows.images.len();
     for row in &rows.rows {
-        fill_room(planes, bare, *row, wants.of_class(row.class), there, room)?;
+        let wants = wants.of_class(row.class);
         let numbers = &rows.numbers[row.start..row.start + row.count];
-        add_row(numbers, room, found)?;
+        add_placements(planes, bare, row.base, wants, numbers, there, room, found)?;
     }
     Ok(())
 }
 
-// Fills the room with a word for each placement of a row: the games of those that are there which
-// may have it. In the bare games each point was empty at some node.
+// Adds a candidate for each placement of a row that some of the games that are there may have: the
+// first has its upper left point on the base. In the bare games each point was empty at some node.
+// Many rows have one placement, whose word needs no room.
+fn add_placements(
+    planes: &Planes,
+    bare: u64,
+    base: u16,
+    wants: &[Want],
+    numbers: &[u32],
+    there: u64,
+    room: &mut Vec<u64>,
+    found: &mut Vec<Candidate>,
+) -> Result<(), NoMemory>
+    requires bare { AreBare planes.now bare }
+    requires stones_first { AreStonesFirst wants.now }
+    requires on_board { All (λ (w : Want). base + w.offset + length numbers.now
+        ≤ point_count planes.now.shape) wants.now }
+    ensures { OnOk result (IsRowAdded planes.now.games base wants.now there numbers.now
+        found.old.items found.new.items) }
+{
+    if let [number] = numbers {
+        add_games(*number, games_at(planes, bare, base, wants, there), found)?;
+        return Ok(());
+    }
+    fill_room(planes, bare, base, wants, there, numbers.len(), room)?;
+    add_row(numbers, room, found)?;
+    Ok(())
+}
+
+// Those of the games that are there which had, for each want, a cell that it allows on its point
+// behind the base.
+fn games_at(planes: &Planes, bare: u64, base: u16, wants: &[Want], there: u64) -> u64
+    requires bare { AreBare planes.now bare }
+    requires stones_first { AreStonesFirst wants.now }
+    requires on_board { All (λ (w : Want). base + w.offset + 1 ≤ point_count planes.now.shape)
+        wants.now }
+    ensures { HaveEach planes.now.games base wants.now there (length wants.now) result }
+{
+    let mut games = there;
+    for k in 0..wants.len() {
+        if is_settled(wants[k], bare, games) {
+            return games;
+        }
+        games = games_with(planes, wants[k], base + wants[k].offset, games);
+    }
+    games
+}
+
+// Whether a want and those behind it ask nothing of the games of a word: since there are none, or
+// since the want allows an empty point, as then the others do too, and each game is bare.
+fn is_settled(want: Want, bare: u64, games: u64) -> bool
+    ensures { IsTrue result → (g : ℕ) → bit_at games g ≡ 1 →
+        (bit_at bare g ≡ 1) × IsTrue want.empty }
+{
+    if want.empty {
+        return are_among(games, bare);
+    }
+    games == 0
+}
+
+// Whether a word has no games but these.
+fn are_among(word: u64, games: u64) -> bool
+    ensures { IsTrue result → (g : ℕ) → bit_at word g ≡ 1 → bit_at games g ≡ 1 }
+{
+    word & games == word
+}
+
+// Those of the games that had a cell which the want allows on the point. A want of each cell asks
+// nothing.
+fn games_with(planes: &Planes, want: Want, point: u16, games: u64) -> u64
+    requires { point < point_count planes.now.shape }
+    ensures { (g : ℕ) → g < 64 → (bit_at result g ≡ 1) ↔ ((bit_at games g ≡ 1)
+        × HadWanted planes.now.games g want point) }
+{
+    match (want.empty, want.black, want.white) {
+        (false, true, false) => games_with_cell(planes, Cell::Black, point, games),
+        (false, false, true) => games_with_cell(planes, Cell::White, point, games),
+        (true, false, false) => games_with_cell(planes, Cell::Empty, point, games),
+        (true, true, false) => games_with_either(planes, Cell::Empty, Cell::Black, point, games),
+        (true, false, true) => games_with_either(planes, Cell::Empty, Cell::White, point, games),
+        (false, true, true) => games_with_either(planes, Cell::Black, Cell::White, point, games),
+        (true, true, true) => games,
+        (false, false, false) => 0,
+    }
+}
+
+// Those of the games that had the cell on the point.
+fn games_with_cell(planes: &Planes, cell: Cell, point: u16, games: u64) -> u64
+    requires { point < point_count planes.now.shape }
+    ensures { (g : ℕ) → g < 64 → (bit_at result g ≡ 1) ↔ ((bit_at games g ≡ 1)
+        × HadThere planes.now.games g cell point) }
+{
+    games & planes.word(point, cell)
+}
+
+// Those of the games that had one cell or the other on the point.
+fn games_with_either(planes: &Planes, one: Cell, other: Cell, point: u16, games: u64) -> u64
+    requires { point < point_count planes.now.shape }
+    ensures { (g : ℕ) → g < 64 → (bit_at result g ≡ 1) ↔ ((bit_at games g ≡ 1)
+        × (HadThere planes.now.games g one point ⊎ HadThere planes.now.games g other point)) }
+{
+    games & (planes.word(point, one) | planes.word(point, other))
+}
+
+// Fills the room with so many words, one for each placement of a row: the games of those that are
+// there which may have it.
 fn fill_room(
     planes: &Planes,
     bare: u64,
-    row: PlacementRow,
+    base: u16,
     wants: &[Want],
     there: u64,
+    count: usize,
     room: &mut Vec<u64>,
 ) -> Result<(), NoMemory>
     requires bare { AreBare planes.now bare }
     requires stones_first { AreStonesFirst wants.now }
-    requires on_board { All (λ (w : Want). row.base + w.offset + row.count
-        ≤ point_count planes.now.shape) wants.now }
-    ensures count { OnOk result (length room.new.items ≡ row.count) }
-    ensures games { OnOk result ((k : ℕ) → k < row.count → HaveEach planes.now.games (row.base + k)
+    requires on_board { All (λ (w : Want). base + w.offset + count ≤ point_count planes.now.shape)
+        wants.now }
+    ensures count { OnOk result (length room.new.items ≡ count) }
+    ensures games { OnOk result ((k : ℕ) → k < count → HaveEach planes.now.games (base + k)
         wants.now there (length wants.now) (slice_index room.new.items k)) }
 {
     room.clear();
-    room.resize(row.count, there)?;
-    keep_wanted(planes, bare, row.base, wants, room);
+    room.resize(count, there)?;
+    keep_wanted(planes, bare, base, wants, room);
     Ok(())
 }
 
@@ -103,75 +207,36 @@ fn keep_wanted(planes: &Planes, bare: u64, base: u16, wants: &[Want], words: &mu
     ensures kept { (k : ℕ) → k < length words.old → HaveEach planes.now.games (base + k) wants.now
         (slice_index words.old k) (length wants.now) (slice_index words.new k) }
 {
-    let left = keep_wants(planes, base, wants, 0, true, words);
-    if have_none_but(words, bare) {
-        return;
-    }
-    keep_wants(planes, base, wants, left, false, words);
-}
-
-// Keeps in each word the games that had a cell which is allowed, for the wants from this number on:
-// up to before the first that allows an empty point if `stones` says so, else for all. Tells the
-// number of the first want that wasn't kept. Where no game is left in any word it may end earlier.
-fn keep_wants(
-    planes: &Planes,
-    base: u16,
-    wants: &[Want],
-    from: usize,
-    stones: bool,
-    words: &mut [u64],
-) -> usize
-    requires from { from ≤ length wants.now }
-    requires on_board { All (λ (w : Want). base + w.offset + length words.old
-        ≤ point_count planes.now.shape) wants.now }
-    ensures count { length words.new ≡ length words.old }
-    ensures few { result ≤ length wants.now }
-    ensures kept { (k there : ℕ) → k < length words.old →
-        HaveEach planes.now.games (base + k) wants.now there from (slice_index words.old k) →
-        HaveEach planes.now.games (base + k) wants.now there result (slice_index words.new k) }
-    ensures rest { (k g : ℕ) → k < length words.old → bit_at (slice_index words.new k) g ≡ 1 →
-        result < length wants.now →
-        (stones ≡ true) × IsTrue (slice_index_or wants.now result no_want).empty }
-{
-    for k in from..wants.len() {
-        if is_left(wants[k], stones) || are_empty(words) {
-            return k;
+    for k in 0..wants.len() {
+        if are_settled(wants[k], bare, words) {
+            return;
         }
         keep_want(planes, wants[k], base + wants[k].offset, words);
     }
-    wants.len()
 }
 
-// Whether a want is left if only stones are asked for.
-fn is_left(want: Want, stones: bool) -> bool
-    ensures { IsTrue result ↔ ((stones ≡ true) × IsTrue want.empty) }
-{
-    stones && want.empty
-}
-
-// Whether the words have no games but these.
-fn have_none_but(words: &[u64], games: u64) -> bool
+// Whether a want and those behind it ask nothing of the games of some words. Mostly the first word
+// alone tells that they do.
+fn are_settled(want: Want, bare: u64, words: &[u64]) -> bool
     ensures { IsTrue result → (k g : ℕ) → k < length words.now →
-        bit_at (slice_index words.now k) g ≡ 1 → bit_at games g ≡ 1 }
+        bit_at (slice_index words.now k) g ≡ 1 → (bit_at bare g ≡ 1) × IsTrue want.empty }
 {
-    for k in 0..words.len() {
-        if words[k] & games != words[k] {
-            return false;
-        }
+    if words.len() > 0 && !is_settled(want, bare, words[0]) {
+        return false;
     }
-    true
+    is_settled(want, bare, joined(words))
 }
 
-// Whether no game is left in any of the words.
-fn are_empty(words: &[u64]) -> bool
-    ensures { IsTrue result → (k : ℕ) → k < length words.now → slice_index words.now k ≡ 0 }
+// All games that are in some of the words. Each word is looked at, so the loop has no branch.
+fn joined(words: &[u64]) -> u64
+    ensures { (k g : ℕ) → k < length words.now →
+        bit_at (slice_index words.now k) g ≡ 1 → bit_at result g ≡ 1 }
 {
+    let mut games = 0;
     for k in 0..words.len() {
-        if words[k] != 0 {
-            return false;
-        }
+        games |= words[k];
     }
-    true
+    games
 }
 
 // Keeps in each word the games that had a cell that the want allows on its point: the first word is

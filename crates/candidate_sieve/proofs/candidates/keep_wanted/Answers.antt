@@ -1,20 +1,32 @@
--- The wants of stones, and then the others, where some game isn't bare.
-use Rattle.std.proofs.Common.{◌+◌, ◌<◌, length, arith, slice_index}
-use Rattle.std.proofs.lemmas.Bool.{false≢true}
+use Rattle.std.proofs.Common.{◌≡◌, ℕ, ◌+◌, length, refl, ◌∙◌, slice_index, arith, subst}
+use Rattle.std.proofs.lemmas.List.{get_or_default}
 use Rattle.capture_index.specs.Stretches.{no_want}
-use Rattle.candidate_sieve.proofs.GamesTold.{bare-settled, each-settled, each-start}
+use Rattle.candidate_sieve.specs.BlockGames.{HaveEach}
+use Rattle.candidate_sieve.proofs.GamesTold.{bare-settled, each-kept, each-start}
 use Rattle.candidate_sieve.proofs.candidates.keep_wanted.Goals as goal
 
-pub returns-then-have_none_but-clause-kept : goal.returns-then-have_none_but-clause-kept
-returns-then-have_none_but-clause-kept c = λ k lt.
-    bare-settled c.args.planes.now c.args.bare c.args.base k c.args.wants.now (slice_index c.args.words.now k) c.keep_wants-left.result (slice_index c.keep_wants-left.new.words k) c.requires.bare c.requires.stones_first
-    (λ w below. omega (arith, c.requires.on_board w no_want below, lt)) (c.keep_wants-left.ensures.kept k (slice_index c.args.words.now k) lt (each-start c.args.planes.now.games (c.args.base + k) c.args.wants.now (slice_index c.args.words.now k))) c.keep_wants-left.ensures.few
-    (λ g e. c.have_none_but.ensures c.if-have_none_but.true k g (omega (arith, c.keep_wants-left.ensures.count, lt)) e)
-    (λ g e less. (c.keep_wants-left.ensures.rest k g lt e less).1)
+pub loop-k-init : goal.loop-k-init
+loop-k-init c = record {
+  count = refl;
+  kept = λ i lt. each-start c.args.planes.now.games (c.args.base + i) c.args.wants.now (slice_index c.args.words.now i);
+}
+
+pub loop-k-preserved : goal.loop-k-preserved
+loop-k-preserved c = record {
+  count = c.keep_want.ensures.count ∙ c.loop-k.invariant.count;
+  kept = λ i lt.
+      each-kept c.args.planes.now.games c.args.base i c.args.wants.now (slice_index c.args.words.now i) c.loop-k.k (slice_index c.loop-k.words i) (slice_index c.keep_want.new.words i) _ (get_or_default c.args.wants.now c.loop-k.k no_want _ c.loop-k-test.true)
+      (c.loop-k.invariant.kept i lt)
+      (λ g below. c.keep_want.ensures.kept i g (omega (arith, c.loop-k.invariant.count, lt)) below);
+}
+
+pub returns-then-are_settled-clause-kept : goal.returns-then-are_settled-clause-kept
+returns-then-are_settled-clause-kept c = λ k lt.
+    bare-settled c.args.planes.now c.args.bare (c.args.base + k) c.args.wants.now (slice_index c.args.words.now k) c.loop-k.k (slice_index c.loop-k.words k) _ (get_or_default c.args.wants.now c.loop-k.k no_want _ c.loop-k-test.true) c.requires.bare c.requires.stones_first
+    (λ w below. omega (arith, c.requires.on_board w no_want below, lt)) (c.loop-k.invariant.kept k lt) c.loop-k-test.true
+    (λ g e. c.are_settled.ensures c.if-are_settled.true k g (omega (arith, c.loop-k.invariant.count, lt)) e)
 
 pub returns-clause-kept : goal.returns-clause-kept
 returns-clause-kept c = λ k lt.
-    let again : k < length c.keep_wants-left.new.words = omega (arith, c.keep_wants-left.ensures.count, lt) in
-    each-settled c.args.planes.now.games (c.args.base + k) c.args.wants.now (slice_index c.args.words.now k) c.keep_wants.result (length c.args.wants.now) (slice_index c.keep_wants.new.words k)
-    (c.keep_wants.ensures.kept k (slice_index c.args.words.now k) again (c.keep_wants-left.ensures.kept k (slice_index c.args.words.now k) lt (each-start c.args.planes.now.games (c.args.base + k) c.args.wants.now (slice_index c.args.words.now k)))) c.keep_wants.ensures.few
-    (λ g below e w from less. absurd (false≢true (c.keep_wants.ensures.rest k g again e (omega (arith, from, less))).0))
+    let all : c.loop-k.k ≡ length c.args.wants.now = omega arith in
+    subst (λ (n : ℕ). HaveEach c.args.planes.now.games (c.args.base + k) c.args.wants.now (slice_index c.args.words.now k) n (slice_index c.loop-k.words k)) all (c.loop-k.invariant.kept k lt)
