@@ -18,7 +18,14 @@ ghost use Rattle.kb_geometry.specs.Board.{point_count};
 ghost use Rattle.capture_index.specs.declared.stretch.Want.{Want};
 ghost use Rattle.capture_index.specs.Wants.{AreStonesFirst};
 ghost use Rattle.final_index.specs.Planes.{HadThere};
-ghost use Rattle.candidate_sieve.specs.BlockGames.{AreAddedFor, AreBare, HadWanted, HaveEach, IsAddedFor, IsRowAdded};
+ghost use Rattle.candidate_sieve.specs.BlockGames.{
+  AreAddedFor,
+  AreBare,
+  HadWanted,
+  HaveEach,
+  IsAddedFor,
+  IsRowAdded,
+};
 ghost use Rattle.candidate_sieve.specs.Candidates.{AreCandidatesAdded};
 
 use crate::placement_rows::PlacementRows;

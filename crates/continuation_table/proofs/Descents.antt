@@ -15,15 +15,7 @@ use Rattle.capture_board.specs.Deltas.{Deltas}
 use Rattle.pattern_images.specs.declared.hit.Next.{Next}
 use Rattle.pattern_images.specs.Placements.{Placement}
 use Rattle.continuation_table.specs.Continuation.{HasMoveInside, HoldsAt, IsContinuation, IsMoveInside, IsTurnedBack, below, own_colour}
-
--- A walk from node n down to a node: no move in the rectangle came, and the placement holds at each node so far. It is
--- told whether no move or pass came at all.
-pub record IsWayDown (tree : Tree) (changes : Deltas) (placement : Placement) (n here : ℕ) (now : Bool) : Type 0 where
-  pub steps : ℕ
-  pub reached : below tree n steps ≡ Some here
-  pub none : (k m : ℕ) → k < steps → below tree n (suc k) ≡ Some m → ¬ HasMoveInside tree placement m
-  pub held : (k m : ℕ) → k ≤ steps → below tree n k ≡ Some m → HoldsAt changes placement m
-  pub quiet : IsTrue now ↔ ((k m : ℕ) → k < steps → below tree n (suc k) ≡ Some m → (node_at tree m).played ≡ None)
+use Rattle.continuation_table.specs.Descending.{IsWayDown}
 
 -- two nodes reached by as many steps are one
 same_node : (tree : Tree) (n j k a b : ℕ) → j ≡ k → below tree n j ≡ Some a → below tree n k ≡ Some b → a ≡ b

@@ -2,6 +2,7 @@ pub mod Children
 pub mod Descents
 pub mod Finding
 pub mod Losses
+pub mod MainLines
 pub mod Spans
 pub mod Rebuilt
 pub mod RowOrder

@@ -23,7 +23,8 @@ use Rattle.pattern_images.specs.ImageList.{IsPlacedOn}
 use Rattle.pattern_images.specs.Placements.{Covers, Placement}
 use Rattle.pattern_images.proofs.Tellings.{Told, told_as, told_le}
 use Rattle.continuation_table.specs.Continuation.{HasMoveInside, IsContinuation, IsMoveInside, IsTurnedBack, own_colour}
-use Rattle.continuation_table.proofs.Descents.{IsContinuation-found, IsWayDown, IsWayDown-more, IsWayDown-start, no_continuation-end, no_continuation-lost}
+use Rattle.continuation_table.specs.Descending.{IsWayDown}
+use Rattle.continuation_table.proofs.Descents.{IsContinuation-found, IsWayDown-more, IsWayDown-start, no_continuation-end, no_continuation-lost}
 
 -- ---- whether a placement holds
 

@@ -1,14 +1,17 @@
 -- Words of the private functions that go down from a node.
-use Rattle.std.specs.Prelude.{◌≡◌, ℕ, ◌+◌, ◌-◌, ◌<◌, ◌≤◌, List, All}
+use Rattle.std.specs.Prelude.{◌≡◌, ℕ, ◌+◌, ◌-◌, ◌<◌, ◌≤◌, ◌↔◌, suc, Bool, IsTrue, List, All, Some, None}
 use Rattle.kb_geometry.specs.declared.shape.Shape.{Shape}
 use Rattle.kb_geometry.specs.declared.shape.Point.{Point}
 use Rattle.kb_geometry.specs.declared.stone.Cell.{Cell}
 use Rattle.kb_geometry.specs.declared.stone.Change.{Change}
 use Rattle.kb_geometry.specs.Board.{IsOnBoard, number_of}
+use Rattle.game_tree.specs.Tree.{Tree, node_at}
+use Rattle.capture_board.specs.Deltas.{Deltas}
 use Rattle.pattern_images.specs.declared.hit.Place.{Place}
 use Rattle.pattern_images.specs.Grid.{cell_in}
 use Rattle.pattern_images.specs.Holds.{Allows}
 use Rattle.pattern_images.specs.Placements.{Covers, Placement}
+use Rattle.continuation_table.specs.Continuation.{HasMoveInside, HoldsAt, below}
 
 -- the placement allows this cell of the board at the point: its own cell there does, or the point
 -- lies beside it
@@ -35,3 +38,12 @@ IsInPlace place p = (place.x ≤ p.x) × (p.x < place.x + place.cols) × (place.
 abbrev pub IsSpan : Shape → Placement → ℕ → ℕ → Type 0
 IsSpan shape placement first last = (p : Point) → Covers placement p →
     (first ≤ number_of shape p) × (number_of shape p ≤ last)
+
+-- A walk from node n down to a node: no move in the rectangle came, and the placement holds at each node so far. It is
+-- told whether no move or pass came at all.
+pub record IsWayDown (tree : Tree) (changes : Deltas) (placement : Placement) (n here : ℕ) (now : Bool) : Type 0 where
+  pub steps : ℕ
+  pub reached : below tree n steps ≡ Some here
+  pub none : (k m : ℕ) → k < steps → below tree n (suc k) ≡ Some m → ¬ HasMoveInside tree placement m
+  pub held : (k m : ℕ) → k ≤ steps → below tree n k ≡ Some m → HoldsAt changes placement m
+  pub quiet : IsTrue now ↔ ((k m : ℕ) → k < steps → below tree n (suc k) ≡ Some m → (node_at tree m).played ≡ None)

@@ -1,11 +1,26 @@
 // How a game goes on below a node.
-ghost use Rattle.std.specs.Prelude.{◌≡◌, ◌<◌, ◌≤◌, ℕ, length, IfNone, IfSome};
+ghost use Rattle.std.specs.Prelude.{
+  ◌≡◌,
+  ◌+◌,
+  ◌<◌,
+  ◌≤◌,
+  ◌↔◌,
+  ◌==◌,
+  ℕ,
+  IsTrue,
+  length,
+  IfNone,
+  IfSome,
+};
 ghost use Rattle.kb_geometry.specs.Symmetry.{point_of};
-ghost use Rattle.game_tree.specs.Tree.{node_count};
+ghost use Rattle.game_tree.specs.MainLine.{IsOnMainLine};
+ghost use Rattle.game_tree.specs.Tree.{IsTree, move_number_of, node_count};
+ghost use Rattle.capture_board.specs.Deltas.{Deltas};
 ghost use Rattle.node_position.specs.Games.{AreNodeChanges};
 ghost use Rattle.pattern_images.specs.declared.hit.Next.{Next};
 ghost use Rattle.pattern_images.specs.ImageList.{IsPlaceOf, placement_at};
 ghost use Rattle.pattern_images.specs.Placements.{Covers, Placement};
+ghost use Rattle.continuation_table.specs.Descending.{IsWayDown};
 ghost use Rattle.continuation_table.specs.Continuation.{
   HasMoveInside,
   HoldsAt,
@@ -27,9 +42,10 @@ use pattern_images::{Images, Next, Place};
 /// holds as far as to the parent of its node. `None` exactly where there is none.
 ///
 /// The deltas are those of the tree, and the images are for its board. It is known that the placement
-/// holds at each node from this one up to before `known`, so their changes aren't looked at. Nothing
-/// is allocated, and no position is built: the cost is that of the nodes down to the move, or to the
-/// first one where the placement doesn't hold.
+/// holds at each node from this one up to before `known`, so their changes aren't looked at. Who knows
+/// no more than that it holds at the node hands on the node itself as `known`. Nothing is allocated,
+/// and no position is built: the cost is that of the nodes down to the move, or to the first one where
+/// the placement doesn't hold.
 pub fn next_below(
     tree: &GameTree,
     deltas: &NodeDeltas,
@@ -53,7 +69,7 @@ pub fn next_below(
 {
     let place = images.place(i);
     let span = span_of(tree.shape(), place);
-    let mut here = node;
+    let mut here = passed_to(tree, place, node, known);
     while let Some(child) = tree.first_child(here) {
         if let Some(Inside { colour, point }) = move_inside(tree, place, child) {
             // None played between if the path to here has no more moves than that to the node.
@@ -66,6 +82,112 @@ pub fn next_below(
         here = child;
     }
     None
+}
+
+// The last node on the way down the main line from a node, among those before `known`, before a move
+// in the rectangle of the place comes; the node itself off the main line. Most hits are on the main
+// line, and most nodes below them stand before `known`: here only their moves are looked at.
+fn passed_to(tree: &GameTree, place: Place, node: u32, known: u32) -> u32
+    requires node { node < node_count tree.now }
+    requires columns { place.x + place.cols ≤ 256 }
+    requires rows { place.y + place.rows ≤ 256 }
+    ensures in_range { result < node_count tree.now }
+    ensures behind { node ≤ result }
+    ensures moves { move_number_of tree.now node ≤ move_number_of tree.now result }
+    ensures way { (deltas : Deltas) → (placement : Placement) → IsPlaceOf placement place →
+        HoldsAt deltas placement node →
+        ((k : ℕ) → node ≤ k → k < known → HoldsAt deltas placement k) →
+        IsWayDown tree.now deltas placement node result
+        (move_number_of tree.now result == move_number_of tree.now node) }
+    ensures stopped { result + 1 < known → IsOnMainLine tree.now (result + 1) →
+        (placement : Placement) → IsPlaceOf placement place →
+        HasMoveInside tree.now placement (result + 1) }
+{
+    let end = main_before(tree, node, known);
+    let mut here = node;
+    while here + 1 < end {
+        if has_move_inside(tree, place, here + 1) {
+            return here;
+        }
+        here += 1;
+    }
+    here
+}
+
+// A number, `known` at most, such that all nodes before it are on the main line. If the node is, it is
+// the greatest one.
+fn main_before(tree: &GameTree, node: u32, known: u32) -> u32
+    requires { node < node_count tree.now }
+    ensures least { result ≤ known }
+    ensures few { result ≤ 65536 }
+    ensures main { (k : ℕ) → k < result → IsOnMainLine tree.now k }
+    ensures most { IsOnMainLine tree.now node → result < known → result < node_count tree.now →
+        ¬ IsOnMainLine tree.now result }
+    ensures tree { IsTree tree.now }
+{
+    let end = known.min(tree.node_count());
+    if end == 0 {
+        return 0;
+    }
+    if tree.is_main(end - 1) {
+        return end;
+    }
+    if !tree.is_main(node) {
+        return 0;
+    }
+    main_end(tree, end)
+}
+
+// Where the main line ends, if that is before `known`. It is called only where a placement is known to
+// hold past the end of the main line, and stays out of the calls that don't need it.
+#[inline(never)]
+fn main_end(tree: &GameTree, known: u32) -> u32
+    requires tree { IsTree tree.now }
+    requires known { known ≤ node_count tree.now }
+    ensures least { result ≤ known }
+    ensures main { (k : ℕ) → k < result → IsOnMainLine tree.now k }
+    ensures ended { result < known → ¬ IsOnMainLine tree.now result }
+{
+    let mut from = 0;
+    let mut to = known;
+    while from < to {
+        let middle = from + (to - from) / 2;
+        if tree.is_main(middle) {
+            from = middle + 1;
+        } else {
+            to = middle;
+        }
+    }
+    from
+}
+
+// Whether the move of a node lies in the rectangle of the place.
+fn has_move_inside(tree: &GameTree, place: Place, node: u32) -> bool
+    requires node { node < node_count tree.now }
+    requires columns { place.x + place.cols ≤ 256 }
+    requires rows { place.y + place.rows ≤ 256 }
+    ensures { (placement : Placement) → IsPlaceOf placement place →
+        (IsTrue result ↔ HasMoveInside tree.now placement node) }
+{
+    if let Some(
+        Move {
+            point: Some(point),
+            ..
+        },
+    ) = tree.played(node)
+    {
+        return is_within(point.x, place.x, place.cols) && is_within(point.y, place.y, place.rows);
+    }
+    false
+}
+
+// Whether a number is one of this many from a first one on. One comparison tells it, since the
+// difference of a lesser number wraps round to one that is too large.
+fn is_within(number: u8, first: u8, count: u8) -> bool
+    requires { first + count ≤ 256 }
+    ensures { IsTrue result ↔ ((first ≤ number) × (number < first + count)) }
+{
+    number.wrapping_sub(first) < count
 }
 
 // A move in the rectangle of a place.

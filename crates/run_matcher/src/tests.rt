@@ -17,6 +17,7 @@ use std::sync::ledger::{Blank, Ledger};
 use std::test::Fail;
 
 mod games;
+mod going_on;
 
 // A search: the pattern's columns, rows and cells, whether the colours and the directions stay, and
 // where its base places are.

@@ -1,12 +1,11 @@
 -- Each step of the way down, by the lemmas of `Descents.antt`.
-use Rattle.std.proofs.Common.{◌≡◌, ℕ, true, false, Bool, refl, sym, ap, subst, ◌∙◌, arith}
+use Rattle.std.proofs.Common.{◌≡◌, ℕ, true, false, sym, ap, subst, ◌∙◌, arith}
 use Rattle.std.specs.Prelude.{◌==◌}
-use Rattle.std.proofs.lemmas.Bool.{eq-eqb}
 use Rattle.kb_geometry.specs.declared.shape.Shape.{Shape}
 use Rattle.game_tree.specs.Tree.{move_number_of, node_at}
 use Rattle.pattern_images.specs.ImageList.{IsPlacedOn, placement_at}
 use Rattle.continuation_table.specs.Descending.{IsSpan}
-use Rattle.continuation_table.proofs.Descents.{IsContinuation-found, IsWayDown, IsWayDown-holds, IsWayDown-more, IsWayDown-start, moves-more, no_continuation-end, no_continuation-lost, quiet-more}
+use Rattle.continuation_table.proofs.Descents.{IsContinuation-found, IsWayDown-holds, IsWayDown-more, moves-more, no_continuation-end, no_continuation-lost, quiet-more}
 use Rattle.continuation_table.proofs.way_down.next_below.Goals as goal
 
 pub span_of-span-requires : goal.span_of-span-requires
@@ -16,14 +15,11 @@ span_of-span-requires c =
 
 pub loop-child-init : goal.loop-child-init
 loop-child-init c =
-    let count = move_number_of c.args.tree.now c.args.node in
     record {
-      in_range = c.requires.node;
-      behind = omega arith;
-      moves = omega arith;
-      way = subst (λ (now : Bool). IsWayDown c.args.tree.now c.args.deltas.now (placement_at c.args.images.now.placements c.args.i) c.args.node c.args.node now)
-          (sym (eq-eqb count count refl))
-          (IsWayDown-start c.args.tree.now c.args.deltas.now (placement_at c.args.images.now.placements c.args.i) c.args.node c.requires.holds);
+      in_range = c.passed_to-here.ensures.in_range;
+      behind = c.passed_to-here.ensures.behind;
+      moves = c.passed_to-here.ensures.moves;
+      way = c.passed_to-here.ensures.way c.args.deltas.now (placement_at c.args.images.now.placements c.args.i) c.place-place.ensures.value c.requires.holds c.requires.known;
     }
 
 pub next_by-requires-clause-inside : goal.next_by-requires-clause-inside

@@ -2,7 +2,7 @@ use Rattle.std.proofs.Common.{◌-◌, ◌<◌, ◌≤◌}
 use Rattle.std.specs.Prelude.{◌==◌}
 use Rattle.game_tree.specs.Tree.{move_number_of, node_count}
 use Rattle.pattern_images.specs.ImageList.{placement_at}
-use Rattle.continuation_table.proofs.Descents.{IsWayDown}
+use Rattle.continuation_table.specs.Descending.{IsWayDown}
 use Rattle.continuation_table.proofs.way_down.next_below.Given as goal
 
 abbrev pub invariant-loop-child : goal.invariant-loop-child

@@ -1,0 +1,36 @@
+-- The main line of a tree, one node after another.
+use Rattle.std.proofs.Common.{◌≡◌, ℕ, ◌+◌, ◌<◌, ◌≤◌, inl, inr, Some, refl, sym, subst, ap, ◌∙◌, arith}
+use Rattle.std.proofs.lemmas.Bool.{cases_lt}
+use Rattle.game_tree.specs.MainLine.{IsOnMainLine}
+use Rattle.game_tree.specs.Tree.{Tree, IsTree, first_child_of, node_count, parent_of}
+use Rattle.game_tree.proofs.Trees.{IsGrown-tree, first_child-found, parent-in_range}
+
+module _ (tree : Tree) (is : IsTree tree) (n : ℕ) where
+  -- a node of the main line is the first child of the node before it
+  next_main : {m : ℕ} → IsOnMainLine tree m → m ≡ n + 1 → (first_child_of tree n ≡ Some (n + 1)) × (parent_of tree (n + 1) ≡ Some n)
+  next_main IsOnMainLine.root e = absurd (omega arith)
+  next_main (IsOnMainLine.first_child {m = p} {n = m} on next) e =
+      let found = first_child-found tree (IsGrown-tree tree is) p m next in
+      let same : p ≡ n = omega (arith, found.0) in (
+        subst (λ (k : ℕ). first_child_of tree k ≡ Some (n + 1)) same (next ∙ ap (λ (k : ℕ). Some k) e),
+        subst (λ (k : ℕ). parent_of tree (k + 1) ≡ Some k) same found.1,
+      )
+
+  pub main-first_child : IsOnMainLine tree (n + 1) → first_child_of tree n ≡ Some (n + 1)
+  main-first_child on = (next_main on refl).0
+
+  pub main-parent : IsOnMainLine tree (n + 1) → parent_of tree (n + 1) ≡ Some n
+  main-parent on = (next_main on refl).1
+
+  pub main-in_range : IsOnMainLine tree (n + 1) → n + 1 < node_count tree
+  main-in_range on = parent-in_range tree (n + 1) n (main-parent on)
+
+-- each node up to one of the main line is on the main line
+pub main-before : (tree : Tree) → IsTree tree → {m : ℕ} → IsOnMainLine tree m → (k : ℕ) → k ≤ m → IsOnMainLine tree k
+main-before tree is IsOnMainLine.root k le = let same : k ≡ 0 = omega arith in subst (IsOnMainLine tree) (sym same) IsOnMainLine.root
+main-before tree is (IsOnMainLine.first_child {m = p} {n = m} on next) k le =
+    let found = first_child-found tree (IsGrown-tree tree is) p m next in
+    elim (cases_lt p k) [
+      | inl last ↦ let same : m ≡ k = omega (arith, found.0) in subst (IsOnMainLine tree) same (IsOnMainLine.first_child on next)
+      | inr le ↦ main-before tree is on k le
+    ]

@@ -1,0 +1,58 @@
+-- Each step down the main line, by the lemmas of `Descents.antt`.
+use Rattle.std.proofs.Common.{◌≡◌, ◌+◌, ◌≤◌, Bool, true, false, ◌∙◌, refl, sym, subst, arith}
+use Rattle.std.specs.Prelude.{◌==◌}
+use Rattle.std.proofs.lemmas.Bool.{eq-eqb}
+use Rattle.game_tree.specs.Tree.{move_number_of, node_at}
+use Rattle.continuation_table.specs.Descending.{IsWayDown}
+use Rattle.continuation_table.proofs.Descents.{IsWayDown-more, IsWayDown-start, moves-more, quiet-more}
+use Rattle.continuation_table.proofs.MainLines.{main-before, main-first_child, main-in_range, main-parent}
+use Rattle.continuation_table.proofs.way_down.passed_to.Goals as goal
+
+pub loop-here-init : goal.loop-here-init
+loop-here-init c =
+    let count = move_number_of c.args.tree.now c.args.node in
+    record {
+      in_range = c.requires.node;
+      behind = omega arith;
+      moves = omega arith;
+      way = λ deltas placement is holds known.
+          subst (λ (now : Bool). IsWayDown c.args.tree.now deltas placement c.args.node c.args.node now)
+          (sym (eq-eqb count count refl))
+          (IsWayDown-start c.args.tree.now deltas placement c.args.node holds);
+    }
+
+pub loop-here-preserved : goal.loop-here-preserved
+loop-here-preserved c =
+    let tree = c.args.tree.now in
+    let here = c.loop-here.here in
+    let count = move_number_of tree c.args.node in
+    let good = c.main_before-end.ensures.tree in
+    let main = c.main_before-end.ensures.main (here + 1) c.loop-here-test.true in
+    let more = moves-more tree good (here + 1) here (main-parent tree good here main) in
+    record {
+      in_range = main-in_range tree good here main;
+      behind = omega (arith, c.loop-here.invariant.behind);
+      moves = omega (arith, more, c.loop-here.invariant.moves);
+      way = λ deltas placement is holds known.
+          IsWayDown-more tree deltas placement c.args.node here (move_number_of tree here == count)
+          (c.loop-here.invariant.way deltas placement is holds known)
+          (here + 1) (main-first_child tree good here main)
+          (λ inside. let no : false ≡ true = sym c.if-has_move_inside.false ∙ (c.has_move_inside.ensures placement is).1 inside in absurd cc)
+          (known (here + 1) (omega (arith, c.loop-here.invariant.behind)) (omega (arith, c.loop-here-test.true, c.main_before-end.ensures.least)))
+          (move_number_of tree (here + 1) == count)
+          (quiet-more count (move_number_of tree here) (move_number_of tree (here + 1)) (node_at tree (here + 1)).played c.loop-here.invariant.moves more);
+    }
+
+pub has_move_inside-requires-clause-node : goal.has_move_inside-requires-clause-node
+has_move_inside-requires-clause-node c = main-in_range c.args.tree.now c.main_before-end.ensures.tree c.loop-here.here (c.main_before-end.ensures.main (c.loop-here.here + 1) c.loop-here-test.true)
+
+pub returns-clause-stopped : goal.returns-clause-stopped
+returns-clause-stopped c = λ before on placement is.
+    let tree = c.args.tree.now in
+    let good = c.main_before-end.ensures.tree in
+    let here = c.loop-here.here in
+    let past : c.main_before-end.result ≤ here + 1 = omega (arith, c.loop-here-test.false) in
+    absurd (c.main_before-end.ensures.most
+    (main-before tree good on c.args.node (omega (arith, c.loop-here.invariant.behind)))
+    (omega arith) (omega (arith, main-in_range tree good here on))
+    (main-before tree good on c.main_before-end.result past))
