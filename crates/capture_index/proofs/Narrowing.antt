@@ -1,9 +1,9 @@
 -- A stretch that is narrowed and cut by one want after another.
 use Rattle.std.proofs.Common.{◌≡◌, ℕ, ◌+◌, ◌-◌, ◌/◌, ◌<◌, ◌≤◌, ◌↔◌, Bool, true, false, cond, List, [], ◌∷◌, ◌++◌, length, get_or, sym, ◌∙◌, ap, subst, arith, inl, inr, below_more}
-use Rattle.std.proofs.lemmas.Bool.{cases_Bool, false_from_ne_true, le-leb, leb-true}
+use Rattle.std.proofs.lemmas.Bool.{cases_Bool, false_from_ne_true, false≢true, le-leb, leb-true}
 use Rattle.std.proofs.lemmas.List.{get_or_read}
 use Rattle.kb_geometry.specs.Board.{point_count}
-use Rattle.std.specs.Prelude.{IfNone, IfSome, IsTrue, None, Option, Some, slice_index_or}
+use Rattle.std.specs.Prelude.{IfSome, IsTrue, None, Option, Some, slice_index_or}
 use Rattle.kb_geometry.specs.declared.stone.Cell.{Cell}
 use Rattle.capture_index.specs.declared.bounds.Bounds.{Bounds}
 use Rattle.capture_index.specs.declared.packed_runs.PackedRuns.{PackedRuns}
@@ -69,10 +69,6 @@ module _ (index : PackedRuns) (base : ℕ) (want : Want) (runs : List Run) (same
   whole-met None h = h
   whole-met (Some after) whole = λ e n b. met-wanted n (whole e n b)
 
-  pub none-met : (before : Bounds) (result : Option Bounds) → IfNone result ((n : ℕ) → IsBounded before n → ¬ IsWantedBy want runs n) → IfNone result ((n : ℕ) → IsBounded before n → ¬ IsMet index base want n)
-  none-met before None none = λ n b met. none n b (wanted-met n met)
-  none-met before (Some after) h = h
-
 module _ (index : PackedRuns) (base : ℕ) (wants : List Want) (i : ℕ) (lt : i < length wants) where
   abbrev want : Want
   want = slice_index_or wants i no_want
@@ -86,6 +82,22 @@ module _ (index : PackedRuns) (base : ℕ) (wants : List Want) (i : ℕ) (lt : i
       words = λ n b. below_more (λ k. is_many (time_at index (base + (slice_index_or wants k no_want).offset)) ≡ false → IsMet index base (slice_index_or wants k no_want) n) i (bound.words n (narrowed.inside n b)) (λ few. word few n b);
       whole = λ e n b. below_more (λ k. IsMet index base (slice_index_or wants k no_want) n) i (bound.whole (narrowed.gaps e) n (narrowed.inside n b)) (whole e n b);
     }
+
+    -- a point with a list
+    module _ (time : Time) (is : time ≡ time_at index (base + want.offset)) (many : MANY ≤ time.word) (runs : List Run) (same : (n : ℕ) → cell_by runs n ≡ packed_cell index (base + want.offset) n) where
+      pub bound-list : (after : Bounds) → IsNarrowed before (IsWantedBy want runs) after → (after.gaps ≡ 0 → (n : ℕ) → IsBounded after n → IsWantedBy want runs n) → IsBoundTo index base wants (i + 1) after
+      bound-list after narrowed whole =
+          bound-more after (some-met index base want runs same before (Some after) narrowed)
+          (λ few. absurd (false≢true (sym few ∙ sym (ap is_many is) ∙ le-leb MANY time.word many)))
+          (whole-met index base want runs same (Some after) whole)
+
+    -- a point with a word
+    module _ (time : Time) (is : time ≡ time_at index (base + want.offset)) (few : MANY ≤ time.word → ⊥) where
+      pub bound-word : (after : Bounds) → IsNarrowed before (IsWantedBy want (run_of_word time ∷ [])) after → ((n : ℕ) → after.latest / 2 ≤ n → n < after.least / 2 → IsWantedBy want (run_of_word time ∷ []) n) → IsBoundTo index base wants (i + 1) after
+      bound-word after narrowed whole =
+          let met = met-wanted index base want (run_of_word time ∷ []) (packed_cell-few index (base + want.offset) time is few) in
+          bound-more after (some-met index base want (run_of_word time ∷ []) (packed_cell-few index (base + want.offset) time is few) before (Some after) narrowed)
+          (λ f n b. met n (whole n b.0 b.1)) (λ e n b. met n (whole n b.0 b.1))
 
     pub bound-none : ((n : ℕ) → IsBounded before n → IsMet index base want n → ⊥) → (n : ℕ) → n < index.nodes → AreMet index base wants n → ⊥
     bound-none none n in_range all = none n (bound.kept n in_range (λ k l. all k (omega arith))) (all i (omega arith))

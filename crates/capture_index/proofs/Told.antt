@@ -44,14 +44,14 @@ module _ (packed : PackedRuns) where
   pub parent_in-packed : (n : ℕ) → n < packed.nodes → parent_in (seen_by packed) n ≡ parent_by packed.branches.items n
   parent_in-packed n lt = get_or-map-range_with_len (parent_by packed.branches.items) 0 packed.nodes n n None lt (omega arith)
 
-  pub StaysTo-packed : (p n next : ℕ) → p < point_count packed.shape → StaysTo (packed_cell packed p) packed.nodes n next → StaysTo (cell_in (seen_by packed) p) (count_in (seen_by packed)) n next
-  StaysTo-packed p n next lt stays = record {
+  pub StaysTo-packed : (p n end next : ℕ) → p < point_count packed.shape → end ≤ packed.nodes → StaysTo (packed_cell packed p) end n next → StaysTo (cell_in (seen_by packed) p) end n next
+  StaysTo-packed p n end next lt within stays = record {
     more = stays.more;
-    most = omega (arith, stays.most, count_in-packed);
+    most = stays.most;
     stays = λ k from to.
-        cell_in-packed p k lt (omega (arith, stays.most))
+        cell_in-packed p k lt (omega (arith, stays.most, within))
         ∙ stays.stays k from to
-        ∙ sym (cell_in-packed p n lt (omega (arith, stays.most, stays.more)));
+        ∙ sym (cell_in-packed p n lt (omega (arith, stays.most, stays.more, within)));
   }
 
   pub GoesOnTo-packed : (n next : ℕ) → GoesOnTo (parent_by packed.branches.items) packed.nodes n next → GoesOnTo (parent_in (seen_by packed)) (count_in (seen_by packed)) n next
@@ -131,8 +131,8 @@ module _ (packed : PackedRuns) (seen : NodePositions) (is : seen_by packed ≡ s
   pub parent-seen : (n : ℕ) → n < count_in seen → parent_by packed.branches.items n ≡ parent_in seen n
   parent-seen n lt = sym (parent_in-packed packed n (omega (arith, nodes-seen))) ∙ ap (λ (s : NodePositions). parent_in s n) is
 
-  pub stays-seen : (p n next : ℕ) → p < point_count seen.shape → StaysTo (packed_cell packed p) packed.nodes n next → StaysTo (cell_in seen p) (count_in seen) n next
-  stays-seen p n next lt stays = subst (λ (s : NodePositions). StaysTo (cell_in s p) (count_in s) n next) is (StaysTo-packed packed p n next (omega (arith, points-seen)) stays)
+  pub stays-seen : (p n end next : ℕ) → p < point_count seen.shape → end ≤ count_in seen → StaysTo (packed_cell packed p) end n next → StaysTo (cell_in seen p) end n next
+  stays-seen p n end next lt within stays = subst (λ (s : NodePositions). StaysTo (cell_in s p) end n next) is (StaysTo-packed packed p n end next (omega (arith, points-seen)) (omega (arith, within, nodes-seen)) stays)
 
   pub goes-seen : (n next : ℕ) → GoesOnTo (parent_by packed.branches.items) packed.nodes n next → GoesOnTo (parent_in seen) (count_in seen) n next
   goes-seen n next goes = subst (λ (s : NodePositions). GoesOnTo (parent_in s) (count_in s) n next) is (GoesOnTo-packed packed n next goes)

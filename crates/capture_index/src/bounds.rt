@@ -1,5 +1,5 @@
 // Bounds of the nodes at which wants are met, as their points tell them.
-ghost use Rattle.std.specs.Prelude.{◌≡◌, ◌+◌, ◌<◌, ℕ, [], ◌∷◌, All, IfNone, IfSome, false, length, true};
+ghost use Rattle.std.specs.Prelude.{◌≡◌, ◌+◌, ◌/◌, ◌<◌, ◌≤◌, ℕ, [], ◌∷◌, All, IfNone, IfSome, false, length, true};
 ghost use Rattle.kb_geometry.specs.Board.{point_count};
 ghost use Rattle.capture_index.specs.declared.stretch.Want.{Want};
 ghost use Rattle.capture_index.specs.Bounds.{IsBounded, IsNarrowed};
@@ -39,86 +39,69 @@ impl PackedRuns {
             gaps: 0,
         };
         for want in wants {
-            let Some(next) = self.narrowed(bounds, base, *want) else {
+            let time = self.time_of(base, want.offset);
+            if time.is_many() {
+                let Some(next) = with_runs(bounds, self.list(time.list()), *want) else {
+                    return None;
+                };
+                bounds = next;
+                continue;
+            }
+            if want.empty {
+                let Some(least) = least_with(bounds, time, *want) else {
+                    return None;
+                };
+                bounds.least = least;
+                continue;
+            }
+            let Some(latest) = latest_with(bounds, time, *want) else {
                 return None;
             };
-            bounds = next;
+            bounds.latest = latest;
         }
         Some(bounds)
     }
-
-    // The bounds with one want more; none, where it is met at none of their nodes.
-    fn narrowed(&self, bounds: Bounds, base: u16, want: Want) -> Option<Bounds>
-        requires { base + want.offset < point_count self.now.shape }
-        ensures some { IfSome result (IsNarrowed bounds (IsMet self.now base want)) }
-        ensures word { IfSome result (λ after. is_many (time_at self.now (base + want.offset))
-            ≡ false → (n : ℕ) → IsBounded after n → IsMet self.now base want n) }
-        ensures whole { IfSome result (λ after. after.gaps ≡ 0 → (n : ℕ) →
-            IsBounded after n → IsMet self.now base want n) }
-        ensures none { IfNone result ((n : ℕ) → IsBounded bounds n →
-            ¬ IsMet self.now base want n) }
-    {
-        let time = self.time_of(base, want.offset);
-        if time.is_many() {
-            return with_runs(bounds, self.list(time.list()), want);
-        }
-        if want.empty {
-            return with_empty(bounds, time, want);
-        }
-        with_stone(bounds, time, want)
-    }
 }
 
-// The bounds with a want that allows an empty point, as the point's word tells.
-fn with_empty(bounds: Bounds, time: Time, want: Want) -> Option<Bounds>
+// The bounds with a want that allows an empty point, as the point's word tells: only the end may
+// change.
+fn least_with(bounds: Bounds, time: Time, want: Want) -> Option<u32>
     requires { want.empty ≡ true }
-    ensures some { IfSome result (IsNarrowed bounds (IsWantedBy want (run_of_word time ∷ []))) }
-    ensures whole { IfSome result (λ after. (n : ℕ) → IsBounded after n →
+    ensures some { IfSome result (λ least. IsNarrowed bounds
+        (IsWantedBy want (run_of_word time ∷ []))
+        (record { latest = bounds.latest; least = least; gaps = bounds.gaps })) }
+    ensures whole { IfSome result (λ least. (n : ℕ) → bounds.latest / 2 ≤ n → n < least / 2 →
         IsWantedBy want (run_of_word time ∷ []) n) }
     ensures none { IfNone result ((n : ℕ) → IsBounded bounds n →
         ¬ IsWantedBy want (run_of_word time ∷ []) n) }
 {
     let word = u32::from(time.word);
-    if word >= bounds.least {
-        return Some(bounds);
-    }
-    if want.allows(time.stone()) {
-        return Some(bounds);
+    if word >= bounds.least || want.allows(time.stone()) {
+        return Some(bounds.least);
     }
     if word <= bounds.latest {
         return None;
     }
-    Some(Bounds {
-        latest: bounds.latest,
-        least: word,
-        gaps: bounds.gaps,
-    })
+    Some(word)
 }
 
-// The bounds with a want that allows no empty point, as the point's word tells.
-fn with_stone(bounds: Bounds, time: Time, want: Want) -> Option<Bounds>
+// The bounds with a want that allows no empty point, as the point's word tells: only the beginning
+// may change.
+fn latest_with(bounds: Bounds, time: Time, want: Want) -> Option<u32>
     requires { want.empty ≡ false }
-    ensures some { IfSome result (IsNarrowed bounds (IsWantedBy want (run_of_word time ∷ []))) }
-    ensures whole { IfSome result (λ after. (n : ℕ) → IsBounded after n →
+    ensures some { IfSome result (λ latest. IsNarrowed bounds
+        (IsWantedBy want (run_of_word time ∷ []))
+        (record { latest = latest; least = bounds.least; gaps = bounds.gaps })) }
+    ensures whole { IfSome result (λ latest. (n : ℕ) → latest / 2 ≤ n → n < bounds.least / 2 →
         IsWantedBy want (run_of_word time ∷ []) n) }
     ensures none { IfNone result ((n : ℕ) → IsBounded bounds n →
         ¬ IsWantedBy want (run_of_word time ∷ []) n) }
 {
     let word = u32::from(time.word);
-    if word >= bounds.least {
+    if word >= bounds.least || !want.allows(time.stone()) {
         return None;
     }
-    if !want.allows(time.stone()) {
-        return None;
-    }
-    if word <= bounds.latest {
-        return Some(bounds);
-    }
-    Some(Bounds {
-        latest: word,
-        least: bounds.least,
-        gaps: bounds.gaps,
-    })
+    Some(bounds.latest.max(word))
 }
 
 // The bounds with a want of a point with these runs.

@@ -1,9 +1,10 @@
 // Wants that are met at no node, as the words of their points tell.
-ghost use Rattle.std.specs.Prelude.{◌+◌, ◌/◌, ◌<◌, ◌≤◌, ℕ, All, IfNone, IfSome, IsTrue};
+ghost use Rattle.std.specs.Prelude.{◌≡◌, ◌+◌, ◌-◌, ◌/◌, ◌<◌, ◌≤◌, ◌↔◌, ℕ, All, IfNone, IfSome, IsTrue, false, length, slice_index_or};
 ghost use Rattle.kb_geometry.specs.Board.{point_count};
 ghost use Rattle.capture_index.specs.declared.stretch.Want.{Want};
 ghost use Rattle.capture_index.specs.Finding.{AreMet};
 ghost use Rattle.capture_index.specs.Lists.{IsWantedByWord};
+ghost use Rattle.capture_index.specs.Stretches.{no_want};
 
 use crate::packed_runs::PackedRuns;
 use crate::stretch::Want;
@@ -17,6 +18,9 @@ impl PackedRuns {
         requires { All (λ (w : Want). base + w.offset < point_count self.now.shape) wants.now }
         ensures { IsTrue result → (n : ℕ) → n < self.now.nodes → ¬ AreMet self.now base wants.now n }
     {
+        if !have_stones_then_empty(wants) {
+            return false;
+        }
         let mut latest = 0;
         for want in wants {
             let Some(next) = with_want(latest, self.time_of(base, want.offset), *want) else {
@@ -26,6 +30,19 @@ impl PackedRuns {
         }
         false
     }
+}
+
+// Whether a stone is wanted second, and last none. Wants of stones stand first, so then two stones
+// and an empty point are wanted. Else the words alone rule little out, and most wants would be gone
+// over twice. This is asked for each placement, so it looks at two wants only.
+fn have_stones_then_empty(wants: &[Want]) -> bool
+    ensures { IsTrue result ↔ (1 < length wants.now)
+        × ((slice_index_or wants.now 1 no_want).empty ≡ false)
+        × ((slice_index_or wants.now (length wants.now - 1) no_want).black ≡ false)
+        × ((slice_index_or wants.now (length wants.now - 1) no_want).white ≡ false) }
+{
+    let count = wants.len();
+    count > 1 && !wants[1].empty && !wants[count - 1].black && !wants[count - 1].white
 }
 
 // The latest word of a point on which a stone is wanted, with one want more; none, if its point has

@@ -1,5 +1,5 @@
 // The cell of a point at a node, by its runs.
-ghost use Rattle.std.specs.Prelude.{◌≡◌, ◌<◌, [], ◌∷◌};
+ghost use Rattle.std.specs.Prelude.{◌≡◌, ◌+◌, ◌<◌, [], ◌∷◌};
 ghost use Rattle.kb_geometry.specs.Board.{point_count};
 ghost use Rattle.capture_index.specs.Finding.{packed_cell};
 ghost use Rattle.capture_index.specs.Lists.{run_of_word};
@@ -25,17 +25,18 @@ impl PackedRuns {
         }
     }
 
-    // The next node at which a run of the point begins; the number of nodes, where none does.
-    pub(crate) fn next_run(&self, point: u16, node: u32) -> u32
-        requires point { point < point_count self.now.shape }
-        requires in_range { node < self.now.nodes }
-        ensures { StaysTo (packed_cell self.now point) self.now.nodes node result }
+    // The next node behind this one and before `end` at which a run of the point so far behind base
+    // begins; `end`, where none does.
+    pub(crate) fn next_run(&self, base: u16, offset: u16, node: u32, end: u32) -> u32
+        requires point { base + offset < point_count self.now.shape }
+        requires before { node < end }
+        ensures { StaysTo (packed_cell self.now (base + offset)) end node result }
     {
-        let time = self.times[usize::from(point)];
+        let time = self.time_of(base, offset);
         if time.is_many() {
-            next_run(self.list(time.list()), node, self.nodes)
+            next_run(self.list(time.list()), node, end)
         } else {
-            next_of_word(time, node, self.nodes)
+            next_of_word(time, node, end)
         }
     }
 }
@@ -62,25 +63,25 @@ fn cell_at(runs: &[Run], node: u32) -> Cell
     Cell::Empty
 }
 
-// The first node of the run that a word tells, if it begins behind the node; else the number of
-// nodes.
-fn next_of_word(time: Time, node: u32, nodes: u32) -> u32
-    requires { node < nodes }
-    ensures { StaysTo (cell_by (run_of_word time ∷ [])) nodes node result }
+// The first node of the run that a word tells, if it begins behind the node and before `end`; else
+// `end`.
+fn next_of_word(time: Time, node: u32, end: u32) -> u32
+    requires { node < end }
+    ensures { StaysTo (cell_by (run_of_word time ∷ [])) end node result }
 {
     let first = u32::from(time.first());
     if first <= node {
-        return nodes;
+        return end;
     }
-    nodes.min(first)
+    end.min(first)
 }
 
-// The first of the runs that begin behind the node; the number of nodes, where none does.
-fn next_run(runs: &[Run], node: u32, nodes: u32) -> u32
-    requires { node < nodes }
-    ensures { StaysTo (cell_by runs.now) nodes node result }
+// The first of the runs that begin behind the node and before `end`; `end`, where none does.
+fn next_run(runs: &[Run], node: u32, end: u32) -> u32
+    requires { node < end }
+    ensures { StaysTo (cell_by runs.now) end node result }
 {
-    let mut next = nodes;
+    let mut next = end;
     for run in runs {
         let first = u32::from(run.first);
         if first <= node {

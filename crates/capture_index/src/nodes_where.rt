@@ -103,7 +103,7 @@ fn next_place(index: &RunIndex, point: u16, cell: Cell, node: u32) -> u32
     ensures most { result ≤ count_in index.now }
     ensures none { (k : ℕ) → node < k → k < result → begins_at index.now point cell k ≡ false }
 {
-    let run = index.next_run(point, node);
+    let run = index.next_run(point, 0, node, index.node_count());
     if index.cell(point, node) == cell {
         run.min(index.next_branch(node))
     } else {

@@ -84,14 +84,15 @@ impl RunIndex {
         parent(self.packed.branches(), node)
     }
 
-    // The next node behind this one at which a run of the point begins; the number of nodes, where
-    // none does.
-    pub(crate) fn next_run(&self, point: u16, node: u32) -> u32
-        requires point { point < point_count self.now.shape }
-        requires in_range { node < count_in self.now }
-        ensures { StaysTo (cell_in self.now point) (count_in self.now) node result }
+    // The next node behind this one and before `end` at which a run of the point so far behind base
+    // begins; `end`, where none does.
+    pub(crate) fn next_run(&self, base: u16, offset: u16, node: u32, end: u32) -> u32
+        requires point { base + offset < point_count self.now.shape }
+        requires before { node < end }
+        requires in_range { end ≤ count_in self.now }
+        ensures { StaysTo (cell_in self.now (base + offset)) end node result }
     {
-        self.packed.next_run(point, node)
+        self.packed.next_run(base, offset, node, end)
     }
 
     /// The next node behind this one, in order of the text, at which a run of one of the wants'
@@ -108,7 +109,7 @@ impl RunIndex {
     {
         let mut to = self.node_count();
         for want in wants {
-            to = to.min(self.next_run(base + want.offset, node));
+            to = self.next_run(base, want.offset, node, to);
         }
         to
     }

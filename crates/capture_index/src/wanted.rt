@@ -78,6 +78,16 @@ fn add_cell(
     ensures stones { OnOk result (IsWantPut STONE cell offset wants.old.items wants.new.items) }
     ensures others { OnOk result (IsWantPut OTHER cell offset others.old.items others.new.items) }
 {
+    // Most cells of a large pattern are such.
+    if let PatternCell::Empty = cell {
+        others.push(Want {
+            offset,
+            empty: true,
+            black: false,
+            white: false,
+        })?;
+        return Ok(());
+    }
     let rank = rank_of(cell);
     if rank == STONE {
         wants.push(want_of(cell, offset))?;

@@ -2,4 +2,4 @@ use Rattle.capture_index.proofs.NextRuns.{AreBehind}
 use Rattle.capture_index.proofs.node_cells.next_run.Given as goal
 
 abbrev pub invariant-loop-run : goal.invariant-loop-run
-invariant-loop-run l = AreBehind l.runs l.nodes l.node l.run-index l.next
+invariant-loop-run l = AreBehind l.runs l.end l.node l.run-index l.next

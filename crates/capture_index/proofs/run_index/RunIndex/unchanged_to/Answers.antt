@@ -6,8 +6,8 @@ use Rattle.capture_index.proofs.run_index.RunIndex.unchanged_to.Goals as goal
 
 pub loop-want-preserved : goal.loop-want-preserved
 loop-want-preserved c = record {
-  more = omega (arith, c.loop-want.invariant.more, c.next_run.ensures.more);
-  most = omega (arith, c.loop-want.invariant.most);
-  stays = λ k from below. below_more _ _ (c.loop-want.invariant.stays k from (omega (arith, below)))
-      (subst (λ (w : Want). IsUnchangedAt c.args.self.now c.args.base w c.args.node k) (get_or_default c.args.wants.now c.loop-want.want-index _ no_want c.loop-want-test.true) (c.next_run.ensures.stays k from (omega (arith, below))));
+  more = c.next_run-to.ensures.more;
+  most = omega (arith, c.loop-want.invariant.most, c.next_run-to.ensures.most);
+  stays = λ k from below. below_more _ _ (c.loop-want.invariant.stays k from (omega (arith, below, c.next_run-to.ensures.most)))
+      (subst (λ (w : Want). IsUnchangedAt c.args.self.now c.args.base w c.args.node k) (get_or_default c.args.wants.now c.loop-want.want-index _ no_want c.loop-want-test.true) (c.next_run-to.ensures.stays k from below));
 }
