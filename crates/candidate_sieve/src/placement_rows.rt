@@ -2,7 +2,12 @@
 ghost use Rattle.std.specs.Prelude.{◌≡◌, ◌<◌, ◌+◌, IfOk, IsTrue, OnOk, length};
 ghost use Rattle.capture_index.specs.Wants.{base_of};
 ghost use Rattle.pattern_images.specs.ImageList.{placement_at};
-ghost use Rattle.candidate_sieve.specs.PlacementRows.{ArePlacedTo, AreRowsOf, AreRowsTo, IsRowGrown};
+ghost use Rattle.candidate_sieve.specs.PlacementRows.{
+  ArePlacedTo,
+  AreRowsOf,
+  AreRowsTo,
+  IsRowGrown,
+};
 
 use kb_geometry::{Label, NoMemory, Point};
 use pattern_images::{Images, Place};

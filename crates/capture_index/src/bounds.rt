@@ -1,9 +1,24 @@
 // Bounds of the nodes at which wants are met, as their points tell them.
-ghost use Rattle.std.specs.Prelude.{◌≡◌, ◌+◌, ◌/◌, ◌<◌, ◌≤◌, ℕ, [], ◌∷◌, All, IfNone, IfSome, false, length, true};
+ghost use Rattle.std.specs.Prelude.{
+  ◌≡◌,
+  ◌+◌,
+  ◌/◌,
+  ◌<◌,
+  ◌≤◌,
+  ℕ,
+  [],
+  ◌∷◌,
+  All,
+  IfNone,
+  IfSome,
+  false,
+  length,
+  true,
+};
 ghost use Rattle.kb_geometry.specs.Board.{point_count};
 ghost use Rattle.capture_index.specs.declared.stretch.Want.{Want};
 ghost use Rattle.capture_index.specs.Bounds.{IsBounded, IsNarrowed};
-ghost use Rattle.capture_index.specs.Finding.{AreMet, IsBoundTo, IsMet, time_at};
+ghost use Rattle.capture_index.specs.Finding.{AreMet, IsBoundTo};
 ghost use Rattle.capture_index.specs.Lists.{IsWantedBy, is_many, run_of_word};
 
 use crate::hull::hull_of;

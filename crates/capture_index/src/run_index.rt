@@ -1,5 +1,20 @@
 // What searches ask the runs of a game.
-ghost use Rattle.std.specs.Prelude.{◌≡◌, ◌+◌, ◌<◌, ◌≤◌, ◌↔◌, ◌⊎◌, ℕ, All, Contains, IfOk, IfSome, OnOk, length, slice_index_or};
+ghost use Rattle.std.specs.Prelude.{
+  ◌≡◌,
+  ◌+◌,
+  ◌<◌,
+  ◌≤◌,
+  ◌↔◌,
+  ◌⊎◌,
+  ℕ,
+  All,
+  Contains,
+  IfOk,
+  IfSome,
+  OnOk,
+  length,
+  slice_index_or,
+};
 ghost use Rattle.capture_index.specs.declared.stretch.Stretch.{Stretch};
 ghost use Rattle.capture_index.specs.declared.stretch.Want.{Want};
 ghost use Rattle.kb_geometry.specs.Board.{point_count};

@@ -1,5 +1,18 @@
 // One word for a point that has at most one run with a stone, and no other.
-ghost use Rattle.std.specs.Prelude.{◌≡◌, ◌==◌, if◌then◌else◌, ◌+◌, ◌*◌, ◌-◌, ◌/◌, ◌%◌, ◌<◌, ◌≤◌, ◌↔◌, IsTrue};
+ghost use Rattle.std.specs.Prelude.{
+  ◌≡◌,
+  ◌==◌,
+  if◌then◌else◌,
+  ◌+◌,
+  ◌*◌,
+  ◌-◌,
+  ◌/◌,
+  ◌%◌,
+  ◌<◌,
+  ◌≤◌,
+  ◌↔◌,
+  IsTrue,
+};
 
 use kb_geometry::Cell;
 use std::mem::size_of;

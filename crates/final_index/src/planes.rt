@@ -30,7 +30,13 @@ ghost use Rattle.kb_geometry.specs.declared.stone.Cell.{Cell};
 ghost use Rattle.kb_geometry.specs.Board.{point_count};
 ghost use Rattle.final_index.specs.Ever.{set_of};
 ghost use Rattle.final_index.specs.Planes.{HadThere};
-ghost use Rattle.final_index.specs.PlaneWords.{AreJoined, AreNoted, AreSetsNoted, IsJoined, start_of};
+ghost use Rattle.final_index.specs.PlaneWords.{
+  AreJoined,
+  AreNoted,
+  AreSetsNoted,
+  IsJoined,
+  start_of,
+};
 
 use crate::ever_sets::EverSets;
 use kb_bits::{BitBoard, members_ascend};

@@ -1,6 +1,11 @@
 // Which number of a tally counts a hit.
 ghost use Rattle.std.specs.Prelude.{◌≡◌, ◌<◌, ◌≤◌};
-ghost use Rattle.hit_collectors.specs.Tallies.{counted_by, number_of_next, number_of_outcome, number_count};
+ghost use Rattle.hit_collectors.specs.Tallies.{
+  counted_by,
+  number_of_next,
+  number_of_outcome,
+  number_count,
+};
 
 use crate::Kind;
 use kb_geometry::Outcome;

@@ -1,10 +1,28 @@
 // Laws of the words for tallies and boxes, for who writes a collector of one's own, feeds hits in
 // turns, or reads a contract of this crate.
-ghost use Rattle.std.specs.Prelude.{◌≡◌, ◌≢◌, ◌⊎◌, ◌∷◌, ◌++◌, [], ℕ, List, All, slice_index_or, slice_set};
+ghost use Rattle.std.specs.Prelude.{
+  ◌≡◌,
+  ◌≢◌,
+  ◌⊎◌,
+  ◌∷◌,
+  ◌++◌,
+  [],
+  ℕ,
+  List,
+  All,
+  slice_index_or,
+  slice_set,
+};
 ghost use Rattle.pattern_images.specs.declared.hit.Hit.{Hit};
 ghost use Rattle.hit_collectors.specs.declared.kind.Kind.{Kind};
 ghost use Rattle.hit_collectors.specs.Boxes.{IsRetired};
-ghost use Rattle.hit_collectors.specs.Tallies.{BoxTally, counted_by, numbers_with, raised, with_hits};
+ghost use Rattle.hit_collectors.specs.Tallies.{
+  BoxTally,
+  counted_by,
+  numbers_with,
+  raised,
+  with_hits,
+};
 
 /// A hit raises one number of a tally by one, and leaves the others.
 pub fn a_hit_raises_one_number()

@@ -1,5 +1,20 @@
 // Made games, which have their turn one batch after another.
-ghost use Rattle.std.specs.Prelude.{◌≡◌, ◌⊎◌, ◌↔◌, ◌+◌, ◌*◌, ◌<◌, ◌≤◌, [], None, Option, List, ℕ, IfOk, IfSome};
+ghost use Rattle.std.specs.Prelude.{
+  ◌≡◌,
+  ◌⊎◌,
+  ◌↔◌,
+  ◌+◌,
+  ◌*◌,
+  ◌<◌,
+  ◌≤◌,
+  [],
+  None,
+  Option,
+  List,
+  ℕ,
+  IfOk,
+  IfSome,
+};
 ghost use Rattle.kb_edges.specs.Files.{File};
 ghost use Rattle.import_work.specs.declared.import.Work.TheVariants as work;
 ghost use Rattle.import_work.specs.ImportFields.{IsMadeKept, TakesOne, left_of, taken_of};

@@ -3,10 +3,8 @@ ghost use Rattle.std.specs.Prelude.{◌≡◌, ◌+◌, ◌*◌, ◌<◌, IfOk};
 ghost use Rattle.kb_geometry.specs.Board.{cols_of, rows_of};
 ghost use Rattle.kb_geometry.specs.Symmetry.{
   inverse_number,
-  moved,
   number_of_label,
   number_of_symmetry,
-  point_of,
   symmetry_of,
   turned_cols,
   turned_rows,

@@ -1,5 +1,18 @@
 // How many games of a version are kept for a query.
-ghost use Rattle.std.specs.Prelude.{◌≡◌, ◌↔◌, ◌-◌, ◌^◌, ◌<◌, ◌≤◌, All, Any, Contains, IfOk, IsTrue, length};
+ghost use Rattle.std.specs.Prelude.{
+  ◌≡◌,
+  ◌↔◌,
+  ◌-◌,
+  ◌^◌,
+  ◌<◌,
+  ◌≤◌,
+  All,
+  Any,
+  Contains,
+  IfOk,
+  IsTrue,
+  length,
+};
 ghost use Rattle.version_publisher.specs.Contents.{items_in};
 ghost use Rattle.capture_board.specs.Deltas.{Deltas};
 ghost use Rattle.node_position.specs.Games.{AreNodeChanges};

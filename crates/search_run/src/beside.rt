@@ -19,7 +19,13 @@ ghost use mathlib.Core.List.{IsPrefix};
 ghost use Rattle.kb_edges.specs.Faults.{Rose};
 ghost use Rattle.kb_edges.specs.Told.{IfTold};
 ghost use Rattle.import_work.specs.Log.{Segment};
-ghost use Rattle.search_run.specs.Beside.{HasAnswered, HasAnsweredAll, Reaches, StopsBeside, block_at};
+ghost use Rattle.search_run.specs.Beside.{
+  HasAnswered,
+  HasAnsweredAll,
+  Reaches,
+  StopsBeside,
+  block_at,
+};
 ghost use Rattle.search_run.specs.Seen.{HaveSeen, IsVersionOf};
 ghost use Rattle.session_core.specs.Stores.{view_of};
 ghost use Rattle.serial_run.specs.Steps.{AreAnsweredFrom, LeavesBase};
