@@ -68,7 +68,7 @@ pub fn add_candidates(
     for row in &rows.rows {
         let wants = wants.of_class(row.class);
         let numbers = &rows.numbers[row.start..row.start + row.count];
-        add_placements(planes, bare, row.base, wants, numbers, there, room, found)?;
+        sieve_row(planes, bare, row.base, wants, numbers, there, room, found)?;
     }
     Ok(())
 }
@@ -76,7 +76,7 @@ pub fn add_candidates(
 // Adds a candidate for each placement of a row that some of the games that are there may have: the
 // first has its upper left point on the base. In the bare games each point was empty at some node.
 // Many rows have one placement, whose word needs no room.
-fn add_placements(
+fn sieve_row(
     planes: &Planes,
     bare: u64,
     base: u16,
@@ -121,8 +121,8 @@ fn games_at(planes: &Planes, bare: u64, base: u16, wants: &[Want], there: u64) -
     games
 }
 
-// Whether a want and those behind it ask nothing of the games of a word: since there are none, or
-// since the want allows an empty point, as then the others do too, and each game is bare.
+// Whether a want and those behind it ask nothing of the games of a word: there are none, or each is
+// bare and the want allows an empty point, as then the others do too.
 fn is_settled(want: Want, bare: u64, games: u64) -> bool
     ensures { IsTrue result → (g : ℕ) → bit_at games g ≡ 1 →
         (bit_at bare g ≡ 1) × IsTrue want.empty }
@@ -140,21 +140,21 @@ fn are_among(word: u64, games: u64) -> bool
     word & games == word
 }
 
-// Those of the games that had a cell which the want allows on the point. A want of each cell asks
-// nothing.
+// Those of the games that had a cell which the want allows on the point, as `keep_want` keeps them in
+// many words. A want of each cell asks nothing.
 fn games_with(planes: &Planes, want: Want, point: u16, games: u64) -> u64
     requires { point < point_count planes.now.shape }
     ensures { (g : ℕ) → g < 64 → (bit_at result g ≡ 1) ↔ ((bit_at games g ≡ 1)
         × HadWanted planes.now.games g want point) }
 {
     match (want.empty, want.black, want.white) {
-        (false, true, false) => games_with_cell(planes, Cell::Black, point, games),
-        (false, false, true) => games_with_cell(planes, Cell::White, point, games),
-        (true, false, false) => games_with_cell(planes, Cell::Empty, point, games),
+        (true, true, true) => games,
         (true, true, false) => games_with_either(planes, Cell::Empty, Cell::Black, point, games),
         (true, false, true) => games_with_either(planes, Cell::Empty, Cell::White, point, games),
         (false, true, true) => games_with_either(planes, Cell::Black, Cell::White, point, games),
-        (true, true, true) => games,
+        (true, false, false) => games_with_cell(planes, Cell::Empty, point, games),
+        (false, true, false) => games_with_cell(planes, Cell::Black, point, games),
+        (false, false, true) => games_with_cell(planes, Cell::White, point, games),
         (false, false, false) => 0,
     }
 }
@@ -223,7 +223,7 @@ fn keep_wanted(planes: &Planes, bare: u64, base: u16, wants: &[Want], words: &mu
 }
 
 // Whether a want and those behind it ask nothing of the games of some words. Mostly the first word
-// alone tells that they do.
+// alone tells that they ask something.
 fn are_settled(want: Want, bare: u64, words: &[u64]) -> bool
     ensures { IsTrue result → (k g : ℕ) → k < length words.now →
         bit_at (slice_index words.now k) g ≡ 1 → (bit_at bare g ≡ 1) × IsTrue want.empty }

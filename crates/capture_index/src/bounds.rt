@@ -19,7 +19,7 @@ ghost use Rattle.kb_geometry.specs.Board.{point_count};
 ghost use Rattle.capture_index.specs.declared.stretch.Want.{Want};
 ghost use Rattle.capture_index.specs.Bounds.{IsBounded, IsNarrowed};
 ghost use Rattle.capture_index.specs.Finding.{AreMet, IsBoundTo};
-ghost use Rattle.capture_index.specs.Lists.{IsWantedBy, is_many, run_of_word};
+ghost use Rattle.capture_index.specs.Lists.{IsWantedBy, run_of_word};
 
 use crate::hull::hull_of;
 use crate::packed_runs::PackedRuns;
@@ -34,7 +34,7 @@ pub(crate) struct Bounds {
     pub(crate) latest: u32,
     pub(crate) least: u32,
     // Not 0 where some of these nodes may not meet a want whose point has a list of runs. A number,
-    // since a byte would leave room behind it, which is copied for each want.
+    // since a byte would leave room behind it, which would be copied with the bounds.
     pub(crate) gaps: u32,
 }
 
@@ -78,8 +78,8 @@ impl PackedRuns {
     }
 }
 
-// The bounds with a want that allows an empty point, as the point's word tells: only the end may
-// change.
+// The `least` of the bounds with a want that allows an empty point, as the point's word tells; none,
+// where it is met at none of their nodes. The other fields stay.
 fn least_with(bounds: Bounds, time: Time, want: Want) -> Option<u32>
     requires { want.empty ≡ true }
     ensures some { IfSome result (λ least. IsNarrowed bounds
@@ -100,8 +100,8 @@ fn least_with(bounds: Bounds, time: Time, want: Want) -> Option<u32>
     Some(word)
 }
 
-// The bounds with a want that allows no empty point, as the point's word tells: only the beginning
-// may change.
+// The `latest` of the bounds with a want that allows no empty point, as the point's word tells;
+// none, where it is met at none of their nodes. The other fields stay.
 fn latest_with(bounds: Bounds, time: Time, want: Want) -> Option<u32>
     requires { want.empty ≡ false }
     ensures some { IfSome result (λ latest. IsNarrowed bounds

@@ -28,8 +28,9 @@ use crate::time::{MANY, Time};
 
 impl PackedRuns {
     // Whether it is seen at once that the wants are met at no node: a point that is to be empty has
-    // a stone for good when another, that is to have one, has none yet. Of most placements that a
-    // game may have by its sets this is so, and this loop has little to do for each want.
+    // a stone for good when another, that is to have one, has none yet. This is so
+    // of most placements that a game may have by its sets, where two stones and an empty point are
+    // wanted, and the loop has little to do for each want. Other wants aren't gone over here.
     pub(crate) fn are_never_met(&self, base: u16, wants: &[Want]) -> bool
         requires { All (λ (w : Want). base + w.offset < point_count self.now.shape) wants.now }
         ensures { IsTrue result → (n : ℕ) → n < self.now.nodes → ¬ AreMet self.now base wants.now n }
@@ -48,9 +49,10 @@ impl PackedRuns {
     }
 }
 
-// Whether a stone is wanted second, and last none. Wants of stones stand first, so then two stones
-// and an empty point are wanted. Else the words alone rule little out, and most wants would be gone
-// over twice. This is asked for each placement, so it looks at two wants only.
+// Whether the second want allows no empty point, and the last one no stone. Wants of stones stand
+// first, so then two stones and an empty point are wanted. Else the words alone rule little out, and
+// most wants would be gone over twice. This is asked for each placement, so it looks at two wants
+// only.
 fn have_stones_then_empty(wants: &[Want]) -> bool
     ensures { IsTrue result ↔ (1 < length wants.now)
         × ((slice_index_or wants.now 1 no_want).empty ≡ false)

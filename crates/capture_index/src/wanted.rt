@@ -78,14 +78,9 @@ fn add_cell(
     ensures stones { OnOk result (IsWantPut STONE cell offset wants.old.items wants.new.items) }
     ensures others { OnOk result (IsWantPut OTHER cell offset others.old.items others.new.items) }
 {
-    // Most cells of a large pattern are such.
+    // Most cells of a large pattern are empty.
     if let PatternCell::Empty = cell {
-        others.push(Want {
-            offset,
-            empty: true,
-            black: false,
-            white: false,
-        })?;
+        others.push(want_of(PatternCell::Empty, offset))?;
         return Ok(());
     }
     let rank = rank_of(cell);

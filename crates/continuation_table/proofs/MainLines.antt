@@ -1,6 +1,5 @@
 -- The main line of a tree, one node after another.
-use Rattle.std.proofs.Common.{◌≡◌, ℕ, ◌+◌, ◌<◌, ◌≤◌, inl, inr, Some, refl, sym, subst, ap, ◌∙◌, arith}
-use Rattle.std.proofs.lemmas.Bool.{cases_lt}
+use Rattle.std.proofs.Common.{◌≡◌, ℕ, ◌+◌, ◌<◌, Some, refl, subst, ap, ◌∙◌, arith}
 use Rattle.game_tree.specs.MainLine.{IsOnMainLine}
 use Rattle.game_tree.specs.Tree.{Tree, IsTree, first_child_of, node_count, parent_of}
 use Rattle.game_tree.proofs.Trees.{IsGrown-tree, first_child-found, parent-in_range}
@@ -24,13 +23,3 @@ module _ (tree : Tree) (is : IsTree tree) (n : ℕ) where
 
   pub main-in_range : IsOnMainLine tree (n + 1) → n + 1 < node_count tree
   main-in_range on = parent-in_range tree (n + 1) n (main-parent on)
-
--- each node up to one of the main line is on the main line
-pub main-before : (tree : Tree) → IsTree tree → {m : ℕ} → IsOnMainLine tree m → (k : ℕ) → k ≤ m → IsOnMainLine tree k
-main-before tree is IsOnMainLine.root k le = let same : k ≡ 0 = omega arith in subst (IsOnMainLine tree) (sym same) IsOnMainLine.root
-main-before tree is (IsOnMainLine.first_child {m = p} {n = m} on next) k le =
-    let found = first_child-found tree (IsGrown-tree tree is) p m next in
-    elim (cases_lt p k) [
-      | inl last ↦ let same : m ≡ k = omega (arith, found.0) in subst (IsOnMainLine tree) same (IsOnMainLine.first_child on next)
-      | inr le ↦ main-before tree is on k le
-    ]

@@ -39,11 +39,14 @@ abbrev pub IsSpan : Shape → Placement → ℕ → ℕ → Type 0
 IsSpan shape placement first last = (p : Point) → Covers placement p →
     (first ≤ number_of shape p) × (number_of shape p ≤ last)
 
--- A walk from node n down to a node: no move in the rectangle came, and the placement holds at each node so far. It is
--- told whether no move or pass came at all.
-pub record IsWayDown (tree : Tree) (changes : Deltas) (placement : Placement) (n here : ℕ) (now : Bool) : Type 0 where
+-- A walk from node n down to a node: no move in the rectangle came, and the placement holds at each
+-- node so far. It is told whether no move or pass came at all.
+pub record IsWayDown (tree : Tree) (changes : Deltas) (placement : Placement) (n here : ℕ)
+    (now : Bool) : Type 0 where
   pub steps : ℕ
   pub reached : below tree n steps ≡ Some here
-  pub none : (k m : ℕ) → k < steps → below tree n (suc k) ≡ Some m → ¬ HasMoveInside tree placement m
+  pub none : (k m : ℕ) → k < steps → below tree n (suc k) ≡ Some m →
+      ¬ HasMoveInside tree placement m
   pub held : (k m : ℕ) → k ≤ steps → below tree n k ≡ Some m → HoldsAt changes placement m
-  pub quiet : IsTrue now ↔ ((k m : ℕ) → k < steps → below tree n (suc k) ≡ Some m → (node_at tree m).played ≡ None)
+  pub quiet : IsTrue now
+      ↔ ((k m : ℕ) → k < steps → below tree n (suc k) ≡ Some m → (node_at tree m).played ≡ None)

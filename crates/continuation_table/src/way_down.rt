@@ -14,7 +14,7 @@ ghost use Rattle.std.specs.Prelude.{
 };
 ghost use Rattle.kb_geometry.specs.Symmetry.{point_of};
 ghost use Rattle.game_tree.specs.MainLine.{IsOnMainLine};
-ghost use Rattle.game_tree.specs.Tree.{IsTree, move_number_of, node_count};
+ghost use Rattle.game_tree.specs.Tree.{move_number_of, node_count};
 ghost use Rattle.capture_board.specs.Deltas.{Deltas};
 ghost use Rattle.node_position.specs.Games.{AreNodeChanges};
 ghost use Rattle.pattern_images.specs.declared.hit.Next.{Next};
@@ -42,8 +42,8 @@ use pattern_images::{Images, Next, Place};
 /// holds as far as to the parent of its node. `None` exactly where there is none.
 ///
 /// The deltas are those of the tree, and the images are for its board. It is known that the placement
-/// holds at each node from this one up to before `known`, so their changes aren't looked at. Who knows
-/// no more than that it holds at the node hands on the node itself as `known`. Nothing is allocated,
+/// holds at each node from this one up to before `known`, so their changes aren't looked at. A caller
+/// who knows only that it holds at the node passes the node itself as `known`. Nothing is allocated,
 /// and no position is built: the cost is that of the nodes down to the move, or to the first one where
 /// the placement doesn't hold.
 pub fn next_below(
@@ -103,7 +103,8 @@ fn passed_to(tree: &GameTree, place: Place, node: u32, known: u32) -> u32
         (placement : Placement) → IsPlaceOf placement place →
         HasMoveInside tree.now placement (result + 1) }
 {
-    let end = main_before(tree, node, known);
+    let _count = tree.node_count();
+    let end = known.min(tree.main_count());
     let mut here = node;
     while here + 1 < end {
         if has_move_inside(tree, place, here + 1) {
@@ -114,54 +115,8 @@ fn passed_to(tree: &GameTree, place: Place, node: u32, known: u32) -> u32
     here
 }
 
-// A number, `known` at most, such that all nodes before it are on the main line. If the node is, it is
-// the greatest one.
-fn main_before(tree: &GameTree, node: u32, known: u32) -> u32
-    requires { node < node_count tree.now }
-    ensures least { result ≤ known }
-    ensures few { result ≤ 65536 }
-    ensures main { (k : ℕ) → k < result → IsOnMainLine tree.now k }
-    ensures most { IsOnMainLine tree.now node → result < known → result < node_count tree.now →
-        ¬ IsOnMainLine tree.now result }
-    ensures tree { IsTree tree.now }
-{
-    let end = known.min(tree.node_count());
-    if end == 0 {
-        return 0;
-    }
-    if tree.is_main(end - 1) {
-        return end;
-    }
-    if !tree.is_main(node) {
-        return 0;
-    }
-    main_end(tree, end)
-}
-
-// Where the main line ends, if that is before `known`. It is called only where a placement is known to
-// hold past the end of the main line, and stays out of the calls that don't need it.
-#[inline(never)]
-fn main_end(tree: &GameTree, known: u32) -> u32
-    requires tree { IsTree tree.now }
-    requires known { known ≤ node_count tree.now }
-    ensures least { result ≤ known }
-    ensures main { (k : ℕ) → k < result → IsOnMainLine tree.now k }
-    ensures ended { result < known → ¬ IsOnMainLine tree.now result }
-{
-    let mut from = 0;
-    let mut to = known;
-    while from < to {
-        let middle = from + (to - from) / 2;
-        if tree.is_main(middle) {
-            from = middle + 1;
-        } else {
-            to = middle;
-        }
-    }
-    from
-}
-
-// Whether the move of a node lies in the rectangle of the place.
+// Whether the move of a node lies in the rectangle of the place. As `covers`, but by one comparison
+// a side, since it is asked at each node that is passed.
 fn has_move_inside(tree: &GameTree, place: Place, node: u32) -> bool
     requires node { node < node_count tree.now }
     requires columns { place.x + place.cols ≤ 256 }

@@ -1,6 +1,6 @@
 -- A game of one line of moves, built node by node.
 use Prim.Native.Nat.{zero}
-use Rattle.std.proofs.Common.{◌≡◌, inl, inr, All, IfSome, ℕ, ◌+◌, ◌-◌, ◌<◌, ◌≤◌, suc, List, [], ◌∷◌, ◌++◌, Some, None, length, map, refl, sym, ◌∙◌, ap, subst, arith, get_or}
+use Rattle.std.proofs.Common.{◌≡◌, inl, inr, All, IfSome, ℕ, ◌+◌, ◌-◌, ◌<◌, suc, List, [], ◌∷◌, ◌++◌, Some, None, length, map, refl, sym, ◌∙◌, ap, subst, arith, get_or}
 use Rattle.std.proofs.lemmas.List.FromFn.{get_or-map-range_with_len, length-map-range_with_len, map-range_with_len_more}
 use Rattle.std.proofs.lemmas.List.Elements.{All-nil}
 use Rattle.std.proofs.lemmas.Option.{slice_get-get_or, slice_get_cases}
@@ -12,7 +12,7 @@ use Rattle.kb_geometry.specs.declared.shape.Point.{Point}
 use Rattle.kb_geometry.specs.declared.shape.Shape.{Shape}
 use Rattle.game_tree.specs.declared.node.Move.{Move}
 use Rattle.game_tree.specs.declared.node.Setup.{Setup}
-use Rattle.game_tree.specs.Built.{Built, IsGrown, IsNextParent, nothing_built, tree_of, tree_so_far, with_node}
+use Rattle.game_tree.specs.Built.{Built, IsGrown, IsNextParent, tree_of, tree_so_far, with_node}
 use Rattle.game_tree.specs.Information.{HasSimpleTexts, Information}
 use Rattle.game_tree.specs.Line.{line_node, line_tree}
 use Rattle.game_tree.specs.Stored.{IsMainEnd}

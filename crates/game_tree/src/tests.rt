@@ -164,6 +164,7 @@ fn readers_of_branches(rt: HostRuntime) -> Result<(), Fail> {
     ];
     expect_nodes(&rt, &tree, &rows, &places);
     expect_nodes(&rt, &tree.copy(rt.alloc())?, &rows, &places);
+    assert_eq!(rt; tree.main_count(), 3);
     Ok(())
 }
 
@@ -182,6 +183,7 @@ fn readers_of_setups(rt: HostRuntime) -> Result<(), Fail> {
     expect_nodes(&rt, &tree, &rows, &places);
     let copied = tree.copy(rt.alloc())?;
     expect_nodes(&rt, &copied, &rows, &places);
+    assert_eq!(rt; copied.main_count(), 4);
     assert_eq!(rt; copied.shape().cols(), 5);
     assert_eq!(rt; copied.info().result().len(), 0);
     Ok(())
@@ -203,6 +205,7 @@ fn one_line_of_65536_nodes(rt: HostRuntime) -> Result<(), Fail> {
     assert_eq!(rt; tree.node_count(), 65536);
     assert_eq!(rt; tree.move_number(65535), 65535);
     assert!(rt; tree.is_main(65535));
+    assert_eq!(rt; tree.main_count(), 65536);
     Ok(())
 }
 

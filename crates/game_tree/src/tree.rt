@@ -1,5 +1,5 @@
 // A game tree.
-ghost use Rattle.std.specs.Prelude.{◌≡◌, ◌<◌, ◌≤◌, ◌↔◌, IsTrue, IfOk, IfSome, All};
+ghost use Rattle.std.specs.Prelude.{◌≡◌, ℕ, ◌<◌, ◌≤◌, ◌↔◌, IsTrue, IfOk, IfSome, All};
 
 use crate::stored::{TreeNode, setups_start};
 use crate::{Children, Info, Move, Setup};
@@ -182,6 +182,13 @@ impl GameTree {
         ensures { IsTrue result ↔ IsOnMainLine self.now n }
     {
         n < self.main_line
+    }
+
+    /// How many nodes the main line has. They are the first ones in order of the text.
+    pub fn main_count(&self) -> u32
+        ensures { (n : ℕ) → (n < result) ↔ IsOnMainLine self.now n }
+    {
+        self.main_line
     }
 
     /// The children of a node, in order of the text.

@@ -17,11 +17,11 @@ use Rattle.pattern_images.specs.declared.cell.PatternCell.{PatternCell}
 use Rattle.pattern_images.specs.declared.cell.PatternCell.TheVariants as cell
 use Rattle.pattern_images.specs.declared.pattern.Pattern.{Pattern}
 use Rattle.pattern_images.specs.declared.query.Query.{Query}
-use Rattle.pattern_images.specs.declared.turning.Way.{Way}
+use Rattle.pattern_images.specs.declared.turning.Strides.{Strides}
 use Rattle.pattern_images.specs.Grid.{Grid, cell_in, exchanged_cell, labelled_cell}
 use Rattle.pattern_images.specs.Pattern.{grid_of, size_of}
 use Rattle.pattern_images.specs.Placements.{Placement, Covers, IsImagePoint, IsImage, image_point}
-use Rattle.pattern_images.specs.Turned.{numbered, source, turned_cell, first_cells, grid_by, upper_left, AreFilledTo, IsWay}
+use Rattle.pattern_images.specs.Turned.{numbered, source, turned_cell, first_cells, grid_by, upper_left, AreFilledTo, AreStrides}
 use Rattle.pattern_images.proofs.Frames.{Fits, offset, moved-offset}
 
 -- the size after a symmetry
@@ -79,13 +79,13 @@ turned_cols-back size to = each_symmetry (λ n. IsTurned n size to → turned_co
     (λ t. t.0) (λ t. t.0) (λ t. t.0) (λ t. t.0) (λ t. t.1) (λ t. t.1) (λ t. t.1) (λ t. t.1)
 
 -- the steps of a cell's row and of its place in it are those of its point
-pub way-number : (n : ℕ) (to : Shape) (way : Way) (p : Point) (below right base at : ℕ) → IsWay n to way → IsOnBoard to p →
-    below ≡ rows_of to - 1 - p.y → right ≡ cols_of to - 1 - p.x → base ≡ p.y * way.down + below * way.up → at ≡ base + p.x * way.forward + right * way.backward →
+pub strides-number : (n : ℕ) (to : Shape) (strides : Strides) (p : Point) (below right base at : ℕ) → AreStrides n to strides → IsOnBoard to p →
+    below ≡ rows_of to - 1 - p.y → right ≡ cols_of to - 1 - p.x → base ≡ p.y * strides.down + below * strides.up → at ≡ base + p.x * strides.forward + right * strides.backward →
     at ≡ (moved n to p).y * turned_cols n to + (moved n to p).x
-way-number n to way p below right base at is on rows cols row_part all =
+strides-number n to strides p below right base at is on rows cols row_part all =
     all
-    ∙ ap (λ k. k + p.x * way.forward + right * way.backward) (row_part ∙ ap (λ k. p.y * way.down + k * way.up) rows)
-    ∙ ap (λ k. (p.y * way.down + (rows_of to - 1 - p.y) * way.up) + p.x * way.forward + k * way.backward) cols
+    ∙ ap (λ k. k + p.x * strides.forward + right * strides.backward) (row_part ∙ ap (λ k. p.y * strides.down + k * strides.up) rows)
+    ∙ ap (λ k. (p.y * strides.down + (rows_of to - 1 - p.y) * strides.up) + p.x * strides.forward + k * strides.backward) cols
     ∙ is p on
 
 module _ (pattern : Pattern) (label : ℕ) (to : Shape) (p : Point) (turned : IsTurned (symmetry_of label) (size_of pattern) to) where

@@ -7,8 +7,8 @@ use Rattle.kb_geometry.specs.Board.{cols_of, rows_of, point_count, IsOnBoard}
 use Rattle.kb_geometry.specs.Symmetry.{moved, inverse_number, symmetry_of, turned_cols, point_of}
 use Rattle.pattern_images.specs.declared.cell.PatternCell.{PatternCell}
 use Rattle.pattern_images.specs.declared.cell.PatternCell.TheVariants as cell
-use Rattle.pattern_images.specs.declared.turning.Table.{Table}
-use Rattle.pattern_images.specs.declared.turning.Way.{Way}
+use Rattle.pattern_images.specs.declared.turning.CellTable.{CellTable}
+use Rattle.pattern_images.specs.declared.turning.Strides.{Strides}
 use Rattle.pattern_images.specs.Grid.{Grid, cell_in, labelled_cell}
 
 -- the point of a rectangle with a number
@@ -45,14 +45,14 @@ pub record AreFilledTo (size : Shape) (f : Point → PatternCell) (count : ℕ)
 
 -- The steps tell for each point of a rectangle of this size the number of the point that the symmetry
 -- moves it to, in the rectangle after the symmetry.
-abbrev pub IsWay : ℕ → Shape → Way → Type 0
-IsWay n to way = (p : Point) → IsOnBoard to p →
-    (p.y * way.down + (rows_of to - 1 - p.y) * way.up) + p.x * way.forward
-    + (cols_of to - 1 - p.x) * way.backward
+abbrev pub AreStrides : ℕ → Shape → Strides → Type 0
+AreStrides n to strides = (p : Point) → IsOnBoard to p →
+    (p.y * strides.down + (rows_of to - 1 - p.y) * strides.up) + p.x * strides.forward
+    + (cols_of to - 1 - p.x) * strides.backward
     ≡ (moved n to p).y * turned_cols n to + (moved n to p).x
 
 -- what stands in a table for a cell
-abbrev pub looked_up : Table → PatternCell → PatternCell
+abbrev pub looked_up : CellTable → PatternCell → PatternCell
 looked_up table cell.Empty = slice_index_or table.made 0 cell.Any
 looked_up table cell.Black = slice_index_or table.made 1 cell.Any
 looked_up table cell.White = slice_index_or table.made 2 cell.Any
@@ -61,8 +61,8 @@ looked_up table cell.NotBlack = slice_index_or table.made 4 cell.Any
 looked_up table cell.Any = slice_index_or table.made 5 cell.Any
 
 -- the table has what the label makes of each cell
-abbrev pub IsTable : ℕ → Table → Type 0
-IsTable label table = (c : PatternCell) → looked_up table c ≡ labelled_cell label c
+abbrev pub IsCellTable : ℕ → CellTable → Type 0
+IsCellTable label table = (c : PatternCell) → looked_up table c ≡ labelled_cell label c
 
 -- the upper left point, after a symmetry of the board, of a rectangle of this size that has its
 -- upper left point there

@@ -15,8 +15,8 @@ ghost use Rattle.pattern_images.specs.Turned.{
   turned_cell,
   grid_by,
   AreFilledTo,
-  IsTable,
-  IsWay,
+  IsCellTable,
+  AreStrides,
   looked_up,
 };
 
@@ -24,23 +24,23 @@ use crate::{Pattern, PatternCell};
 use kb_geometry::{Label, Shape, Symmetry, inverse};
 use std::alloc::{AllocError, Global};
 
-// Where the cells of a turned rectangle come from: a cell's number in the rectangle before is
+// Where the cells of a turned rectangle come from: a cell's number in the rectangle before it is turned is
 // `forward` for each cell to its left in the turned rectangle, `backward` for each to its right,
 // `down` for each row above it, and `up` for each row below it, all added up.
 #[derive(Clone, Copy, Debug)]
-struct Way {
+struct Strides {
     forward: u8,
     backward: u8,
     down: u8,
     up: u8,
 }
 
-impl Way {
+impl Strides {
     fn new(forward: u8, backward: u8, down: u8, up: u8) -> Self
         ensures { result
             ≡ record { forward = forward; backward = backward; down = down; up = up } }
     {
-        Way {
+        Strides {
             forward,
             backward,
             down,
@@ -85,11 +85,11 @@ pub(crate) fn turned_cells(
     ensures { IfOk result (λ cells. cells.items
         ≡ (grid_by to (turned_cell (number_of_label label) to (grid_of pattern.now))).cells) }
 {
-    let way = way_of(inverse(label.symmetry()), to);
+    let strides = strides_of(inverse(label.symmetry()), to);
     let table = table_of(label);
     let mut cells = vec![in alloc; PatternCell::Any; usize::from(to.count())]?;
     for y in 0..to.rows() {
-        fill_row(pattern, label, to, way, &table, y, &mut cells);
+        fill_row(pattern, label, to, strides, &table, y, &mut cells);
     }
     Ok(cells)
 }
@@ -99,8 +99,8 @@ fn fill_row(
     pattern: &Pattern,
     label: Label,
     to: Shape,
-    way: Way,
-    table: &Table,
+    strides: Strides,
+    table: &CellTable,
     y: u8,
     cells: &mut [PatternCell],
 )
@@ -108,8 +108,8 @@ fn fill_row(
         ≡ turned_cols (symmetry_of (number_of_label label)) (size_of pattern.now) }
     requires rows { rows_of to
         ≡ turned_rows (symmetry_of (number_of_label label)) (size_of pattern.now) }
-    requires way { IsWay (inverse_number (symmetry_of (number_of_label label))) to way }
-    requires table { IsTable (number_of_label label) table.now }
+    requires strides { AreStrides (inverse_number (symmetry_of (number_of_label label))) to strides }
+    requires table { IsCellTable (number_of_label label) table.now }
     requires row { y < rows_of to }
     requires above { AreFilledTo to (turned_cell (number_of_label label) to (grid_of pattern.now))
         (y * cols_of to) cells.old }
@@ -119,41 +119,41 @@ fn fill_row(
     let from = pattern.cells();
     let cols = usize::from(to.cols());
     let last = usize::from(to.cols() - 1);
-    let base = way.base(y, to.rows() - 1 - y);
+    let base = strides.base(y, to.rows() - 1 - y);
     let start = usize::from(y) * cols;
     for x in 0..cols {
-        let cell = from[way.at(base, x, last - x)];
+        let cell = from[strides.at(base, x, last - x)];
         cells[start + x] = table.look_up(cell);
     }
 }
 
 // Where the symmetry moves the points of a rectangle of this size. By the inverse of a label's
 // symmetry, that is where the cells of the turned rectangle come from.
-fn way_of(back: Symmetry, to: Shape) -> Way
-    ensures { IsWay (number_of_symmetry back) to result }
+fn strides_of(back: Symmetry, to: Shape) -> Strides
+    ensures { AreStrides (number_of_symmetry back) to result }
 {
     let cols = to.cols();
     let rows = to.rows();
     match back.number() {
-        0 => Way::new(1, 0, cols, 0),
-        1 => Way::new(0, 1, cols, 0),
-        2 => Way::new(1, 0, 0, cols),
-        3 => Way::new(0, 1, 0, cols),
-        4 => Way::new(rows, 0, 1, 0),
-        5 => Way::new(0, rows, 1, 0),
-        6 => Way::new(rows, 0, 0, 1),
-        _ => Way::new(0, rows, 0, 1),
+        0 => Strides::new(1, 0, cols, 0),
+        1 => Strides::new(0, 1, cols, 0),
+        2 => Strides::new(1, 0, 0, cols),
+        3 => Strides::new(0, 1, 0, cols),
+        4 => Strides::new(rows, 0, 1, 0),
+        5 => Strides::new(0, rows, 1, 0),
+        6 => Strides::new(rows, 0, 0, 1),
+        _ => Strides::new(0, rows, 0, 1),
     }
 }
 
-// What a label makes of each cell, in the order in which the cells are declared. It is made once a
-// label, so that no cell of a pattern costs a test.
+// What a label makes of each cell, in the order in which the cells are declared. It is made once
+// for each label, so that no cell of a pattern costs a test.
 #[derive(Clone, Copy, Debug)]
-struct Table {
+struct CellTable {
     made: [PatternCell; 6],
 }
 
-impl Table {
+impl CellTable {
     // What the label makes of a cell.
     fn look_up(&self, cell: PatternCell) -> PatternCell
         ensures { result ≡ looked_up self.now cell }
@@ -163,10 +163,10 @@ impl Table {
 }
 
 // The table of a label.
-fn table_of(label: Label) -> Table
-    ensures { IsTable (number_of_label label) result }
+fn table_of(label: Label) -> CellTable
+    ensures { IsCellTable (number_of_label label) result }
 {
-    Table {
+    CellTable {
         made: [
             labelled(label, PatternCell::Empty),
             labelled(label, PatternCell::Black),

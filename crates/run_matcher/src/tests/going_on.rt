@@ -87,9 +87,10 @@ const CASES: [Case; 14] = [
     (LINE, EMPTY, (0, 0), 4, 5),
     // A point under a wildcard changes.
     (LINE, (2, 1, "X*"), (0, 0), 1, 4),
-    (LINE, (2, 1, "*."), (1, 2), 0, 2),
+    (LINE, (2, 1, "*."), (0, 0), 0, 3),
     (LINE, (3, 1, "**."), (0, 0), 0, 5),
-    // A variation ends, and a point is again as it was before it.
+    // Variations: a point is again as it was before, or the other variation plays on it, or nothing
+    // changes any more.
     (VARIATIONS, BLACK, (0, 0), 1, 3),
     (VARIATIONS, EMPTY, (0, 0), 3, 4),
     (VARIATIONS, BLACK, (0, 0), 4, 6),

@@ -26,8 +26,8 @@ of_class-wants-requires c =
     let grids = ap (λ (v : ClassesOn). length v.grids) c.requires.wants in
     subst (λ (rs : List PlacementRow). (row_at rs index).class < length c.args.wants.now.grids) (sym c.deref-row-items.ensures.value) (omega (arith, (is.classes 0 is.some).in_range, grids))
 
-pub add_placements-requires-clause-on_board : goal.add_placements-requires-clause-on_board
-add_placements-requires-clause-on_board c =
+pub sieve_row-requires-clause-on_board : goal.sieve_row-requires-clause-on_board
+sieve_row-requires-clause-on_board c =
     let made = c.args.rows.now.made in
     let images = c.args.rows.now.images.now in
     let numbers = c.args.rows.now.numbers.items in
@@ -55,14 +55,14 @@ loop-row-preserved c =
     let row = row_at c.deref-row-items.result.now index in
     let same : row_at rows index ≡ row = ap (λ (rs : List PlacementRow). row_at rs index) (sym c.deref-row-items.ensures.value) in
     let start : c.loop-row.invariant.0 ≡ row.start = end-once rows index c.loop-row.invariant.0 (row_at rows index).start c.loop-row.invariant.1 (made.are_rows.parted index within) ∙ ap (λ (r : PlacementRow). r.start) same in
-    let added = subst (λ (ns : List ℕ). IsRowAdded planes.games row.base c.of_class-wants.result.now there (slice_range ns row.start (row.start + row.count)) c.loop-row.found.items c.add_placements.new.found.items)
-    c.deref.ensures.value c.in_ok-add_placements.ensures in (
+    let added = subst (λ (ns : List ℕ). IsRowAdded planes.games row.base c.of_class-wants.result.now there (slice_range ns row.start (row.start + row.count)) c.loop-row.found.items c.sieve_row.new.found.items)
+    c.deref.ensures.value c.in_ok-sieve_row.ensures in (
       row.start + row.count,
       end-of rows index (row.start + row.count) (ap (λ (r : PlacementRow). r.start + r.count) (sym same)),
       row-added images c.len-count.ensures.images planes c.requires.shape numbers made.in_range row (subst (IsRowIn images numbers) same (made.are_rows.each index within)) c.of_class-wants.result.now
           (subst (λ (v : ClassesOn). AreWantsOf v.shape (grid_at v.grids row.class) c.of_class-wants.result.now) c.requires.wants c.of_class-wants.ensures)
           there (λ g lt e. (c.present.ensures g lt).0 ((and-bit c.args.asked c.present.result g).0 e).1) made.once
-          c.args.found.now.items c.loop-row.found.items c.add_placements.new.found.items
+          c.args.found.now.items c.loop-row.found.items c.sieve_row.new.found.items
           (subst (λ (n : ℕ). AreAddedTo planes images.placements there numbers n c.args.found.now.items c.loop-row.found.items) start c.loop-row.invariant.2) added,
     )
 

@@ -1,11 +1,11 @@
 -- Each step down the main line, by the lemmas of `Descents.antt`.
-use Rattle.std.proofs.Common.{◌≡◌, ◌+◌, ◌≤◌, Bool, true, false, ◌∙◌, refl, sym, subst, arith}
+use Rattle.std.proofs.Common.{◌≡◌, ◌+◌, Bool, true, false, ◌∙◌, refl, sym, subst, arith}
 use Rattle.std.specs.Prelude.{◌==◌}
 use Rattle.std.proofs.lemmas.Bool.{eq-eqb}
 use Rattle.game_tree.specs.Tree.{move_number_of, node_at}
 use Rattle.continuation_table.specs.Descending.{IsWayDown}
 use Rattle.continuation_table.proofs.Descents.{IsWayDown-more, IsWayDown-start, moves-more, quiet-more}
-use Rattle.continuation_table.proofs.MainLines.{main-before, main-first_child, main-in_range, main-parent}
+use Rattle.continuation_table.proofs.MainLines.{main-first_child, main-in_range, main-parent}
 use Rattle.continuation_table.proofs.way_down.passed_to.Goals as goal
 
 pub loop-here-init : goal.loop-here-init
@@ -26,8 +26,8 @@ loop-here-preserved c =
     let tree = c.args.tree.now in
     let here = c.loop-here.here in
     let count = move_number_of tree c.args.node in
-    let good = c.main_before-end.ensures.tree in
-    let main = c.main_before-end.ensures.main (here + 1) c.loop-here-test.true in
+    let good = c.node_count-count.ensures.tree in
+    let main = (c.main_count.ensures (here + 1)).0 (omega (arith, c.loop-here-test.true)) in
     let more = moves-more tree good (here + 1) here (main-parent tree good here main) in
     record {
       in_range = main-in_range tree good here main;
@@ -38,21 +38,15 @@ loop-here-preserved c =
           (c.loop-here.invariant.way deltas placement is holds known)
           (here + 1) (main-first_child tree good here main)
           (λ inside. let no : false ≡ true = sym c.if-has_move_inside.false ∙ (c.has_move_inside.ensures placement is).1 inside in absurd cc)
-          (known (here + 1) (omega (arith, c.loop-here.invariant.behind)) (omega (arith, c.loop-here-test.true, c.main_before-end.ensures.least)))
+          (known (here + 1) (omega (arith, c.loop-here.invariant.behind)) (omega (arith, c.loop-here-test.true)))
           (move_number_of tree (here + 1) == count)
           (quiet-more count (move_number_of tree here) (move_number_of tree (here + 1)) (node_at tree (here + 1)).played c.loop-here.invariant.moves more);
     }
 
 pub has_move_inside-requires-clause-node : goal.has_move_inside-requires-clause-node
-has_move_inside-requires-clause-node c = main-in_range c.args.tree.now c.main_before-end.ensures.tree c.loop-here.here (c.main_before-end.ensures.main (c.loop-here.here + 1) c.loop-here-test.true)
+has_move_inside-requires-clause-node c =
+    main-in_range c.args.tree.now c.node_count-count.ensures.tree c.loop-here.here ((c.main_count.ensures (c.loop-here.here + 1)).0 (omega (arith, c.loop-here-test.true)))
 
 pub returns-clause-stopped : goal.returns-clause-stopped
 returns-clause-stopped c = λ before on placement is.
-    let tree = c.args.tree.now in
-    let good = c.main_before-end.ensures.tree in
-    let here = c.loop-here.here in
-    let past : c.main_before-end.result ≤ here + 1 = omega (arith, c.loop-here-test.false) in
-    absurd (c.main_before-end.ensures.most
-    (main-before tree good on c.args.node (omega (arith, c.loop-here.invariant.behind)))
-    (omega arith) (omega (arith, main-in_range tree good here on))
-    (main-before tree good on c.main_before-end.result past))
+    absurd (omega (arith, c.loop-here-test.false, before, (c.main_count.ensures (c.loop-here.here + 1)).1 on))

@@ -4,7 +4,7 @@ use Rattle.kb_geometry.specs.Board.{cols_of, IsOnBoard}
 use Rattle.kb_geometry.specs.Symmetry.{number_of_label, inverse_number, symmetry_of, moved, turned_cols, point_of}
 use Rattle.pattern_images.specs.Pattern.{grid_of}
 use Rattle.pattern_images.specs.Turned.{turned_cell, AreFilledTo}
-use Rattle.pattern_images.proofs.Turned.{filled-more, cell-from, from-lt, way-number}
+use Rattle.pattern_images.proofs.Turned.{filled-more, cell-from, from-lt, strides-number}
 use Rattle.pattern_images.proofs.turning.fill_row.Goals as goal
 
 pub loop-x-init : goal.loop-x-init
@@ -18,7 +18,7 @@ bounds-from-at c =
     let n = inverse_number (symmetry_of (number_of_label c.args.label)) in
     let on : IsOnBoard to p = (omega arith, c.requires.row) in
     let there : c.at.result ≡ (moved n to p).y * turned_cols n to + (moved n to p).x =
-    way-number n to c.args.way p (c.rows.result - 1 - c.args.y) (c.from-last.result - x) c.base-base.result c.at.result c.requires.way on (omega arith) (omega arith) c.base-base.ensures.value c.at.ensures in
+    strides-number n to c.args.strides p (c.rows.result - 1 - c.args.y) (c.from-last.result - x) c.base-base.result c.at.result c.requires.strides on (omega arith) (omega arith) c.base-base.ensures.value c.at.ensures in
     from-lt c.args.pattern.now (number_of_label c.args.label) to p (c.requires.cols, c.requires.rows) n c.at.result c.cells-from.result.now on refl there c.cells-from.ensures.value
 
 pub loop-x-preserved : goal.loop-x-preserved
@@ -31,7 +31,7 @@ loop-x-preserved c =
     let on : IsOnBoard to p = (omega arith, c.requires.row) in
     let start : c.from.result * c.from-cols.result ≡ c.args.y * cols_of to = ap (λ a. a * c.from-cols.result) c.from.ensures ∙ ap (λ b. c.args.y * b) (c.from-cols.ensures ∙ c.cols.ensures.value) in
     let there : c.at.result ≡ (moved n to p).y * turned_cols n to + (moved n to p).x =
-    way-number n to c.args.way p (c.rows.result - 1 - c.args.y) (c.from-last.result - x) c.base-base.result c.at.result c.requires.way on (omega arith) (omega arith) c.base-base.ensures.value c.at.ensures in
+    strides-number n to c.args.strides p (c.rows.result - 1 - c.args.y) (c.from-last.result - x) c.base-base.result c.at.result c.requires.strides on (omega arith) (omega arith) c.base-base.ensures.value c.at.ensures in
     subst (λ n. AreFilledTo to (turned_cell (number_of_label c.args.label) to (grid_of c.args.pattern.now)) n (set c.loop-x.cells (c.from.result * c.from-cols.result + c.loop-x.x) c.look_up.result)) (omega arith)
     (filled-more to (turned_cell (number_of_label c.args.label) to (grid_of c.args.pattern.now)) k p c.loop-x.cells (set c.loop-x.cells (c.from.result * c.from-cols.result + c.loop-x.x) c.look_up.result)
     on refl c.loop-x.invariant

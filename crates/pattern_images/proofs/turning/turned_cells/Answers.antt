@@ -4,13 +4,13 @@ use Rattle.std.proofs.Math.Nat.{mul_comm}
 use Rattle.kb_geometry.specs.Board.{cols_of, rows_of}
 use Rattle.kb_geometry.specs.Symmetry.{inverse_number, number_of_label}
 use Rattle.pattern_images.specs.Pattern.{grid_of}
-use Rattle.pattern_images.specs.Turned.{turned_cell, IsWay}
+use Rattle.pattern_images.specs.Turned.{turned_cell, AreStrides}
 use Rattle.pattern_images.proofs.Turned.{filled-start, filled-all}
 use Rattle.pattern_images.proofs.turning.turned_cells.Goals as goal
 
-pub fill_row-requires-clause-way : goal.fill_row-requires-clause-way
-fill_row-requires-clause-way c =
-    subst (λ n. IsWay n c.args.to c.way_of-way.result) (c.inverse.ensures.value ∙ ap inverse_number c.symmetry.ensures) c.way_of-way.ensures
+pub fill_row-requires-clause-strides : goal.fill_row-requires-clause-strides
+fill_row-requires-clause-strides c =
+    subst (λ n. AreStrides n c.args.to c.strides_of-strides.result) (c.inverse.ensures.value ∙ ap inverse_number c.symmetry.ensures) c.strides_of-strides.ensures
 
 pub loop-y-init : goal.loop-y-init
 loop-y-init c = filled-start c.args.to (turned_cell (number_of_label c.args.label) c.args.to (grid_of c.args.pattern.now)) (0 * cols_of c.args.to) c.in_ok-cells.cells.items

@@ -1,7 +1,7 @@
 use Rattle.std.proofs.Common.{◌≡◌, ℕ, List, length, arith, subst}
 use Rattle.candidate_sieve.specs.BlockGames.{AreAddedFor}
 use Rattle.candidate_sieve.proofs.RowsSieved.{one-added}
-use Rattle.candidate_sieve.proofs.candidates.add_placements.Goals as goal
+use Rattle.candidate_sieve.proofs.candidates.sieve_row.Goals as goal
 
 pub returns-in-len1 : goal.returns-in-len1
 returns-in-len1 c =
