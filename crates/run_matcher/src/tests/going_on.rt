@@ -7,7 +7,7 @@ use crate::RunMatcher;
 use capture_board::{NodeDeltas, Steps};
 use capture_index::RunIndex;
 use kb_geometry::Shape;
-use pattern_images::{Images, images};
+use pattern_images::{Images, Query, images};
 use std::alloc::Global;
 use std::marker::Brand;
 use std::process::Abort;
@@ -31,9 +31,21 @@ fn held_to<L: Ledger>(
     let shape = Shape::new(3, 3).expect(rt, "a board");
     let mut steps = Steps::<L>::new(blank);
     let deltas = game_of(rt, alloc, shape, rows, &mut steps)?;
+    let query = query_of(rt, alloc, asked)?;
+    held_in(rt, alloc, &deltas, shape, &query, node)
+}
+
+fn held_in(
+    rt: &impl Abort,
+    alloc: Global,
+    deltas: &NodeDeltas,
+    shape: Shape,
+    query: &Query,
+    node: u32,
+) -> Result<u32, Fail> {
     assert_eq!(rt; deltas.shape(), shape);
-    let images = images(alloc, &query_of(rt, alloc, asked)?, shape)?;
-    by_runs(rt, alloc, &deltas, &images, node)
+    let images = images(alloc, query, shape)?;
+    by_runs(rt, alloc, deltas, &images, node)
 }
 
 fn by_runs(
