@@ -66,7 +66,7 @@ pub fn add_candidates(
     let bare = planes.always_empty();
     let _count = rows.images.len();
     for row in &rows.rows {
-        let wants = wants.of_class(row.class);
+        let wants = wants.of_class(row.class).wants;
         let numbers = &rows.numbers[row.start..row.start + row.count];
         sieve_row(planes, bare, row.base, wants, numbers, there, room, found)?;
     }

@@ -4,9 +4,9 @@ pub mod OnBoard
 pub mod Made
 pub mod Steps
 pub mod CutRuns
+pub mod EmptyPoints
 pub mod Hulls
 pub mod Narrowing
-pub mod NeverMet
 pub mod Packed
 pub mod BegunNodes
 pub mod Branchings

@@ -77,7 +77,7 @@ module _ (index : PackedRuns) (base : ℕ) (wants : List Want) (i : ℕ) (lt : i
     pub bound-more : (after : Bounds) → IsNarrowed before (IsMet index base want) after → (is_many (time_at index (base + want.offset)) ≡ false → (n : ℕ) → IsBounded after n → IsMet index base want n) →
         (after.gaps ≡ 0 → (n : ℕ) → IsBounded after n → IsMet index base want n) → IsBoundTo index base wants (i + 1) after
     bound-more after narrowed word whole = record {
-      kept = λ n in_range all. narrowed.kept n (bound.kept n in_range (λ k l. all k (omega arith))) (all i (omega arith));
+      kept = λ n in_range all. narrowed.kept n (bound.kept n in_range all) (all i lt);
       inside = λ n b. bound.inside n (narrowed.inside n b);
       words = λ n b. below_more (λ k. is_many (time_at index (base + (slice_index_or wants k no_want).offset)) ≡ false → IsMet index base (slice_index_or wants k no_want) n) i (bound.words n (narrowed.inside n b)) (λ few. word few n b);
       whole = λ e n b. below_more (λ k. IsMet index base (slice_index_or wants k no_want) n) i (bound.whole (narrowed.gaps e) n (narrowed.inside n b)) (whole e n b);
@@ -100,7 +100,7 @@ module _ (index : PackedRuns) (base : ℕ) (wants : List Want) (i : ℕ) (lt : i
           (λ f n b. met n (whole n b.0 b.1)) (λ e n b. met n (whole n b.0 b.1))
 
     pub bound-none : ((n : ℕ) → IsBounded before n → IsMet index base want n → ⊥) → (n : ℕ) → n < index.nodes → AreMet index base wants n → ⊥
-    bound-none none n in_range all = none n (bound.kept n in_range (λ k l. all k (omega arith))) (all i (omega arith))
+    bound-none none n in_range all = none n (bound.kept n in_range all) (all i lt)
 
   -- ---- cut at a list
   pub IsCutBy-more : (start before after : List Stretch) → IsCutBy index base wants i start before → IsCutAt index base want before after → IsCutBy index base wants (i + 1) start after

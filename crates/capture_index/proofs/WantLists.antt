@@ -1,7 +1,7 @@
 -- The wants of classes, one list after another.
 use Rattle.std.proofs.Common.{◌≡◌, ◌≢◌, ◌⊎◌, ℕ, suc, ◌+◌, ◌-◌, ◌*◌, ◌<◌, ◌≤◌, List, [], ◌∷◌, ◌++◌, length, get_or, take, drop, refl, sym, ap, ◌∙◌, arith, subst, inl, inr, append_assoc}
-use Rattle.std.specs.Prelude.{All, Any, Bool, true, false, slice_index_or, slice_range}
-use Rattle.std.proofs.lemmas.Bool.{cases_Bool, cases_eq, cases_lt, false≢true}
+use Rattle.std.specs.Prelude.{All, Any, slice_index_or, slice_range}
+use Rattle.std.proofs.lemmas.Bool.{cases_Bool, cases_eq, cases_lt, false_from_ne_true, false≢true}
 use Rattle.std.proofs.Math.Seq.{get_or-append_right}
 use Rattle.std.proofs.lemmas.Nat.{mul-add-lt}
 use Rattle.std.proofs.lemmas.List.{append-nil, length-append, length-drop, length_push, get_or_append_left, get_or_default, get_or_push, drop-append-le, take-append-le, drop_at, take_all}
@@ -19,9 +19,10 @@ use Rattle.pattern_images.specs.ImageList.{grid_at}
 use Rattle.pattern_images.proofs.Turned.{point-numbered}
 use Rattle.capture_index.specs.declared.stretch.Want.{Want}
 use Rattle.capture_index.specs.declared.wants.WantRange.{WantRange}
-use Rattle.capture_index.specs.StoredWants.{AreParted, ArePartedOn, AreWantsAdded, HasRank, HaveWantsTo, IsClassAdded, IsWantPut, IsRangeOf, IsWantWith, cell_with, grid_with, rank_of, wants_in}
+use Rattle.capture_index.specs.declared.wanted.OtherWants.{OtherWants}
+use Rattle.capture_index.specs.StoredWants.{AreClassWants, AreParted, ArePartedOn, AreWantsAdded, HasRank, HaveWantsTo, IsClassAdded, IsWantPut, IsOfStone, IsRangeOf, IsWantWith, MayBeEmpty, cell_with, grid_with, rank_of, wants_in}
 use Rattle.capture_index.specs.Stretches.{no_want}
-use Rattle.capture_index.specs.Wants.{AreWantsOf, ClassesOn, IsWantAt, IsWantIn, IsWantOf}
+use Rattle.capture_index.specs.Wants.{AreEmptiesFrom, AreWantsOf, ClassesOn, IsOfEmpty, IsWantAt, IsWantIn, IsWantOf}
 
 -- ---- some element of two lists
 Any-left : {X : Type 0} (P : X → Type 0) (xs ys : List X) → Any P xs → Any P (xs ++ ys)
@@ -40,17 +41,21 @@ grid_with-same size cells grid cols rows same =
 
 -- ---- the wants of one class
 
--- a want of a cell allows an empty point where the cell may be empty
-may_be_empty : (c : PatternCell) (want : Want) → IsWantOf c want → rank_of c ≡ 1 → want.empty ≡ true
-may_be_empty cell.Empty want is r = (is stone.Empty).1 refl
+-- the wants of cells of a rank are of a kind
+abbrev OfKind : ℕ → (Want → Type 0) → Type 0
+OfKind rank IsKind = (c : PatternCell) (want : Want) → IsWantOf c want → rank_of c ≡ rank → IsKind want
+
+-- a want of a cell allows an empty point where the cell may be a stone or empty
+may_be_empty : OfKind 1 MayBeEmpty
 may_be_empty cell.NotWhite want is r = (is stone.Empty).1 (λ e. absurd cc)
 may_be_empty cell.NotBlack want is r = (is stone.Empty).1 (λ e. absurd cc)
+may_be_empty cell.Empty want is r = absurd cc
 may_be_empty cell.Black want is r = absurd cc
 may_be_empty cell.White want is r = absurd cc
 may_be_empty cell.Any want is r = absurd cc
 
--- and not where it must be a stone
-must_be_stone : (c : PatternCell) (want : Want) → IsWantOf c want → rank_of c ≡ 0 → want.empty ≡ false
+-- not where it must be a stone
+must_be_stone : OfKind 0 IsOfStone
 must_be_stone c want is r = elim (cases_Bool want.empty) [
   | inl t ↦ absurd (no_empty c ((is stone.Empty).0 t) r)
   | inr f ↦ f
@@ -64,9 +69,18 @@ must_be_stone c want is r = elim (cases_Bool want.empty) [
     no_empty cell.NotBlack e r = cc
     no_empty cell.Any e r = cc
 
--- the wants of cells of a rank allow an empty point, or don't
-abbrev OfKind : ℕ → Bool → Type 0
-OfKind rank allowing = (c : PatternCell) (want : Want) → IsWantOf c want → rank_of c ≡ rank → want.empty ≡ allowing
+-- and an empty point alone where it must be empty
+must_be_empty : OfKind 2 IsOfEmpty
+must_be_empty cell.Empty want is r = (
+  (is stone.Empty).1 refl,
+  false_from_ne_true want.black (λ t. let e : stone.Black ≡ stone.Empty = (is stone.Black).0 t in cc),
+  false_from_ne_true want.white (λ t. let e : stone.White ≡ stone.Empty = (is stone.White).0 t in cc),
+)
+must_be_empty cell.NotWhite want is r = absurd cc
+must_be_empty cell.NotBlack want is r = absurd cc
+must_be_empty cell.Black want is r = absurd cc
+must_be_empty cell.White want is r = absurd cc
+must_be_empty cell.Any want is r = absurd cc
 
 module _ (shape : Shape) (grid : Grid) where
   -- a want that is made for the cell in a column and a row
@@ -86,21 +100,21 @@ module _ (shape : Shape) (grid : Grid) where
         (ap (λ (q : Point). q.x) same, ap (λ (q : Point). q.y) same);
   }
 
-  pub AreWantsAdded-none : (allowing : Bool) (IsAsked : ℕ → Type 0) (before : List Want) → ((k : ℕ) → ¬ IsAsked k) → AreWantsAdded shape grid allowing IsAsked before before
-  AreWantsAdded-none allowing IsAsked before none = record {
+  pub AreWantsAdded-none : (IsKind : Want → Type 0) (IsAsked : ℕ → Type 0) (before : List Want) → ((k : ℕ) → ¬ IsAsked k) → AreWantsAdded shape grid IsKind IsAsked before before
+  AreWantsAdded-none IsKind IsAsked before none = record {
     more = [];
     added = sym (append-nil before);
     sound = All-nil (IsWantIn shape grid);
-    kind = All-nil (λ (w : Want). w.empty ≡ allowing);
+    kind = All-nil IsKind;
     complete = λ k asked. absurd (none k asked);
   }
 
-  AreWantsAdded-join : (allowing : Bool) (A B C : ℕ → Type 0) (before now later : List Want) → AreWantsAdded shape grid allowing A before now → AreWantsAdded shape grid allowing B now later → ((k : ℕ) → C k → A k ⊎ B k) → AreWantsAdded shape grid allowing C before later
-  AreWantsAdded-join allowing A B C before now later a b parts = record {
+  AreWantsAdded-join : (IsKind : Want → Type 0) (A B C : ℕ → Type 0) (before now later : List Want) → AreWantsAdded shape grid IsKind A before now → AreWantsAdded shape grid IsKind B now later → ((k : ℕ) → C k → A k ⊎ B k) → AreWantsAdded shape grid IsKind C before later
+  AreWantsAdded-join IsKind A B C before now later a b parts = record {
     more = a.more ++ b.more;
     added = b.added ∙ ap (λ (ws : List Want). ws ++ b.more) a.added ∙ append_assoc before a.more b.more;
     sound = All-append (IsWantIn shape grid) a.more b.more a.sound b.sound;
-    kind = All-append (λ (w : Want). w.empty ≡ allowing) a.more b.more a.kind b.kind;
+    kind = All-append IsKind a.more b.more a.kind b.kind;
     complete = λ k asked. elim (parts k asked) [
       | inl first ↦ Any-left (IsWantWith shape grid k) a.more b.more (a.complete k first)
       | inr second ↦ Any-right (IsWantWith shape grid k) a.more b.more (b.complete k second)
@@ -111,8 +125,8 @@ module _ (shape : Shape) (grid : Grid) where
   abbrev IsThis : ℕ → ℕ → ℕ → Type 0
   IsThis rank n k = (k ≡ n) × (rank_of (cell_with grid k) ≡ rank)
 
-  module _ (rank : ℕ) (allowing : Bool) (of_kind : OfKind rank allowing) (size : Shape) (cols : cols_of size ≡ grid.cols) (rows : rows_of size ≡ grid.rows) (dx dy : ℕ) (column : dx < cols_of size) (row : dy < rows_of size) where
-    this-added : (now later : List Want) → IsWantPut rank (cell_in grid dx dy) (dy * cols_of shape + dx) now later → AreWantsAdded shape grid allowing (IsThis rank (dy * grid.cols + dx)) now later
+  module _ (rank : ℕ) (IsKind : Want → Type 0) (of_kind : OfKind rank IsKind) (size : Shape) (cols : cols_of size ≡ grid.cols) (rows : rows_of size ≡ grid.rows) (dx dy : ℕ) (column : dx < cols_of size) (row : dy < rows_of size) where
+    this-added : (now later : List Want) → IsWantPut rank (cell_in grid dx dy) (dy * cols_of shape + dx) now later → AreWantsAdded shape grid IsKind (IsThis rank (dy * grid.cols + dx)) now later
     this-added now later put = elim (cases_eq (rank_of (cell_in grid dx dy)) rank) [
       | inl has ↦
           let (want, offset, is, e) = put.0 has in
@@ -121,27 +135,28 @@ module _ (shape : Shape) (grid : Grid) where
             more = want ∷ [];
             added = e;
             sound = All-cons (IsWantIn shape grid) want [] (one.dx, one.dy, one.column, one.row, one.is) (All-nil (IsWantIn shape grid));
-            kind = All-cons (λ (w : Want). w.empty ≡ allowing) want [] (of_kind (cell_in grid dx dy) want is has) (All-nil (λ (w : Want). w.empty ≡ allowing));
+            kind = All-cons IsKind want [] (of_kind (cell_in grid dx dy) want is has) (All-nil IsKind);
             complete = λ k this. (0, want, omega arith, refl, subst (λ (i : ℕ). IsWantWith shape grid i want) (sym this.0) one);
           }
       | inr other ↦
-          subst (AreWantsAdded shape grid allowing (IsThis rank (dy * grid.cols + dx)) now) (sym (put.1 other))
-          (AreWantsAdded-none allowing (IsThis rank (dy * grid.cols + dx)) now (λ k this. other (ap (λ (i : ℕ). rank_of (cell_with grid i)) (sym this.0) ∙ this.1)))
+          subst (AreWantsAdded shape grid IsKind (IsThis rank (dy * grid.cols + dx)) now) (sym (put.1 other))
+          (AreWantsAdded-none IsKind (IsThis rank (dy * grid.cols + dx)) now (λ k this. other (ap (λ (i : ℕ). rank_of (cell_with grid i)) (sym this.0) ∙ this.1)))
     ]
 
     -- one cell more
-    AreWantsAdded-cell : (before now later : List Want) → AreWantsAdded shape grid allowing (HasRank grid rank (dy * grid.cols + dx)) before now → IsWantPut rank (cell_in grid dx dy) (dy * cols_of shape + dx) now later →
-        AreWantsAdded shape grid allowing (HasRank grid rank (dy * grid.cols + dx + 1)) before later
+    AreWantsAdded-cell : (before now later : List Want) → AreWantsAdded shape grid IsKind (HasRank grid rank (dy * grid.cols + dx)) before now → IsWantPut rank (cell_in grid dx dy) (dy * cols_of shape + dx) now later →
+        AreWantsAdded shape grid IsKind (HasRank grid rank (dy * grid.cols + dx + 1)) before later
     AreWantsAdded-cell before now later so_far put =
-        AreWantsAdded-join allowing (HasRank grid rank (dy * grid.cols + dx)) (IsThis rank (dy * grid.cols + dx)) (HasRank grid rank (dy * grid.cols + dx + 1)) before now later so_far (this-added now later put)
+        AreWantsAdded-join IsKind (HasRank grid rank (dy * grid.cols + dx)) (IsThis rank (dy * grid.cols + dx)) (HasRank grid rank (dy * grid.cols + dx + 1)) before now later so_far (this-added now later put)
         (λ k has. elim (cases_lt k (dy * grid.cols + dx)) [ inl less ↦ inl (less, has.1) | inr from ↦ inr (omega (arith, has.0), has.1) ])
 
   -- nothing is parted yet
-  pub AreParted-start : (before others : List Want) → others ≡ [] → AreParted shape grid 0 before before others
-  AreParted-start before others none = (
-    AreWantsAdded-none false (HasRank grid 0 0) before (λ k has. absurd (omega (arith, has.0))),
-    subst (AreWantsAdded shape grid true (HasRank grid 1 0) []) (sym none) (AreWantsAdded-none true (HasRank grid 1 0) [] (λ k has. absurd (omega (arith, has.0)))),
-  )
+  pub AreParted-start : (before : List Want) (others : OtherWants) → others.mixed.items ≡ [] → others.empties.items ≡ [] → AreParted shape grid 0 before before others
+  AreParted-start before others mixed empties = record {
+    stones = AreWantsAdded-none IsOfStone (HasRank grid 0 0) before (λ k has. absurd (omega (arith, has.0)));
+    mixed = subst (AreWantsAdded shape grid MayBeEmpty (HasRank grid 1 0) []) (sym mixed) (AreWantsAdded-none MayBeEmpty (HasRank grid 1 0) [] (λ k has. absurd (omega (arith, has.0))));
+    empties = subst (AreWantsAdded shape grid IsOfEmpty (HasRank grid 2 0) []) (sym empties) (AreWantsAdded-none IsOfEmpty (HasRank grid 2 0) [] (λ k has. absurd (omega (arith, has.0))));
+  }
 
   -- a cell of the list of cells is the one in its column and row
   pub IsWantPut-read : (rank : ℕ) (i j dx dy : ℕ) (d : PatternCell) (now later : List Want) → i ≡ dy * grid.cols + dx → i < length grid.cells → j ≡ dy * cols_of shape + dx →
@@ -150,55 +165,91 @@ module _ (shape : Shape) (grid : Grid) where
       let read : get_or grid.cells i d ≡ cell_in grid dx dy = get_or_default grid.cells i d cell.Any lt ∙ ap (λ (n : ℕ). get_or grid.cells n cell.Any) at in
       subst (λ (c : PatternCell). IsWantPut rank c (dy * cols_of shape + dx) now later) read (subst (λ (n : ℕ). IsWantPut rank (get_or grid.cells i d) n now later) behind put)
 
-  pub ArePartedOn-none : (n : ℕ) (stones others : List Want) → ArePartedOn shape grid n n stones others stones others
-  ArePartedOn-none n stones others before parted = parted
+  pub ArePartedOn-none : (n : ℕ) (now : List Want) (others : OtherWants) → ArePartedOn shape grid n n now others now others
+  ArePartedOn-none n now others before parted = parted
 
   -- one cell more
-  pub ArePartedOn-more : (size : Shape) → cols_of size ≡ grid.cols → rows_of size ≡ grid.rows → (dx dy : ℕ) → dx < cols_of size → dy < rows_of size → (from : ℕ) (stones others now_stones now_others later_stones later_others : List Want) →
-      ArePartedOn shape grid from (dy * grid.cols + dx) stones others now_stones now_others → IsWantPut 0 (cell_in grid dx dy) (dy * cols_of shape + dx) now_stones later_stones → IsWantPut 1 (cell_in grid dx dy) (dy * cols_of shape + dx) now_others later_others →
-      ArePartedOn shape grid from (dy * grid.cols + dx + 1) stones others later_stones later_others
-  ArePartedOn-more size cols rows dx dy column row from stones others now_stones now_others later_stones later_others so_far stone other before parted =
-      let now = so_far before parted in (
-        AreWantsAdded-cell 0 false must_be_stone size cols rows dx dy column row before now_stones later_stones now.0 stone,
-        AreWantsAdded-cell 1 true may_be_empty size cols rows dx dy column row [] now_others later_others now.1 other,
-      )
+  pub ArePartedOn-more : (size : Shape) → cols_of size ≡ grid.cols → rows_of size ≡ grid.rows → (dx dy : ℕ) → dx < cols_of size → dy < rows_of size → (from : ℕ) (start : List Want) (first : OtherWants) (now : List Want) (others : OtherWants) (later : List Want) (later_others : OtherWants) →
+      ArePartedOn shape grid from (dy * grid.cols + dx) start first now others → IsWantPut 0 (cell_in grid dx dy) (dy * cols_of shape + dx) now later → IsWantPut 1 (cell_in grid dx dy) (dy * cols_of shape + dx) others.mixed.items later_others.mixed.items → IsWantPut 2 (cell_in grid dx dy) (dy * cols_of shape + dx) others.empties.items later_others.empties.items →
+      ArePartedOn shape grid from (dy * grid.cols + dx + 1) start first later later_others
+  ArePartedOn-more size cols rows dx dy column row from start first now others later later_others so_far stone mixed empty before parted =
+      let here = so_far before parted in
+      record {
+        stones = AreWantsAdded-cell 0 IsOfStone must_be_stone size cols rows dx dy column row before now later here.stones stone;
+        mixed = AreWantsAdded-cell 1 MayBeEmpty may_be_empty size cols rows dx dy column row [] others.mixed.items later_others.mixed.items here.mixed mixed;
+        empties = AreWantsAdded-cell 2 IsOfEmpty must_be_empty size cols rows dx dy column row [] others.empties.items later_others.empties.items here.empties empty;
+      }
 
   -- each cell but wildcards has one of the ranks
-  rank-of : (c : PatternCell) → c ≢ cell.Any → (rank_of c ≡ 0) ⊎ (rank_of c ≡ 1)
-  rank-of cell.Empty ne = inr refl
+  rank-of : (c : PatternCell) → c ≢ cell.Any → (rank_of c ≡ 0) ⊎ ((rank_of c ≡ 1) ⊎ (rank_of c ≡ 2))
+  rank-of cell.Empty ne = inr (inr refl)
   rank-of cell.Black ne = inl refl
   rank-of cell.White ne = inl refl
-  rank-of cell.NotWhite ne = inr refl
-  rank-of cell.NotBlack ne = inr refl
+  rank-of cell.NotWhite ne = inr (inl refl)
+  rank-of cell.NotBlack ne = inr (inl refl)
   rank-of cell.Any ne = absurd (ne refl)
 
-  -- the wants of the stones, and behind them those of the other cells
-  pub AreWantsOf-parted : (count : ℕ) → count ≡ grid.cols * grid.rows → (before stones others : List Want) (parted : AreParted shape grid count before stones others) → AreWantsOf shape grid (parted.0.more ++ others)
-  AreWantsOf-parted count all before stones others (first, second) =
-      let is : others ≡ second.more = second.added in
-      record {
-        sound = All-append (IsWantIn shape grid) first.more others first.sound (subst (All (IsWantIn shape grid)) (sym is) second.sound);
-        complete = λ dx dy in_cols in_rows asks.
-            let k : ℕ = dy * grid.cols + dx in
-            let lt : k < count = omega (arith, mul-add-lt dy grid.cols dx grid.rows in_rows in_cols, all) in
-            Any-weaker (IsWantWith shape grid k) (IsWantAt shape grid dx dy)
-            (λ want is.
-            let same = is.only dx dy in_cols in_rows refl in
-            subst (λ (x : ℕ). IsWantAt shape grid x dy want) (sym same.0) (subst (λ (y : ℕ). IsWantAt shape grid is.dx y want) (sym same.1) is.is))
-            (first.more ++ others) (elim (rank-of (cell_in grid dx dy) asks) [
-              | inl stone ↦ Any-left (IsWantWith shape grid k) first.more others (first.complete k (lt, stone))
-              | inr other ↦ Any-right (IsWantWith shape grid k) first.more others (subst (Any (IsWantWith shape grid k)) (sym is) (second.complete k (lt, other)))
-            ]);
-        stones_first = λ j k less lt e. elim (cases_lt k (length first.more)) [
-          | inl stone ↦
-              let early : slice_index_or (first.more ++ others) j no_want ≡ slice_index_or first.more j no_want = get_or_append_left first.more others no_want j (omega (arith, less, stone)) in
-              absurd (false≢true (sym (first.kind j no_want (omega arith)) ∙ ap (λ (w : Want). w.empty) (sym early) ∙ e))
-          | inr other ↦
-              let late : slice_index_or (first.more ++ others) k no_want ≡ slice_index_or others (k - length first.more) no_want = get_or-append_right first.more others k no_want other in
-              let below : k - length first.more < length others = omega (arith, length-append first.more others) in
-              ap (λ (w : Want). w.empty) late ∙ subst (All (λ (w : Want). w.empty ≡ true)) (sym is) second.kind (k - length first.more) no_want below
-        ];
-      }
+  -- the wants of the stones, behind them those of the cells that may be a stone, and behind those the
+  -- ones of the empty points
+  module _ (count : ℕ) (all : count ≡ grid.cols * grid.rows) (before now : List Want) (others : OtherWants) (parted : AreParted shape grid count before now others) where
+    abbrev stones : List Want
+    stones = parted.stones.more
+
+    abbrev mixed : List Want
+    mixed = others.mixed.items
+
+    abbrev empties : List Want
+    empties = others.empties.items
+
+    abbrev behind : List Want
+    behind = mixed ++ empties
+
+    mixed-sound : All (IsWantIn shape grid) mixed
+    mixed-sound = subst (All (IsWantIn shape grid)) (sym parted.mixed.added) parted.mixed.sound
+
+    empties-sound : All (IsWantIn shape grid) empties
+    empties-sound = subst (All (IsWantIn shape grid)) (sym parted.empties.added) parted.empties.sound
+
+    empties-kind : All IsOfEmpty empties
+    empties-kind = subst (All IsOfEmpty) (sym parted.empties.added) parted.empties.kind
+
+    behind-kind : All MayBeEmpty behind
+    behind-kind = All-append MayBeEmpty mixed empties (subst (All MayBeEmpty) (sym parted.mixed.added) parted.mixed.kind) (All-weaker IsOfEmpty MayBeEmpty (λ w is. is.0) empties empties-kind)
+
+    has-want : (k : ℕ) → k < count → (rank_of (cell_with grid k) ≡ 0) ⊎ ((rank_of (cell_with grid k) ≡ 1) ⊎ (rank_of (cell_with grid k) ≡ 2)) → Any (IsWantWith shape grid k) (stones ++ behind)
+    has-want k lt (inl stone) = Any-left (IsWantWith shape grid k) stones behind (parted.stones.complete k (lt, stone))
+    has-want k lt (inr (inl either)) = Any-right (IsWantWith shape grid k) stones behind (Any-left (IsWantWith shape grid k) mixed empties (subst (Any (IsWantWith shape grid k)) (sym parted.mixed.added) (parted.mixed.complete k (lt, either))))
+    has-want k lt (inr (inr empty)) = Any-right (IsWantWith shape grid k) stones behind (Any-right (IsWantWith shape grid k) mixed empties (subst (Any (IsWantWith shape grid k)) (sym parted.empties.added) (parted.empties.complete k (lt, empty))))
+
+    pub AreWantsOf-parted : AreWantsOf shape grid (stones ++ behind)
+    AreWantsOf-parted = record {
+      sound = All-append (IsWantIn shape grid) stones behind parted.stones.sound (All-append (IsWantIn shape grid) mixed empties mixed-sound empties-sound);
+      complete = λ dx dy in_cols in_rows asks.
+          let k : ℕ = dy * grid.cols + dx in
+          let lt : k < count = omega (arith, mul-add-lt dy grid.cols dx grid.rows in_rows in_cols, all) in
+          Any-weaker (IsWantWith shape grid k) (IsWantAt shape grid dx dy)
+          (λ want is.
+          let same = is.only dx dy in_cols in_rows refl in
+          subst (λ (x : ℕ). IsWantAt shape grid x dy want) (sym same.0) (subst (λ (y : ℕ). IsWantAt shape grid is.dx y want) (sym same.1) is.is))
+          (stones ++ behind) (has-want k lt (rank-of (cell_in grid dx dy) asks));
+      stones_first = λ j k less lt e. elim (cases_lt k (length stones)) [
+        | inl stone ↦
+            let early : slice_index_or (stones ++ behind) j no_want ≡ slice_index_or stones j no_want = get_or_append_left stones behind no_want j (omega (arith, less, stone)) in
+            absurd (false≢true (sym (parted.stones.kind j no_want (omega arith)) ∙ ap (λ (w : Want). w.empty) (sym early) ∙ e))
+        | inr other ↦
+            let late : slice_index_or (stones ++ behind) k no_want ≡ slice_index_or behind (k - length stones) no_want = get_or-append_right stones behind k no_want other in
+            let below : k - length stones < length behind = omega (arith, length-append stones behind) in
+            ap (λ (w : Want). w.empty) late ∙ behind-kind (k - length stones) no_want below
+      ];
+    }
+
+    -- behind the stones and those that may be one each is of an empty point alone
+    pub AreEmptiesFrom-parted : (from : ℕ) → from ≡ length stones + length mixed → AreEmptiesFrom from (stones ++ behind)
+    AreEmptiesFrom-parted from is k le lt =
+        let late : slice_index_or (stones ++ behind) k no_want ≡ slice_index_or behind (k - length stones) no_want = get_or-append_right stones behind k no_want (omega (arith, le, is)) in
+        let later : slice_index_or behind (k - length stones) no_want ≡ slice_index_or empties (k - length stones - length mixed) no_want = get_or-append_right mixed empties (k - length stones) no_want (omega (arith, le, is)) in
+        let below : k - length stones - length mixed < length empties = omega (arith, length-append stones behind, length-append mixed empties, lt) in
+        subst IsOfEmpty (sym (late ∙ later)) (empties-kind (k - length stones - length mixed) no_want below)
 
 -- ---- the wants of all classes
 
@@ -218,6 +269,10 @@ abbrev the_classes : Shape → List Grid → ClassesOn
 the_classes shape grids = record { shape = shape; grids = grids }
 
 module _ (shape : Shape) (grids : List Grid) where
+  -- the range has the wants of a class
+  abbrev HasClass : ℕ → List Want → WantRange → Type 0
+  HasClass k wants range = AreClassWants shape (grid_at grids k) (range.empties - range.start) (wants_in wants range)
+
   pub HaveWantsTo-start : (ranges : List WantRange) (wants : List Want) → ranges ≡ [] → HaveWantsTo shape grids 0 ranges wants
   HaveWantsTo-start ranges wants none = record {
     count = ap length none;
@@ -225,35 +280,39 @@ module _ (shape : Shape) (grids : List Grid) where
     each = λ k d lt. absurd (omega arith);
   }
 
-  pub HaveWantsTo-more : (n : ℕ) (ranges later : List WantRange) (wants now : List Want) (range : WantRange) → HaveWantsTo shape grids n ranges wants → IsClassAdded shape (grid_at grids n) wants now →
+  pub HaveWantsTo-more : (n : ℕ) (ranges later : List WantRange) (wants now : List Want) (range : WantRange) → HaveWantsTo shape grids n ranges wants → IsClassAdded shape (grid_at grids n) range.empties wants now →
       range.start ≡ length wants → range.end ≡ length now → later ≡ ranges ++ range ∷ [] → HaveWantsTo shape grids (n + 1) later now
-  HaveWantsTo-more n ranges later wants now range have (more, added, are) from to pushed =
+  HaveWantsTo-more n ranges later wants now range have class from to pushed =
+      let more : List Want = class.more in
+      let added : now ≡ wants ++ more = class.added in
       let longer : length now ≡ length wants + length more = ap length added ∙ length-append wants more in
-      let kept : All (IsRangeOf now) ranges = All-weaker (IsRangeOf wants) (IsRangeOf now) (λ r w. record { ordered = w.ordered; ends = omega (arith, w.ends) }) ranges have.within in
+      let kept : All (IsRangeOf now) ranges = All-weaker (IsRangeOf wants) (IsRangeOf now) (λ r w. record { ordered = w.ordered; within = w.within; ends = omega (arith, w.ends) }) ranges have.within in
       record {
         count = ap length pushed ∙ length_push ranges range ∙ ap (λ (i : ℕ). i + 1) have.count;
-        within = subst (All (IsRangeOf now)) (sym pushed) (All-push (IsRangeOf now) ranges range kept (record { ordered = omega arith; ends = omega arith }));
-        each = λ k d lt. subst (λ (rs : List WantRange). AreWantsOf shape (grid_at grids k) (wants_in now (get_or rs k d))) (sym pushed) (elim (cases_lt k n) [
+        within = subst (All (IsRangeOf now)) (sym pushed) (All-push (IsRangeOf now) ranges range kept (record { ordered = omega (arith, class.behind); within = omega (arith, class.behind, class.wants.within, longer); ends = omega arith }));
+        each = λ k d lt. subst (λ (rs : List WantRange). HasClass k now (get_or rs k d)) (sym pushed) (elim (cases_lt k n) [
           | inl below ↦
               let same : get_or (ranges ++ range ∷ []) k d ≡ get_or ranges k d = get_or_append_left ranges (range ∷ []) d k (omega (arith, have.count)) in
-              let here : wants_in now (get_or (ranges ++ range ∷ []) k d) ≡ wants_in wants (get_or ranges k d) =
-              ap (wants_in now) same
-              ∙ ap (λ (ws : List Want). wants_in ws (get_or ranges k d)) added
+              let here : wants_in now (get_or ranges k d) ≡ wants_in wants (get_or ranges k d) =
+              ap (λ (ws : List Want). wants_in ws (get_or ranges k d)) added
               ∙ sym (wants_in-kept wants more (get_or ranges k d) (have.within k d (omega (arith, have.count)))) in
-              subst (AreWantsOf shape (grid_at grids k)) (sym here) (have.each k d below)
+              subst (HasClass k now) (sym same) (subst (AreClassWants shape (grid_at grids k) ((get_or ranges k d).empties - (get_or ranges k d).start)) (sym here) (have.each k d below))
           | inr last ↦
               let here : n ≡ k = omega arith in
               let at : get_or (ranges ++ range ∷ []) k d ≡ range = get_or_push ranges range d k (have.count ∙ here) in
-              let last_wants : wants_in now (get_or (ranges ++ range ∷ []) k d) ≡ more =
-              ap (wants_in now) at ∙ ap (λ (ws : List Want). wants_in ws range) added ∙ wants_in-last wants more range from (to ∙ ap length added) in
-              subst (AreWantsOf shape (grid_at grids k)) (sym last_wants) (subst (λ (i : ℕ). AreWantsOf shape (grid_at grids i) more) here are)
+              let last_wants : wants_in now range ≡ more =
+              ap (λ (ws : List Want). wants_in ws range) added ∙ wants_in-last wants more range from (to ∙ ap length added) in
+              let start : range.empties - length wants ≡ range.empties - range.start = ap (λ (i : ℕ). range.empties - i) (sym from) in
+              subst (HasClass k now) (sym at) (subst (AreClassWants shape (grid_at grids k) (range.empties - range.start)) (sym last_wants)
+              (subst (λ (i : ℕ). AreClassWants shape (grid_at grids i) (range.empties - range.start) more) here
+              (subst (λ (i : ℕ). AreClassWants shape (grid_at grids n) i more) start class.wants)))
         ]);
       }
 
 -- the wants of a class, as they are read
 pub wants-read : (shape : Shape) (grids : List Grid) (seen : ClassesOn) (ranges : List WantRange) (wants read : List Want) (k : ℕ) (range : WantRange) → the_classes shape grids ≡ seen → HaveWantsTo shape grids (length grids) ranges wants → k < length seen.grids →
-    range ≡ get_or ranges k range → read ≡ wants → AreWantsOf seen.shape (grid_at seen.grids k) (slice_range read range.start range.end)
+    range ≡ get_or ranges k range → read ≡ wants → AreClassWants seen.shape (grid_at seen.grids k) (range.empties - range.start) (slice_range read range.start range.end)
 wants-read shape grids seen ranges wants read k range is have lt at same =
-    subst (λ (s : ClassesOn). k < length s.grids → AreWantsOf s.shape (grid_at s.grids k) (slice_range read range.start range.end)) is
-    (λ below. subst (λ (ws : List Want). AreWantsOf shape (grid_at grids k) (slice_range ws range.start range.end)) (sym same)
-    (subst (λ (r : WantRange). AreWantsOf shape (grid_at grids k) (wants_in wants r)) (sym at) (have.each k range below))) lt
+    subst (λ (s : ClassesOn). k < length s.grids → AreClassWants s.shape (grid_at s.grids k) (range.empties - range.start) (slice_range read range.start range.end)) is
+    (λ below. subst (λ (ws : List Want). AreClassWants shape (grid_at grids k) (range.empties - range.start) (slice_range ws range.start range.end)) (sym same)
+    (subst (λ (r : WantRange). AreClassWants shape (grid_at grids k) (r.empties - r.start) (wants_in wants r)) (sym at) (have.each k range below))) lt

@@ -46,11 +46,11 @@ AreMetByWord index base wants count n = (k : ℕ) → k < count →
     is_many (time_at index (base + (slice_index_or wants k no_want).offset)) ≡ false →
     IsMet index base (slice_index_or wants k no_want) n
 
--- The bounds have each node at which the first so many wants are met. At their nodes those are met
--- whose points have a word, and all of them unless it is told that some perhaps aren't.
+-- The bounds have each node at which all wants are met. At their nodes the first so many are met
+-- whose points have a word, and all of these unless it is told that some perhaps aren't.
 pub record IsBoundTo (index : PackedRuns) (base : ℕ) (wants : List Want) (count : ℕ)
     (bounds : Bounds) : Type 0 where
-  pub kept : (n : ℕ) → n < index.nodes → AreMetTo index base wants count n → IsBounded bounds n
+  pub kept : (n : ℕ) → n < index.nodes → AreMet index base wants n → IsBounded bounds n
   pub inside : (n : ℕ) → IsBounded bounds n → n < index.nodes
   pub words : (n : ℕ) → IsBounded bounds n → AreMetByWord index base wants count n
   pub whole : bounds.gaps ≡ 0 → (n : ℕ) → IsBounded bounds n →

@@ -1,5 +1,5 @@
 -- The words of points and the lists of their runs: words for the private functions.
-use Rattle.std.specs.Prelude.{◌≡◌, ℕ, ◌-◌, ◌/◌, ◌%◌, ◌<◌, ◌≤◌, ◌==◌, nat_le, Bool, IsTrue, false, List, [], ◌∷◌, if◌then◌else◌, length, slice_index_or, slice_range}
+use Rattle.std.specs.Prelude.{◌≡◌, ℕ, ◌-◌, ◌/◌, ◌%◌, ◌<◌, ◌≤◌, ◌==◌, nat_le, Bool, IsTrue, List, [], ◌∷◌, if◌then◌else◌, length, slice_index_or, slice_range}
 use Rattle.kb_geometry.specs.declared.stone.Cell.TheVariants as stone
 use Rattle.capture_index.specs.declared.run.Run.{Run}
 use Rattle.capture_index.specs.declared.time.Time.{Time}
@@ -51,7 +51,3 @@ runs_of ends runs time =
 -- the cell that these runs tell at a node is wanted
 abbrev pub IsWantedBy : Want → List Run → ℕ → Type 0
 IsWantedBy want runs n = IsTrue (is_wanted want (cell_by runs n))
-
--- the want is met at a node by a point with this word, unless it has a list
-abbrev pub IsWantedByWord : Time → Want → ℕ → Type 0
-IsWantedByWord time want n = is_many time ≡ false → IsWantedBy want (run_of_word time ∷ []) n

@@ -1,5 +1,5 @@
 -- The wants of classes in one list, and how they are added to it: words for the private functions.
-use Rattle.std.specs.Prelude.{◌≡◌, ◌≢◌, ℕ, ◌+◌, ◌*◌, ◌<◌, ◌≤◌, Bool, true, false, List, [], ◌∷◌, ◌++◌, length, slice_index_or, slice_range, All, Any}
+use Rattle.std.specs.Prelude.{◌≡◌, ◌≢◌, ℕ, ◌+◌, ◌-◌, ◌*◌, ◌<◌, ◌≤◌, true, false, List, [], ◌∷◌, ◌++◌, length, slice_index_or, slice_range, All, Any}
 use Rattle.kb_geometry.specs.declared.shape.Shape.{Shape}
 use Rattle.kb_geometry.specs.Board.{cols_of, rows_of}
 use Rattle.pattern_images.specs.declared.cell.PatternCell.{PatternCell}
@@ -7,17 +7,25 @@ use Rattle.pattern_images.specs.declared.cell.PatternCell.TheVariants as cell
 use Rattle.pattern_images.specs.Grid.{Grid}
 use Rattle.pattern_images.specs.ImageList.{grid_at}
 use Rattle.capture_index.specs.declared.stretch.Want.{Want}
+use Rattle.capture_index.specs.declared.wanted.OtherWants.{OtherWants}
 use Rattle.capture_index.specs.declared.wants.WantRange.{WantRange}
-use Rattle.capture_index.specs.Wants.{AreWantsOf, IsWantAt, IsWantIn, IsWantOf}
+use Rattle.capture_index.specs.Wants.{AreEmptiesFrom, AreWantsOf, IsOfEmpty, IsWantAt, IsWantIn, IsWantOf}
 
 -- the wants in the range
 abbrev pub wants_in : List Want → WantRange → List Want
 wants_in wants range = slice_range wants range.start range.end
 
--- the range lies within the list of wants
+-- the range lies within the list of wants, and its empty points in it
 pub record IsRangeOf (wants : List Want) (range : WantRange) : Type 0 where
-  pub ordered : range.start ≤ range.end
+  pub ordered : range.start ≤ range.empties
+  pub within : range.empties ≤ range.end
   pub ends : range.end ≤ length wants
+
+-- The wants are those of a rectangle, and from a place on of empty points alone.
+pub record AreClassWants (shape : Shape) (grid : Grid) (from : ℕ) (wants : List Want) : Type 0 where
+  pub are : AreWantsOf shape grid wants
+  pub within : from ≤ length wants
+  pub empties : AreEmptiesFrom from wants
 
 -- each of the first so many classes has its wants in a range
 pub record HaveWantsTo (shape : Shape) (grids : List Grid) (n : ℕ) (ranges : List WantRange)
@@ -25,17 +33,19 @@ pub record HaveWantsTo (shape : Shape) (grids : List Grid) (n : ℕ) (ranges : L
   pub count : length ranges ≡ n
   pub within : All (IsRangeOf wants) ranges
   pub each : (k : ℕ) (d : WantRange) → k < n →
-      AreWantsOf shape (grid_at grids k) (wants_in wants (slice_index_or ranges k d))
+      AreClassWants shape (grid_at grids k)
+      ((slice_index_or ranges k d).empties - (slice_index_or ranges k d).start)
+      (wants_in wants (slice_index_or ranges k d))
 
--- where a cell's want stands: those that must be a stone come first, then the others, and wildcards
--- have none
+-- where a cell's want stands: those that must be a stone come first, then those that may be one,
+-- then those that must be empty, and wildcards have none
 abbrev pub rank_of : PatternCell → ℕ
 rank_of cell.Black = 0
 rank_of cell.White = 0
 rank_of cell.NotWhite = 1
 rank_of cell.NotBlack = 1
-rank_of cell.Empty = 1
-rank_of cell.Any = 2
+rank_of cell.Empty = 2
+rank_of cell.Any = 3
 
 -- the rectangle of this size with these cells
 abbrev pub grid_with : Shape → List PatternCell → Grid
@@ -63,34 +73,46 @@ IsWantPut rank cell offset before after =
     × (after ≡ before ++ want ∷ []))
     × (rank_of cell ≢ rank → after ≡ before)
 
--- The list grows by wants of cells that all allow an empty point, or all don't, as `allowing` says.
--- Among them are those of all cells with numbers that are asked for.
-pub record AreWantsAdded (shape : Shape) (grid : Grid) (allowing : Bool) (IsAsked : ℕ → Type 0)
+-- the want allows no empty point
+abbrev pub IsOfStone : Want → Type 0
+IsOfStone want = want.empty ≡ false
+
+-- the want allows an empty point
+abbrev pub MayBeEmpty : Want → Type 0
+MayBeEmpty want = want.empty ≡ true
+
+-- The list grows by wants of cells that are all of one kind. Among them are those of all cells with
+-- numbers that are asked for.
+pub record AreWantsAdded (shape : Shape) (grid : Grid) (IsKind : Want → Type 0) (IsAsked : ℕ → Type 0)
     (before after : List Want) : Type 0 where
   pub more : List Want
   pub added : after ≡ before ++ more
   pub sound : All (IsWantIn shape grid) more
-  pub kind : All (λ (w : Want). w.empty ≡ allowing) more
+  pub kind : All IsKind more
   pub complete : (k : ℕ) → IsAsked k → Any (IsWantWith shape grid k) more
 
 -- the cell with the number is one of the first so many, and has the rank
 abbrev pub HasRank : Grid → ℕ → ℕ → ℕ → Type 0
 HasRank grid rank count k = (k < count) × (rank_of (cell_with grid k) ≡ rank)
 
--- One list has gained the wants of those of the first so many cells that must be a stone; another,
--- empty before, those of the others but wildcards.
-abbrev pub AreParted : Shape → Grid → ℕ → List Want → List Want → List Want → Type 0
-AreParted shape grid count before stones others =
-    AreWantsAdded shape grid false (HasRank grid 0 count) before stones
-    × AreWantsAdded shape grid true (HasRank grid 1 count) [] others
+-- A list has gained the wants of those of the first so many cells that must be a stone; two others,
+-- empty before, have those that may be one, and those that must be empty.
+pub record AreParted (shape : Shape) (grid : Grid) (count : ℕ) (before now : List Want)
+    (others : OtherWants) : Type 0 where
+  pub stones : AreWantsAdded shape grid IsOfStone (HasRank grid 0 count) before now
+  pub mixed : AreWantsAdded shape grid MayBeEmpty (HasRank grid 1 count) [] others.mixed.items
+  pub empties : AreWantsAdded shape grid IsOfEmpty (HasRank grid 2 count) [] others.empties.items
 
 -- if the lists were parted for the cells before one number, then the new lists are parted for those
 -- before another
-abbrev pub ArePartedOn : Shape → Grid → ℕ → ℕ → (stones others stones' others' : List Want) → Type 0
+abbrev pub ArePartedOn : Shape → Grid → ℕ → ℕ → List Want → OtherWants → List Want → OtherWants → Type 0
 ArePartedOn shape grid from to stones others stones' others' = (before : List Want) →
     AreParted shape grid from before stones others → AreParted shape grid to before stones' others'
 
--- the list grows by the wants of the class with this rectangle
-abbrev pub IsClassAdded : Shape → Grid → List Want → List Want → Type 0
-IsClassAdded shape grid before after =
-    (more : List Want) × (after ≡ before ++ more) × AreWantsOf shape grid more
+-- the list grows by the wants of the class with this rectangle, from a place on of empty points alone
+pub record IsClassAdded (shape : Shape) (grid : Grid) (empties : ℕ)
+    (before after : List Want) : Type 0 where
+  pub more : List Want
+  pub added : after ≡ before ++ more
+  pub behind : length before ≤ empties
+  pub wants : AreClassWants shape grid (empties - length before) more

@@ -1,5 +1,5 @@
 -- What the classes of a query's images ask of points.
-use Rattle.std.specs.Prelude.{◌≡◌, ◌≢◌, ℕ, ◌+◌, ◌*◌, ◌<◌, ◌↔◌, IsTrue, List, length, slice_index_or, All, Any}
+use Rattle.std.specs.Prelude.{◌≡◌, ◌≢◌, ℕ, ◌+◌, ◌*◌, ◌<◌, ◌≤◌, ◌↔◌, IsTrue, false, true, List, length, slice_index_or, All, Any}
 use Rattle.kb_geometry.specs.declared.shape.Shape.{Shape}
 use Rattle.kb_geometry.specs.declared.stone.Cell.{Cell}
 use Rattle.kb_geometry.specs.Board.{cols_of, number_of}
@@ -40,6 +40,15 @@ IsWantIn shape grid want =
 abbrev pub AreStonesFirst : List Want → Type 0
 AreStonesFirst wants = (j k : ℕ) → j < k → k < length wants →
     IsTrue (slice_index_or wants j no_want).empty → IsTrue (slice_index_or wants k no_want).empty
+
+-- the want is that of an empty point alone
+abbrev pub IsOfEmpty : Want → Type 0
+IsOfEmpty want = (want.empty ≡ true) × (want.black ≡ false) × (want.white ≡ false)
+
+-- so is each from the one with this number on
+abbrev pub AreEmptiesFrom : ℕ → List Want → Type 0
+AreEmptiesFrom from wants = (k : ℕ) → from ≤ k → k < length wants →
+    IsOfEmpty (slice_index_or wants k no_want)
 
 -- Each want is that of a cell of the rectangle on a board of the shape, and each cell but wildcards
 -- has one. Those of cells that must be a stone come first.

@@ -11,6 +11,7 @@ use crate::cutting::cut;
 use crate::packed_runs::PackedRuns;
 use crate::stretch::{Stretch, Want};
 use crate::time::Time;
+use crate::wants::ClassWants;
 use kb_geometry::NoMemory;
 
 impl PackedRuns {
@@ -18,20 +19,17 @@ impl PackedRuns {
     pub(crate) fn find(
         &self,
         base: u16,
-        wants: &[Want],
+        class: ClassWants,
         found: &mut Vec<Stretch>,
         spare: &mut Vec<Stretch>,
     ) -> Result<(), NoMemory>
-        requires { All (λ (w : Want). base + w.offset < point_count self.now.shape) wants.now }
+        requires { All (λ (w : Want). base + w.offset < point_count self.now.shape) class.wants.now }
         ensures nodes { OnOk result ((n : ℕ) → n < self.now.nodes → IsIn found.new.items n ↔
-            AreMet self.now base wants.now n) }
+            AreMet self.now base class.entry.wants.now n) }
         ensures apart { OnOk result (AreApart 0 self.now.nodes found.new.items) }
     {
         found.clear();
-        if self.are_never_met(base, wants) {
-            return Ok(());
-        }
-        let Some(bounds) = self.bounds(base, wants) else {
+        let Some(bounds) = self.bounds(base, class) else {
             return Ok(());
         };
         let from = bounds.latest / 2;
@@ -43,7 +41,7 @@ impl PackedRuns {
         if bounds.gaps == 0 {
             return Ok(());
         }
-        self.cut_all(base, wants, found, spare)?;
+        self.cut_all(base, class.wants, found, spare)?;
         Ok(())
     }
 

@@ -13,7 +13,6 @@ mod finding;
 mod growing;
 mod hull;
 mod laws;
-mod never_met;
 mod node_cells;
 mod nodes_where;
 mod packed_runs;
@@ -32,4 +31,4 @@ pub use laws::{
 pub use nodes_where::NodesWhere;
 pub use run_index::RunIndex;
 pub use stretch::{Stretch, Want};
-pub use wants::Wants;
+pub use wants::{ClassWants, Wants};

@@ -32,6 +32,7 @@ ghost use Rattle.capture_index.specs.Stretches.{
 use crate::branches::{next_branch, parent};
 use crate::packed_runs::PackedRuns;
 use crate::stretch::{Stretch, Want};
+use crate::wants::ClassWants;
 use capture_board::NodeDeltas;
 use kb_geometry::{Cell, NoMemory, Shape};
 use std::alloc::Global;
@@ -143,17 +144,17 @@ impl RunIndex {
     pub fn find(
         &self,
         base: u16,
-        wants: &[Want],
+        class: ClassWants,
         found: &mut Vec<Stretch>,
         spare: &mut Vec<Stretch>,
     ) -> Result<(), NoMemory>
-        requires { All (λ (w : Want). base + w.offset < point_count self.now.shape) wants.now }
+        requires { All (λ (w : Want). base + w.offset < point_count self.now.shape) class.wants.now }
         ensures nodes { OnOk result ((n : ℕ) → n < count_in self.now → IsIn found.new.items n ↔
-            AreWantedAt self.now base wants.now n) }
+            AreWantedAt self.now base class.entry.wants.now n) }
         ensures apart { OnOk result (AreApart 0 (count_in self.now) found.new.items) }
         ensures few { OnOk result (length found.new.items ≤ count_in self.now) }
     {
-        self.packed.find(base, wants, found, spare)?;
+        self.packed.find(base, class, found, spare)?;
         Ok(())
     }
 

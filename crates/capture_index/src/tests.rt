@@ -4,7 +4,7 @@ ghost use Rattle.std.specs.Prelude.{◌<◌};
 mod made;
 mod wanted;
 
-use crate::{RunIndex, Stretch, Want};
+use crate::{ClassWants, RunIndex, Stretch, Want};
 use kb_geometry::{Cell, NoMemory};
 use made::{Row, made, made_line};
 use std::alloc::Global;
@@ -93,7 +93,7 @@ fn expect_found(
     assert!(rt; base + wants[0].offset < count && base + wants[1].offset < count);
     let mut found = Vec::new(alloc);
     let mut spare = Vec::new(alloc);
-    index.find(base, &wants, &mut found, &mut spare)?;
+    index.find(base, ClassWants::of(&wants), &mut found, &mut spare)?;
     for node in 0..index.node_count() {
         assert_eq!(rt; is_in(&found, node), expected.contains(&node), "{node}");
     }

@@ -1,5 +1,5 @@
 // The wants of one class.
-ghost use Rattle.std.specs.Prelude.{◌≡◌, ◌+◌, ◌*◌, ◌<◌, OnOk, length};
+ghost use Rattle.std.specs.Prelude.{◌≡◌, ◌+◌, ◌*◌, ◌<◌, IfOk, OnOk, length};
 ghost use Rattle.kb_geometry.specs.Board.{cols_of, point_count, rows_of};
 ghost use Rattle.pattern_images.specs.ImageList.{grid_at};
 ghost use Rattle.capture_index.specs.StoredWants.{
@@ -18,46 +18,59 @@ use pattern_images::{Images, PatternCell};
 // The ranks of cells: their wants stand in this order, and wildcards have none.
 const STONE: u8 = 0;
 
-const OTHER: u8 = 1;
+const MIXED: u8 = 1;
 
-const WILDCARD: u8 = 2;
+const EMPTY: u8 = 2;
 
-// Adds the wants of a class. `others` is room, which is written over.
+const WILDCARD: u8 = 3;
+
+// The wants of a class that allow an empty point, while they are made: those that allow a stone too,
+// and those that allow none.
+#[derive(Debug, Drop)]
+pub(crate) struct OtherWants {
+    pub(crate) mixed: Vec<Want>,
+    pub(crate) empties: Vec<Want>,
+}
+
+// Adds the wants of a class, and tells where in the list those of empty points alone begin. `others`
+// is room, which is written over.
 pub(crate) fn add_wants(
     images: &Images,
     class: usize,
     wants: &mut Vec<Want>,
-    others: &mut Vec<Want>,
-) -> Result<(), NoMemory>
+    others: &mut OtherWants,
+) -> Result<usize, NoMemory>
     requires { class < length images.now.grids }
-    ensures { OnOk result (IsClassAdded images.now.shape (grid_at images.now.grids class)
-        wants.old.items wants.new.items) }
+    ensures { IfOk result (λ empties. IsClassAdded images.now.shape
+        (grid_at images.now.grids class) empties wants.old.items wants.new.items) }
 {
-    others.clear();
+    others.mixed.clear();
+    others.empties.clear();
     let size = images.class_size(class);
     let cells = images.class_cells(class);
     for y in 0..size.rows() {
         add_row(images.shape(), size, cells, y, wants, others)?;
     }
-    wants.extend_from_slice(others)?;
-    Ok(())
+    wants.extend_from_slice(&others.mixed)?;
+    let empties = wants.len();
+    wants.extend_from_slice(&others.empties)?;
+    Ok(empties)
 }
 
-// Adds the wants of the cells in a row of a rectangle: of those that must be a stone to the first
-// list, and of the others but wildcards to the second.
+// Adds the wants of the cells in a row of a rectangle: of those that must be a stone to the list,
+// and of the others but wildcards to the other lists.
 fn add_row(
     shape: Shape,
     size: Shape,
     cells: &[PatternCell],
     y: u8,
     wants: &mut Vec<Want>,
-    others: &mut Vec<Want>,
+    others: &mut OtherWants,
 ) -> Result<(), NoMemory>
     requires count { length cells.now ≡ point_count size }
     requires row { y < rows_of size }
     ensures { OnOk result (ArePartedOn shape (grid_with size cells.now) (y * cols_of size)
-        ((y + 1) * cols_of size) wants.old.items others.old.items wants.new.items
-        others.new.items) }
+        ((y + 1) * cols_of size) wants.old.items others.old wants.new.items others.new) }
 {
     let cols = usize::from(size.cols());
     let first = usize::from(y) * cols;
@@ -73,14 +86,17 @@ fn add_cell(
     cell: PatternCell,
     offset: u16,
     wants: &mut Vec<Want>,
-    others: &mut Vec<Want>,
+    others: &mut OtherWants,
 ) -> Result<(), NoMemory>
     ensures stones { OnOk result (IsWantPut STONE cell offset wants.old.items wants.new.items) }
-    ensures others { OnOk result (IsWantPut OTHER cell offset others.old.items others.new.items) }
+    ensures mixed { OnOk result
+        (IsWantPut MIXED cell offset others.old.mixed.items others.new.mixed.items) }
+    ensures empties { OnOk result
+        (IsWantPut EMPTY cell offset others.old.empties.items others.new.empties.items) }
 {
     // Most cells of a large pattern are empty.
     if let PatternCell::Empty = cell {
-        others.push(want_of(PatternCell::Empty, offset))?;
+        others.empties.push(want_of(PatternCell::Empty, offset))?;
         return Ok(());
     }
     let rank = rank_of(cell);
@@ -88,8 +104,8 @@ fn add_cell(
         wants.push(want_of(cell, offset))?;
         return Ok(());
     }
-    if rank == OTHER {
-        others.push(want_of(cell, offset))?;
+    if rank == MIXED {
+        others.mixed.push(want_of(cell, offset))?;
         return Ok(());
     }
     Ok(())
@@ -101,7 +117,8 @@ fn rank_of(cell: PatternCell) -> u8
 {
     match cell {
         PatternCell::Black | PatternCell::White => STONE,
-        PatternCell::Empty | PatternCell::NotWhite | PatternCell::NotBlack => OTHER,
+        PatternCell::NotWhite | PatternCell::NotBlack => MIXED,
+        PatternCell::Empty => EMPTY,
         PatternCell::Any => WILDCARD,
     }
 }

@@ -1,18 +1,52 @@
 // What the classes of a query's images ask of points.
-ghost use Rattle.std.specs.Prelude.{◌≡◌, ◌<◌, IfOk, length};
+ghost use Rattle.std.specs.Prelude.{◌≡◌, ◌<◌, ◌≤◌, IfOk, IsTrue, length};
 ghost use Rattle.pattern_images.specs.ImageList.{grid_at};
+ghost use Rattle.capture_index.specs.Wants.{AreEmptiesFrom, IsOfEmpty};
 
 use crate::stretch::Want;
-use crate::wanted::add_wants;
+use crate::wanted::{OtherWants, add_wants};
 use kb_geometry::NoMemory;
 use pattern_images::Images;
 use std::alloc::Global;
 use std::marker::Model;
 
+/// What a class asks of points.
+///
+/// How many wants at its end are of empty points alone is known, as these are looked at the fastest.
+#[derive(Clone, Copy, Debug)]
+pub struct ClassWants<'a> {
+    /// All wants.
+    pub wants: &'a [Want],
+    // From this one on each is of an empty point alone.
+    pub(crate) empties: usize,
+    pub(crate) ghost within: { empties ≤ length wants.now },
+    pub(crate) ghost tail: { AreEmptiesFrom empties wants.now },
+}
+
+impl<'a> ClassWants<'a> {
+    /// A class that asks this.
+    pub fn of(wants: &'a [Want]) -> ClassWants<'a>
+        ensures { result.wants.now ≡ wants.now }
+    {
+        let mut empties = wants.len();
+        while empties > 0 && is_of_empty(wants[empties - 1]) {
+            empties -= 1;
+        }
+        ClassWants { wants, empties }
+    }
+}
+
+// Whether a want is of an empty point alone.
+fn is_of_empty(want: Want) -> bool
+    ensures { IsTrue result → IsOfEmpty want }
+{
+    want.empty && !want.black && !want.white
+}
+
 /// What each class of a query's images asks of points: for each cell that isn't a wildcard how far
 /// its point stands behind the upper left one, by number on the board, and which cells it allows.
 ///
-/// Cells that must be a stone come first, then the others.
+/// Cells that must be a stone come first, and those that must be empty last.
 #[derive(Debug, Drop)]
 pub struct Wants<'a> {
     images: &'a Images,
@@ -21,11 +55,22 @@ pub struct Wants<'a> {
     wants: Vec<Want>,
 }
 
-// Where the wants of a class stand in the list of all wants.
+// Where the wants of a class stand in the list of all wants, and where those of empty points alone
+// begin.
 #[derive(Clone, Copy, Debug)]
 struct WantRange {
     start: usize,
+    empties: usize,
     end: usize,
+}
+
+// How many wants the classes have at the most: one for each cell.
+fn most_wants(images: &Images) -> usize {
+    let count = images.class_count();
+    if count == 0 {
+        return 0;
+    }
+    images.class_cells(0).len().saturating_mul(count)
 }
 
 impl<'a> Model for Wants<'a> {
@@ -54,13 +99,17 @@ impl<'a> Wants<'a> {
     {
         let count = images.class_count();
         let mut ranges = Vec::with_capacity(alloc, count)?;
-        let mut wants = Vec::new(alloc);
-        let mut others = Vec::new(alloc);
+        let mut wants = Vec::with_capacity(alloc, most_wants(images))?;
+        let mut others = OtherWants {
+            mixed: Vec::new(alloc),
+            empties: Vec::new(alloc),
+        };
         for class in 0..count {
             let start = wants.len();
-            add_wants(images, class, &mut wants, &mut others)?;
+            let empties = add_wants(images, class, &mut wants, &mut others)?;
             ranges.push(WantRange {
                 start,
+                empties,
                 end: wants.len(),
             })?;
         }
@@ -72,11 +121,18 @@ impl<'a> Wants<'a> {
     }
 
     /// The wants of a class.
-    pub fn of_class(&self, class: usize) -> &[Want]
+    pub fn of_class(&self, class: usize) -> ClassWants<'_>
         requires { class < length self.now.grids }
-        ensures { AreWantsOf self.now.shape (grid_at self.now.grids class) result.now }
+        ensures { AreWantsOf self.now.shape (grid_at self.now.grids class) result.wants.now }
     {
-        let WantRange { start, end } = self.ranges[class];
-        &self.wants[start..end]
+        let WantRange {
+            start,
+            empties,
+            end,
+        } = self.ranges[class];
+        ClassWants {
+            wants: &self.wants[start..end],
+            empties: empties - start,
+        }
     }
 }

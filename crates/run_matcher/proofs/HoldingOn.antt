@@ -14,11 +14,11 @@ use Rattle.run_matcher.specs.declared.sought.Sought.{Sought}
 use Rattle.run_matcher.proofs.BegunNodes.{count-seen}
 
 pub holds-on : (seen : NodePositions) (sought : Sought) → sought.images.now.shape ≡ seen.shape → IsSought sought → (n k : ℕ) → n < count_in seen → k < count_in seen →
-    ((w : ℕ) → w < length sought.wants.now → IsUnchangedAt seen sought.base (slice_index_or sought.wants.now w no_want) n k) →
+    ((w : ℕ) → w < length sought.class.wants.now → IsUnchangedAt seen sought.base (slice_index_or sought.class.wants.now w no_want) n k) →
     (deltas : Deltas) → seen ≡ positions_of deltas → HoldsAt deltas (placement_at sought.images.now.placements sought.number) n → HoldsAt deltas (placement_at sought.images.now.placements sought.number) k
 holds-on seen sought on is_sought n k n_in k_in unchanged deltas is held =
     let placement = placement_at sought.images.now.placements sought.number in
-    let wants = sought.wants.now in
+    let wants = sought.class.wants.now in
     let same_shape : sought.images.now.shape ≡ deltas.shape = on ∙ ap (λ (s : NodePositions). s.shape) is in
     let placed = subst (λ (s : Shape). IsPlacedOn s placement) same_shape is_sought.placed in
     let are = subst (λ (s : Shape). AreWantsOf s placement.grid wants) same_shape is_sought.wanted in

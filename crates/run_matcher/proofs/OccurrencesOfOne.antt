@@ -115,12 +115,12 @@ none-begins seen' stretches i gathered empty o = (
 
 -- one placement more, which holds in these stretches
 module _ (seen' : NodePositions) (sought : Sought) (stretches : List Stretch) (on : sought.images.now.shape ≡ seen'.shape) (is_sought : IsSought sought) (apart : AreApart 0 (count_in seen') stretches)
-    (held : (n : ℕ) → n < count_in seen' → IsIn stretches n ↔ AreWantedAt seen' sought.base sought.wants.now n) where
+    (held : (n : ℕ) → n < count_in seen' → IsIn stretches n ↔ AreWantedAt seen' sought.base sought.class.wants.now n) where
   pub gathered-more : (before after : List Occurrence) → ((o : Occurrence) → Contains after o ↔ (Contains before o ⊎ ((o.placement ≡ sought.number) × BeginsIn seen' stretches o.node))) →
       (deltas : Deltas) → AreDeltas deltas → seen' ≡ positions_of deltas → (o : Occurrence) → Contains after o ↔ (Contains before o ⊎ IsOccurrenceOf deltas sought.images.now.placements sought.number o)
   gathered-more before after added deltas are is o =
       let placement = placement_at sought.images.now.placements sought.number in
-      let wants = sought.wants.now in
+      let wants = sought.class.wants.now in
       let same_shape : sought.images.now.shape ≡ deltas.shape = on ∙ ap (λ (s : NodePositions). s.shape) is in
       let told = begins-wanted deltas are placement (subst (λ s. IsPlacedOn s placement) same_shape is_sought.placed) wants (subst (λ s. AreWantsOf s placement.grid wants) same_shape is_sought.wanted) o.node in
       let here : sought.base ≡ base_of deltas.shape placement = is_sought.from ∙ ap (λ s. base_of s placement) same_shape in

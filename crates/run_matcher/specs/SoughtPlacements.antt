@@ -15,6 +15,6 @@ pub record IsSought (sought : Sought) : Type 0 where
   pub from : sought.base ≡ base_of sought.images.now.shape
       (placement_at sought.images.now.placements sought.number)
   pub wanted : AreWantsOf sought.images.now.shape
-      (placement_at sought.images.now.placements sought.number).grid sought.wants.now
+      (placement_at sought.images.now.placements sought.number).grid sought.class.wants.now
   pub on_board : All (λ (w : Want). sought.base + w.offset < point_count sought.images.now.shape)
-      sought.wants.now
+      sought.class.wants.now

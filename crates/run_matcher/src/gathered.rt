@@ -91,7 +91,7 @@ impl Gathered {
     {
         runs.find(
             sought.base,
-            sought.wants,
+            sought.class,
             &mut buffers.found,
             &mut buffers.spare,
         )?;

@@ -24,6 +24,6 @@ impl<'a> Sought<'a> {
             (k : ℕ) → node ≤ k → k < result →
             HoldsAt deltas (placement_at self.now.images.now.placements self.now.number) k }
     {
-        runs.unchanged_to(self.base, self.wants, node)
+        runs.unchanged_to(self.base, self.class.wants, node)
     }
 }

@@ -8,7 +8,7 @@ ghost use Rattle.run_matcher.specs.Matchers.{HaveBasesTo, IsMatcherOf};
 ghost use Rattle.run_matcher.specs.SoughtPlacements.{IsSought};
 
 use crate::Sought;
-use capture_index::{Want, Wants};
+use capture_index::{ClassWants, Wants};
 use kb_geometry::{NoMemory, Point};
 use pattern_images::{Images, Place};
 use std::alloc::Global;
@@ -67,7 +67,7 @@ impl<'a> RunMatcher<'a> {
         let _few = self.len();
         Sought {
             images: self.images,
-            wants: self.wants_of(placement),
+            class: self.class_of(placement),
             number: placement as u32,
             base: self.base(placement),
         }
@@ -83,15 +83,15 @@ impl<'a> RunMatcher<'a> {
     }
 
     // What a placement asks of points.
-    fn wants_of(&self, placement: usize) -> &[Want]
+    fn class_of(&self, placement: usize) -> ClassWants<'_>
         requires { placement < length self.now.images.now.placements }
         ensures placed { IsPlacedOn self.now.images.now.shape
             (placement_at self.now.images.now.placements placement) }
         ensures are { AreWantsOf self.now.images.now.shape
-            (placement_at self.now.images.now.placements placement).grid result.now }
+            (placement_at self.now.images.now.placements placement).grid result.wants.now }
         ensures on_board { All (λ (w : Want). base_of self.now.images.now.shape
             (placement_at self.now.images.now.placements placement) + w.offset
-            < point_count self.now.images.now.shape) result.now }
+            < point_count self.now.images.now.shape) result.wants.now }
     {
         let _count = self.images.len();
         self.wants.of_class(self.images.class_of(placement))

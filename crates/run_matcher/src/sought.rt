@@ -1,5 +1,5 @@
 // A placement that is looked for.
-use capture_index::Want;
+use capture_index::ClassWants;
 use pattern_images::Images;
 
 /// A placement of a query, made ready to be looked for in the runs of many games.
@@ -8,7 +8,7 @@ pub struct Sought<'a> {
     /// The images among which it is.
     pub images: &'a Images,
     // What it asks of points.
-    pub(crate) wants: &'a [Want],
+    pub(crate) class: ClassWants<'a>,
     /// Its number among the placements of the images.
     pub number: u32,
     // The number of its upper left point, behind which the points stand.

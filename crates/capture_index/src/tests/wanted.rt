@@ -38,20 +38,21 @@ fn wants_of(
     let wants = Wants::of(alloc, &images)?;
     let mut all = Vec::new(alloc);
     for class in 0..images.class_count() {
-        all.extend_from_slice(wants.of_class(class))?;
+        all.extend_from_slice(wants.of_class(class).wants)?;
     }
     Ok(all)
 }
 
-// Stones come first, then the cells that may be empty, each of them row by row.
+// Stones come first, then the cells that may be a stone, then those that must be empty, each of
+// them row by row.
 #[test]
 fn stones_are_asked_first(rt: HostRuntime) -> Result<(), Fail> {
     let mixed = [
         want(1, false, true, false),
         want(6, false, false, true),
-        want(0, true, false, false),
         want(2, true, true, false),
         want(7, true, false, true),
+        want(0, true, false, false),
     ];
     let pair = [
         want(0, false, true, false),

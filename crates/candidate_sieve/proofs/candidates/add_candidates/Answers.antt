@@ -16,8 +16,8 @@ use Rattle.candidate_sieve.proofs.candidates.add_candidates.Goals as goal
 pub loop-row-init : goal.loop-row-init
 loop-row-init c = (0, end-none c.args.rows.now.rows.items, added-start c.args.planes.now c.args.rows.now.images.now.placements (bit_and c.args.asked c.present.result) c.args.rows.now.numbers.items c.args.found.now.items)
 
-pub of_class-wants-requires : goal.of_class-wants-requires
-of_class-wants-requires c =
+pub of_class-requires : goal.of_class-requires
+of_class-requires c =
     let made = c.args.rows.now.made in
     let rows = c.args.rows.now.rows.items in
     let index = c.loop-row.row-index in
@@ -37,10 +37,10 @@ sieve_row-requires-clause-on_board c =
     let row = row_at c.deref-row-items.result.now index in
     let same : row_at rows index ≡ row = ap (λ (rs : List PlacementRow). row_at rs index) (sym c.deref-row-items.ensures.value) in
     let is = subst (IsRowIn images numbers) same (made.are_rows.each index within) in
-    let on_board = row-on_board images c.len-count.ensures.images c.args.planes.now c.requires.shape numbers made.in_range row is c.of_class-wants.result.now
-    (subst (λ (v : ClassesOn). AreWantsOf v.shape (grid_at v.grids row.class) c.of_class-wants.result.now) c.requires.wants c.of_class-wants.ensures) in
-    subst (λ (ns : List ℕ). All (λ (w : Want). row.base + w.offset + length (slice_range ns row.start (row.start + row.count)) ≤ point_count c.args.planes.now.shape) c.of_class-wants.result.now) (sym c.deref.ensures.value)
-    (subst (λ (n : ℕ). All (λ (w : Want). row.base + w.offset + n ≤ point_count c.args.planes.now.shape) c.of_class-wants.result.now) (sym (sliced-length numbers row.start row.count is.within)) on_board)
+    let on_board = row-on_board images c.len-count.ensures.images c.args.planes.now c.requires.shape numbers made.in_range row is c.of_class.result.wants.now
+    (subst (λ (v : ClassesOn). AreWantsOf v.shape (grid_at v.grids row.class) c.of_class.result.wants.now) c.requires.wants c.of_class.ensures) in
+    subst (λ (ns : List ℕ). All (λ (w : Want). row.base + w.offset + length (slice_range ns row.start (row.start + row.count)) ≤ point_count c.args.planes.now.shape) c.of_class.result.wants.now) (sym c.deref.ensures.value)
+    (subst (λ (n : ℕ). All (λ (w : Want). row.base + w.offset + n ≤ point_count c.args.planes.now.shape) c.of_class.result.wants.now) (sym (sliced-length numbers row.start row.count is.within)) on_board)
 
 pub loop-row-preserved : goal.loop-row-preserved
 loop-row-preserved c =
@@ -55,12 +55,12 @@ loop-row-preserved c =
     let row = row_at c.deref-row-items.result.now index in
     let same : row_at rows index ≡ row = ap (λ (rs : List PlacementRow). row_at rs index) (sym c.deref-row-items.ensures.value) in
     let start : c.loop-row.invariant.0 ≡ row.start = end-once rows index c.loop-row.invariant.0 (row_at rows index).start c.loop-row.invariant.1 (made.are_rows.parted index within) ∙ ap (λ (r : PlacementRow). r.start) same in
-    let added = subst (λ (ns : List ℕ). IsRowAdded planes.games row.base c.of_class-wants.result.now there (slice_range ns row.start (row.start + row.count)) c.loop-row.found.items c.sieve_row.new.found.items)
+    let added = subst (λ (ns : List ℕ). IsRowAdded planes.games row.base c.of_class.result.wants.now there (slice_range ns row.start (row.start + row.count)) c.loop-row.found.items c.sieve_row.new.found.items)
     c.deref.ensures.value c.in_ok-sieve_row.ensures in (
       row.start + row.count,
       end-of rows index (row.start + row.count) (ap (λ (r : PlacementRow). r.start + r.count) (sym same)),
-      row-added images c.len-count.ensures.images planes c.requires.shape numbers made.in_range row (subst (IsRowIn images numbers) same (made.are_rows.each index within)) c.of_class-wants.result.now
-          (subst (λ (v : ClassesOn). AreWantsOf v.shape (grid_at v.grids row.class) c.of_class-wants.result.now) c.requires.wants c.of_class-wants.ensures)
+      row-added images c.len-count.ensures.images planes c.requires.shape numbers made.in_range row (subst (IsRowIn images numbers) same (made.are_rows.each index within)) c.of_class.result.wants.now
+          (subst (λ (v : ClassesOn). AreWantsOf v.shape (grid_at v.grids row.class) c.of_class.result.wants.now) c.requires.wants c.of_class.ensures)
           there (λ g lt e. (c.present.ensures g lt).0 ((and-bit c.args.asked c.present.result g).0 e).1) made.once
           c.args.found.now.items c.loop-row.found.items c.sieve_row.new.found.items
           (subst (λ (n : ℕ). AreAddedTo planes images.placements there numbers n c.args.found.now.items c.loop-row.found.items) start c.loop-row.invariant.2) added,

@@ -9,8 +9,8 @@ use Rattle.capture_index.proofs.wanted.add_row.Goals as goal
 pub loop-x-init : goal.loop-x-init
 loop-x-init c =
     let grid = grid_with c.args.size c.args.cells.now in
-    subst (λ (n : ℕ). ArePartedOn c.args.shape grid (c.args.y * cols_of c.args.size) n c.args.wants.now.items c.args.others.now.items c.args.wants.now.items c.args.others.now.items) (omega arith)
-    (ArePartedOn-none c.args.shape grid (c.args.y * cols_of c.args.size) c.args.wants.now.items c.args.others.now.items)
+    subst (λ (n : ℕ). ArePartedOn c.args.shape grid (c.args.y * cols_of c.args.size) n c.args.wants.now.items c.args.others.now c.args.wants.now.items c.args.others.now) (omega arith)
+    (ArePartedOn-none c.args.shape grid (c.args.y * cols_of c.args.size) c.args.wants.now.items c.args.others.now)
 
 pub loop-x-preserved : goal.loop-x-preserved
 loop-x-preserved c =
@@ -22,14 +22,15 @@ loop-x-preserved c =
     let at : c.from.result * c.from-cols.result + x ≡ y * cols_of c.args.size + x = ap (λ (n : ℕ). n * c.from-cols.result + x) c.from.ensures ∙ ap (λ (n : ℕ). y * n + x) cols in
     let lt : c.from.result * c.from-cols.result + x < length c.args.cells.now = omega (arith, at, mul-add-lt y (cols_of c.args.size) x (rows_of c.args.size) c.requires.row column, c.requires.count) in
     let behind : c.from-2.result * c.from-3.result + x ≡ y * cols_of c.args.shape + x = ap (λ (n : ℕ). n * c.from-3.result + x) c.from-2.ensures ∙ ap (λ (n : ℕ). y * n + x) (c.from-3.ensures ∙ c.cols-2.ensures.value) in
-    subst (λ (n : ℕ). ArePartedOn c.args.shape grid (y * cols_of c.args.size) n c.args.wants.now.items c.args.others.now.items c.add_cell.new.wants.items c.add_cell.new.others.items) (omega arith)
-    (ArePartedOn-more c.args.shape grid c.args.size refl refl x y column c.requires.row (y * cols_of c.args.size) c.args.wants.now.items c.args.others.now.items c.loop-x.wants.items c.loop-x.others.items c.add_cell.new.wants.items c.add_cell.new.others.items c.loop-x.invariant
+    subst (λ (n : ℕ). ArePartedOn c.args.shape grid (y * cols_of c.args.size) n c.args.wants.now.items c.args.others.now c.add_cell.new.wants.items c.add_cell.new.others) (omega arith)
+    (ArePartedOn-more c.args.shape grid c.args.size refl refl x y column c.requires.row (y * cols_of c.args.size) c.args.wants.now.items c.args.others.now c.loop-x.wants.items c.loop-x.others c.add_cell.new.wants.items c.add_cell.new.others c.loop-x.invariant
     (IsWantPut-read c.args.shape grid 0 _ _ x y _ c.loop-x.wants.items c.add_cell.new.wants.items at lt behind c.in_ok-add_cell.ensures.stones)
-    (IsWantPut-read c.args.shape grid 1 _ _ x y _ c.loop-x.others.items c.add_cell.new.others.items at lt behind c.in_ok-add_cell.ensures.others))
+    (IsWantPut-read c.args.shape grid 1 _ _ x y _ c.loop-x.others.mixed.items c.add_cell.new.others.mixed.items at lt behind c.in_ok-add_cell.ensures.mixed)
+    (IsWantPut-read c.args.shape grid 2 _ _ x y _ c.loop-x.others.empties.items c.add_cell.new.others.empties.items at lt behind c.in_ok-add_cell.ensures.empties))
 
 pub returns : goal.returns
 returns c =
     let grid = grid_with c.args.size c.args.cells.now in
     let cols : c.loop-x.x ≡ cols_of c.args.size = omega arith in
     let next : c.args.y * cols_of c.args.size + c.loop-x.x ≡ (c.args.y + 1) * cols_of c.args.size = omega (arith, cols) in
-    subst (λ (n : ℕ). ArePartedOn c.args.shape grid (c.args.y * cols_of c.args.size) n c.args.wants.now.items c.args.others.now.items c.loop-x.wants.items c.loop-x.others.items) next c.loop-x.invariant
+    subst (λ (n : ℕ). ArePartedOn c.args.shape grid (c.args.y * cols_of c.args.size) n c.args.wants.now.items c.args.others.now c.loop-x.wants.items c.loop-x.others) next c.loop-x.invariant

@@ -5,4 +5,4 @@ use Rattle.capture_index.proofs.wanted.add_row.Given as goal
 
 -- the cells so far
 abbrev pub invariant-loop-x : goal.invariant-loop-x
-invariant-loop-x l = ArePartedOn l.fn.shape (grid_with l.fn.size l.cells) (l.y * cols_of l.fn.size) (l.y * cols_of l.fn.size + l.x) l.fn.wants.items l.fn.others.items l.wants.items l.others.items
+invariant-loop-x l = ArePartedOn l.fn.shape (grid_with l.fn.size l.cells) (l.y * cols_of l.fn.size) (l.y * cols_of l.fn.size + l.x) l.fn.wants.items l.fn.others l.wants.items l.others

@@ -5,4 +5,4 @@ use Rattle.capture_index.proofs.wanted.add_wants.Given as goal
 
 -- the rows so far
 abbrev pub invariant-loop-y : goal.invariant-loop-y
-invariant-loop-y l = AreParted l.images.shape (grid_with l.size l.cells) (l.y * cols_of l.size) l.initial.wants.items l.wants.items l.others.items
+invariant-loop-y l = AreParted l.images.shape (grid_with l.size l.cells) (l.y * cols_of l.size) l.initial.wants.items l.wants.items l.others

@@ -1,0 +1,6 @@
+use Rattle.capture_index.specs.Finding.{IsBoundTo}
+use Rattle.capture_index.proofs.packed_runs.PackedRuns.narrowed.Given as goal
+
+-- the wants so far
+abbrev pub invariant-loop-k : goal.invariant-loop-k
+invariant-loop-k l = IsBoundTo l.self l.base l.wants l.k l.bounds
