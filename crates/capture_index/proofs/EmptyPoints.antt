@@ -1,25 +1,26 @@
--- Bounds with points more that are to be empty, by their words.
-use Rattle.std.proofs.Common.{◌≡◌, ℕ, ◌+◌, ◌/◌, ◌%◌, ◌==◌, ◌<◌, ◌≤◌, Bool, true, false, cond, List, [], ◌∷◌, length, sym, ◌∙◌, ap, arith, inl, inr, below_more}
+-- What the words of points tell of the nodes at which wants are met.
+use Rattle.std.proofs.Common.{◌≡◌, ◌≢◌, ℕ, suc, ◌+◌, ◌/◌, ◌%◌, ◌==◌, ◌<◌, ◌≤◌, Bool, true, false, cond, List, [], ◌∷◌, length, get_or, sym, refl, ◌∙◌, ap, arith, inl, inr}
 use Rattle.std.proofs.lemmas.Bool.{cases_lt, false_from_ne_true, false≢true, le-leb, leb-true}
+use Rattle.std.proofs.lemmas.List.{get_or_default}
 use Rattle.std.specs.Prelude.{nat_le, slice_index_or}
 use Rattle.kb_geometry.specs.declared.stone.Cell.TheVariants as stone
+use Rattle.kb_geometry.specs.Board.{point_count}
 use Rattle.capture_index.specs.declared.bounds.Bounds.{Bounds}
 use Rattle.capture_index.specs.declared.packed_runs.PackedRuns.{PackedRuns}
+use Rattle.capture_index.specs.declared.run.Run.{Run}
 use Rattle.capture_index.specs.declared.stretch.Want.{Want}
 use Rattle.capture_index.specs.declared.time.Time.{Time}
 use Rattle.capture_index.specs.declared.time.TheConstants.{MANY}
+use Rattle.capture_index.specs.declared.word_bounds.WordBounds.{WordBounds}
 use Rattle.capture_index.specs.Bounds.{IsBounded}
-use Rattle.capture_index.specs.Finding.{AreMet, IsBoundTo, IsMet, packed_cell, time_at}
-use Rattle.capture_index.specs.Lists.{IsWantedBy, is_many, run_of_word}
+use Rattle.capture_index.specs.Finding.{ArePointsFrom, IsBoundTo, IsMet, IsToldFor, no_time, packed_cell, time_at}
+use Rattle.capture_index.specs.Lists.{IsWantedBy, run_of_word, runs_of}
 use Rattle.capture_index.specs.Runs.{cell_by}
 use Rattle.capture_index.specs.Stretches.{is_wanted, no_want}
 use Rattle.capture_index.specs.Wants.{IsOfEmpty}
 use Rattle.capture_index.proofs.Narrowing.{met-wanted, packed_cell-few, wanted-met}
 
--- bounds that end at another word
-abbrev pub up_to : Bounds → ℕ → Bounds
-up_to bounds least = record { latest = bounds.latest; least = least; gaps = bounds.gaps }
-
+-- ---- a point that is to be empty
 module _ (want : Want) (of_empty : IsOfEmpty want) (time : Time) where
   -- the point is empty before its stone comes
   wanted-before : (n : ℕ) → n < time.word / 2 → IsWantedBy want (run_of_word time ∷ []) n
@@ -32,57 +33,62 @@ module _ (want : Want) (of_empty : IsOfEmpty want) (time : Time) where
   stone-unwanted true = of_empty.2
   stone-unwanted false = of_empty.1
 
-  -- and not from then on
+  -- from then on it isn't met
   unwanted-behind : (n : ℕ) → time.word / 2 ≤ n → IsWantedBy want (run_of_word time ∷ []) n → ⊥
   unwanted-behind n behind wanted =
       let there : nat_le (time.word / 2) n ≡ true = le-leb (time.word / 2) n behind in
       let is : is_wanted want (run_of_word time).cell ≡ true = sym (ap (λ (b : Bool). is_wanted want (cond b (run_of_word time).cell stone.Empty)) there) ∙ wanted in
       false≢true (sym (stone-unwanted ((time.word % 2) == 1)) ∙ is)
 
-module _ (index : PackedRuns) (base : ℕ) (wants : List Want) where
-  -- bounds that end before keep what is met there
-  pub bound-less : (i : ℕ) (before : Bounds) (least : ℕ) → IsBoundTo index base wants i before → least ≤ before.least → ((n : ℕ) → IsBounded before n → AreMet index base wants n → n < least / 2) → IsBoundTo index base wants i (up_to before least)
-  bound-less i before least bound le kept =
-      let inside : (n : ℕ) → IsBounded (up_to before least) n → IsBounded before n = λ n b. (b.0, omega (arith, b.1, le)) in
-      record {
-        kept = λ n in_range all. let b = bound.kept n in_range all in (b.0, kept n b all);
-        inside = λ n b. bound.inside n (inside n b);
-        words = λ n b. bound.words n (inside n b);
-        whole = λ e n b. bound.whole e n (inside n b);
-      }
+module _ (index : PackedRuns) (base : ℕ) (want : Want) (of_empty : IsOfEmpty want) (time : Time) (is : time ≡ time_at index (base + want.offset)) (few : time.word < MANY) where
+  told : (n : ℕ) → cell_by (run_of_word time ∷ []) n ≡ packed_cell index (base + want.offset) n
+  told = packed_cell-few index (base + want.offset) time is (λ le. absurd (omega (arith, le, few)))
 
-  -- one want more that is met at all their nodes
-  bound-met : (i : ℕ) (bounds : Bounds) → IsBoundTo index base wants i bounds → ((n : ℕ) → IsBounded bounds n → IsMet index base (slice_index_or wants i no_want) n) → IsBoundTo index base wants (i + 1) bounds
-  bound-met i bounds bound met = record {
-    kept = bound.kept;
-    inside = bound.inside;
-    words = λ n b. below_more (λ k. is_many (time_at index (base + (slice_index_or wants k no_want).offset)) ≡ false → IsMet index base (slice_index_or wants k no_want) n) i (bound.words n b) (λ few. met n b);
-    whole = λ e n b. below_more (λ k. IsMet index base (slice_index_or wants k no_want) n) i (bound.whole e n b) (met n b);
+  pub met-before : (n : ℕ) → n < time.word / 2 → IsMet index base want n
+  met-before n before = met-wanted index base want (run_of_word time ∷ []) told n (wanted-before want of_empty time n before)
+
+  pub unmet-behind : (n : ℕ) → time.word / 2 ≤ n → IsMet index base want n → ⊥
+  unmet-behind n behind met = unwanted-behind want of_empty time n behind (wanted-met index base want (run_of_word time ∷ []) told n met)
+
+-- ---- a point that is to have a stone
+
+-- before the first nodes of all runs the point is empty
+pub before-runs : (runs : List Run) (n : ℕ) → ((k : ℕ) (d : Run) → k < length runs → n < (get_or runs k d).first) → cell_by runs n ≡ stone.Empty
+before-runs [] n before = refl
+before-runs (r ∷ rs) n before =
+    let later : nat_le r.first n ≡ false = false_from_ne_true (nat_le r.first n) (λ t. absurd (omega (arith, before 0 r (omega arith), leb-true r.first n t))) in
+    ap (λ (b : Bool). cond b r.cell (cell_by rs n)) later ∙ before-runs rs n (λ k d lt. before (suc k) d (omega (arith, lt)))
+
+-- a want that allows no empty point isn't met on one
+pub stone-there : (index : PackedRuns) (base : ℕ) (want : Want) (time : Time) → time ≡ time_at index (base + want.offset) → want.empty ≡ false → (n : ℕ) → IsMet index base want n → cell_by (runs_of index.ends.items index.runs.items time) n ≢ stone.Empty
+stone-there index base want time is none n met empty =
+    let there : packed_cell index (base + want.offset) n ≡ stone.Empty = ap (λ (t : Time). cell_by (runs_of index.ends.items index.runs.items t) n) (sym is) ∙ empty in
+    false≢true (sym none ∙ (sym (ap (is_wanted want) there) ∙ met))
+
+-- ---- the points from a base on
+pub point-read : (index : PackedRuns) (base : ℕ) (points : List Time) → ArePointsFrom index base points → (offset i : ℕ) → i ≡ offset → base + offset < point_count index.shape → (time : Time) → time ≡ get_or points i time → time ≡ time_at index (base + offset)
+point-read index base points are offset i same lt time read =
+    let below : offset < length points = omega (arith, lt, are.0) in
+    read ∙ ap (λ (k : ℕ). get_or points k time) same ∙ get_or_default points offset time no_time below ∙ are.1 offset below
+
+-- ---- what is told as bounds
+module _ (index : PackedRuns) (base : ℕ) (wants : List Want) (empties : ℕ) (told : WordBounds) (is : IsToldFor index base wants empties told) where
+  pub bound-told : IsBoundTo index base wants 0 (record { latest = told.latest; least = told.least; gaps = 0 })
+  bound-told = record {
+    kept = is.kept;
+    inside = λ n b. omega (arith, b.1, is.within);
+    words = λ n b k lt few. absurd (omega (arith, lt));
+    whole = λ e n b k lt. absurd (omega (arith, lt));
   }
 
-  module _ (i : ℕ) (lt : i < length wants) (of_empty : IsOfEmpty (slice_index_or wants i no_want)) (time : Time) (is : time ≡ time_at index (base + (slice_index_or wants i no_want).offset)) (few : time.word < MANY) where
-    abbrev want : Want
-    want = slice_index_or wants i no_want
-
-    told : (n : ℕ) → cell_by (run_of_word time ∷ []) n ≡ packed_cell index (base + want.offset) n
-    told = packed_cell-few index (base + want.offset) time is (λ le. absurd (omega (arith, le, few)))
-
-    met-before : (n : ℕ) → n < time.word / 2 → IsMet index base want n
-    met-before n before = met-wanted index base want (run_of_word time ∷ []) told n (wanted-before want of_empty time n before)
-
-    pub unmet-behind : (n : ℕ) → time.word / 2 ≤ n → IsMet index base want n → ⊥
-    unmet-behind n behind met = unwanted-behind want of_empty time n behind (wanted-met index base want (run_of_word time ∷ []) told n met)
-
-    -- a point that has its stone before the bounds begin
-    pub empty-none : (j : ℕ) (before : Bounds) → IsBoundTo index base wants j before → time.word ≤ before.latest → (n : ℕ) → n < index.nodes → AreMet index base wants n → ⊥
-    empty-none j before bound le n in_range all = unmet-behind n (omega (arith, (bound.kept n in_range all).0, le)) (all i lt)
-
-    -- one that ends them
-    pub empty-less : (j : ℕ) (before : Bounds) (least : ℕ) → IsBoundTo index base wants j before → least ≤ before.least → ((n : ℕ) → n < before.least / 2 → n < time.word / 2 → n < least / 2) → IsBoundTo index base wants j (up_to before least)
-    empty-less j before least bound le both_of = bound-less j before least bound le (λ n b all. elim (cases_lt n (time.word / 2)) [
-      | inl before_stone ↦ both_of n b.1 before_stone
-      | inr behind ↦ absurd (unmet-behind n behind (all i lt))
-    ])
-
-    pub empty-more : (before : Bounds) (least : ℕ) → IsBoundTo index base wants i (up_to before least) → least ≤ time.word → IsBoundTo index base wants (i + 1) (up_to before least)
-    empty-more before least bound le = bound-met i (up_to before least) bound (λ n b. met-before n (omega (arith, b.1, le)))
+  -- the points that are to be empty are so within narrower bounds, unless one has a list of runs
+  pub bound-all : (bounds : Bounds) → IsBoundTo index base wants empties bounds → ((n : ℕ) → IsBounded bounds n → IsBounded (record { latest = told.latest; least = told.least; gaps = 0 }) n) → told.most < MANY → IsBoundTo index base wants (length wants) bounds
+  bound-all bounds bound inside few =
+      let met : (n : ℕ) → IsBounded bounds n → (k : ℕ) → empties ≤ k → k < length wants → IsMet index base (slice_index_or wants k no_want) n =
+      λ n b. is.met few n (inside n b).0 (inside n b).1 in
+      record {
+        kept = bound.kept;
+        inside = bound.inside;
+        words = λ n b k lt word. elim (cases_lt k empties) [ inl first ↦ bound.words n b k first word | inr behind ↦ met n b k behind lt ];
+        whole = λ e n b k lt. elim (cases_lt k empties) [ inl first ↦ bound.whole e n b k first | inr behind ↦ met n b k behind lt ];
+      }

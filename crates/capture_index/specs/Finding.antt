@@ -1,5 +1,5 @@
 -- The nodes of a game at which wanted cells stand.
-use Rattle.std.specs.Prelude.{◌≡◌, ℕ, ◌+◌, ◌<◌, IsTrue, true, false, ◌↔◌, List, length, slice_index_or}
+use Rattle.std.specs.Prelude.{◌≡◌, ℕ, ◌+◌, ◌*◌, ◌/◌, ◌<◌, ◌≤◌, IsTrue, true, false, ◌↔◌, List, length, slice_index_or}
 use Rattle.kb_geometry.specs.declared.stone.Cell.{Cell}
 use Rattle.kb_geometry.specs.Board.{point_count}
 use Rattle.kb_geometry.specs.Capture.{cell_at}
@@ -9,6 +9,8 @@ use Rattle.capture_index.specs.declared.stretch.Stretch.{Stretch}
 use Rattle.capture_index.specs.declared.stretch.Want.{Want}
 use Rattle.capture_index.specs.declared.bounds.Bounds.{Bounds}
 use Rattle.capture_index.specs.declared.packed_runs.PackedRuns.{PackedRuns}
+use Rattle.capture_index.specs.declared.time.TheConstants.{MANY}
+use Rattle.capture_index.specs.declared.word_bounds.WordBounds.{WordBounds}
 use Rattle.capture_index.specs.Bounds.{IsBounded}
 use Rattle.capture_index.specs.Branches.{AreBranchesTo}
 use Rattle.capture_index.specs.Runs.{cell_by}
@@ -55,6 +57,21 @@ pub record IsBoundTo (index : PackedRuns) (base : ℕ) (wants : List Want) (coun
   pub words : (n : ℕ) → IsBounded bounds n → AreMetByWord index base wants count n
   pub whole : bounds.gaps ≡ 0 → (n : ℕ) → IsBounded bounds n →
       AreMetTo index base wants count n
+
+-- the words are those of the points from a base on
+abbrev pub ArePointsFrom : PackedRuns → ℕ → List Time → Type 0
+ArePointsFrom index base points = (length points + base ≡ point_count index.shape)
+    × ((k : ℕ) → k < length points → slice_index_or points k no_time ≡ time_at index (base + k))
+
+-- What words tell of wants, of which those from one on are of empty points alone: they are met at
+-- none but these nodes, and the latter are met at all of these, unless a point has a list of runs.
+pub record IsToldFor (index : PackedRuns) (base : ℕ) (wants : List Want) (empties : ℕ)
+    (told : WordBounds) : Type 0 where
+  pub kept : (n : ℕ) → n < index.nodes → AreMet index base wants n →
+      (told.latest / 2 ≤ n) × (n < told.least / 2)
+  pub within : told.least ≤ 2 * index.nodes
+  pub met : told.most < MANY → (n : ℕ) → told.latest / 2 ≤ n → n < told.least / 2 →
+      (k : ℕ) → empties ≤ k → k < length wants → IsMet index base (slice_index_or wants k no_want) n
 
 -- the nodes that are left are those at which the first so many wants with lists are met
 abbrev pub IsCutBy : PackedRuns → ℕ → List Want → ℕ → List Stretch → List Stretch → Type 0

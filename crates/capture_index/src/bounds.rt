@@ -20,7 +20,6 @@ ghost use Rattle.capture_index.specs.declared.stretch.Want.{Want};
 ghost use Rattle.capture_index.specs.Bounds.{IsBounded, IsNarrowed};
 ghost use Rattle.capture_index.specs.Finding.{AreMet, IsBoundTo};
 ghost use Rattle.capture_index.specs.Lists.{IsWantedBy, run_of_word};
-ghost use Rattle.capture_index.specs.Wants.{AreEmptiesFrom};
 
 use crate::hull::hull_of;
 use crate::packed_runs::PackedRuns;
@@ -40,20 +39,10 @@ pub(crate) struct Bounds {
     pub(crate) gaps: u32,
 }
 
-// What words of points that are to be empty leave of bounds.
-#[derive(Clone, Copy, Debug)]
-struct EmptyBounds {
-    // The new `least` of the bounds.
-    least: u32,
-    // The greatest of the words. From `MANY` on some of the points have a list of runs.
-    most: u32,
-}
-
 impl PackedRuns {
     // The bounds of the nodes at which the wants are met; none, where it is seen that there is no
     // such node. The lists of points with several runs narrow them too, so that placements are ruled
-    // out before stretches are cut. The points that are to be empty are looked at by their words
-    // first: most placements end there.
+    // out before stretches are cut.
     pub(crate) fn bounds(&self, base: u16, class: ClassWants) -> Option<Bounds>
         requires { All (λ (w : Want). base + w.offset < point_count self.now.shape) class.wants.now }
         ensures some { IfSome result (IsBoundTo self.now base class.entry.wants.now (length class.entry.wants.now)) }
@@ -61,24 +50,19 @@ impl PackedRuns {
             ¬ AreMet self.now base class.entry.wants.now n) }
     {
         let wants = class.wants;
-        let whole = Bounds {
-            latest: 0,
-            least: 2 * self.nodes,
-            gaps: 0,
-        };
-        let Some(mut bounds) = self.narrowed(base, wants, 0, class.empties, whole) else {
+        let Some(told) = self.told_by_words(base, class) else {
             return None;
         };
-        let many = u32::from(MANY);
-        // Else nodes have numbers that words don't tell.
-        if bounds.least <= many {
-            let Some(next) = self.with_empties(base, wants, class.empties, bounds) else {
-                return None;
-            };
-            bounds.least = next.least;
-            if next.most < many {
-                return Some(bounds);
-            }
+        let start = Bounds {
+            latest: told.latest,
+            least: told.least,
+            gaps: 0,
+        };
+        let Some(bounds) = self.narrowed(base, wants, 0, class.empties, start) else {
+            return None;
+        };
+        if told.most < u32::from(MANY) {
+            return Some(bounds);
         }
         self.narrowed(base, wants, class.empties, wants.len(), bounds)
     }
@@ -99,6 +83,7 @@ impl PackedRuns {
         requires within { to ≤ length wants.now }
         requires start { IsBoundTo self.now base wants.now from start }
         ensures some { IfSome result (IsBoundTo self.now base wants.now to) }
+        ensures inside { IfSome result (λ bounds. (n : ℕ) → IsBounded bounds n → IsBounded start n) }
         ensures none { IfNone result ((n : ℕ) → n < self.now.nodes →
             ¬ AreMet self.now base wants.now n) }
     {
@@ -126,43 +111,6 @@ impl PackedRuns {
             bounds.latest = latest;
         }
         Some(bounds)
-    }
-
-    // What is left of bounds by the words of the points from one on, which are to be empty; none,
-    // where one of them has a stone for good by then. There are few instructions for each point: most
-    // placements that a game may have by its sets end here.
-    fn with_empties(
-        &self,
-        base: u16,
-        wants: &[Want],
-        from: usize,
-        before: Bounds,
-    ) -> Option<EmptyBounds>
-        requires on_board { All (λ (w : Want). base + w.offset < point_count self.now.shape)
-            wants.now }
-        requires few { before.least ≤ MANY }
-        requires within { from ≤ length wants.now }
-        requires empties { AreEmptiesFrom from wants.now }
-        requires before { IsBoundTo self.now base wants.now from before }
-        ensures some { IfSome result (λ next. IsBoundTo self.now base wants.now from
-            (record { latest = before.latest; least = next.least; gaps = before.gaps })) }
-        ensures words { IfSome result (λ next. next.most < MANY →
-            IsBoundTo self.now base wants.now (length wants.now)
-            (record { latest = before.latest; least = next.least; gaps = before.gaps })) }
-        ensures none { IfNone result ((n : ℕ) → n < self.now.nodes →
-            ¬ AreMet self.now base wants.now n) }
-    {
-        let mut least = before.least;
-        let mut most: u32 = 0;
-        for k in from..wants.len() {
-            let word = u32::from(self.time_of(base, wants[k].offset).word);
-            if word <= before.latest {
-                return None;
-            }
-            least = least.min(word);
-            most = most.max(word);
-        }
-        Some(EmptyBounds { least, most })
     }
 }
 

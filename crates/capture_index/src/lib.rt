@@ -24,6 +24,7 @@ mod tests;
 mod time;
 mod wanted;
 mod wants;
+mod word_bounds;
 
 pub use laws::{
     a_placement_holds_where_its_wants_are_met, nodes_where_the_parent_has_another_cell,
