@@ -64,14 +64,19 @@ ArePointsFrom index base points = (length points + base ≡ point_count index.sh
     × ((k : ℕ) → k < length points → slice_index_or points k no_time ≡ time_at index (base + k))
 
 -- What words tell of wants, of which those from one on are of empty points alone: they are met at
--- none but these nodes, and the latter are met at all of these, unless a point has a list of runs.
+-- none but these nodes, and the latter are met at all of these, but perhaps those whose points have a
+-- list of runs. There is none such where it is told so.
 pub record IsToldFor (index : PackedRuns) (base : ℕ) (wants : List Want) (empties : ℕ)
     (told : WordBounds) : Type 0 where
   pub kept : (n : ℕ) → n < index.nodes → AreMet index base wants n →
       (told.latest / 2 ≤ n) × (n < told.least / 2)
   pub within : told.least ≤ 2 * index.nodes
-  pub met : told.most < MANY → (n : ℕ) → told.latest / 2 ≤ n → n < told.least / 2 →
-      (k : ℕ) → empties ≤ k → k < length wants → IsMet index base (slice_index_or wants k no_want) n
+  pub met : (n : ℕ) → told.latest / 2 ≤ n → n < told.least / 2 → (k : ℕ) → empties ≤ k →
+      k < length wants →
+      is_many (time_at index (base + (slice_index_or wants k no_want).offset)) ≡ false →
+      IsMet index base (slice_index_or wants k no_want) n
+  pub few : told.most < MANY → (k : ℕ) → empties ≤ k → k < length wants →
+      is_many (time_at index (base + (slice_index_or wants k no_want).offset)) ≡ false
 
 -- the nodes that are left are those at which the first so many wants with lists are met
 abbrev pub IsCutBy : PackedRuns → ℕ → List Want → ℕ → List Stretch → List Stretch → Type 0

@@ -18,7 +18,7 @@ ghost use Rattle.std.specs.Prelude.{
 ghost use Rattle.kb_geometry.specs.Board.{point_count};
 ghost use Rattle.capture_index.specs.declared.stretch.Want.{Want};
 ghost use Rattle.capture_index.specs.Bounds.{IsBounded, IsNarrowed};
-ghost use Rattle.capture_index.specs.Finding.{AreMet, IsBoundTo};
+ghost use Rattle.capture_index.specs.Finding.{AreMet, IsBoundTo, IsToldFor};
 ghost use Rattle.capture_index.specs.Lists.{IsWantedBy, run_of_word};
 
 use crate::hull::hull_of;
@@ -27,6 +27,7 @@ use crate::run::Run;
 use crate::stretch::Want;
 use crate::time::{MANY, Time};
 use crate::wants::ClassWants;
+use crate::word_bounds::WordBounds;
 
 // The nodes from half of `latest` up to before half of `least`. They are kept as words of points
 // tell nodes, so that words are compared as they are.
@@ -44,12 +45,22 @@ impl PackedRuns {
     // such node. The lists of points with several runs narrow them too, so that placements are ruled
     // out before stretches are cut.
     pub(crate) fn bounds(&self, base: u16, class: ClassWants) -> Option<Bounds>
-        requires { All (λ (w : Want). base + w.offset < point_count self.now.shape) class.wants.now }
-        ensures some { IfSome result (IsBoundTo self.now base class.entry.wants.now (length class.entry.wants.now)) }
+        requires { All (λ (w : Want). base + w.offset < point_count self.now.shape)
+            class.wants.now }
+        ensures some { IfSome result (IsBoundTo self.now base class.entry.wants.now
+            (length class.entry.wants.now)) }
         ensures none { IfNone result ((n : ℕ) → n < self.now.nodes →
             ¬ AreMet self.now base class.entry.wants.now n) }
     {
-        let wants = class.wants;
+        let whole = Bounds {
+            latest: 0,
+            least: 2 * self.nodes,
+            gaps: 0,
+        };
+        // Words don't tell nodes of greater numbers.
+        if class.empties == class.wants.len() || whole.least > u32::from(MANY) {
+            return self.with_firsts(base, class.wants, class.wants.len(), whole);
+        }
         let Some(told) = self.told_by_words(base, class) else {
             return None;
         };
@@ -58,37 +69,28 @@ impl PackedRuns {
             least: told.least,
             gaps: 0,
         };
-        let Some(bounds) = self.narrowed(base, wants, 0, class.empties, start) else {
+        let Some(bounds) = self.with_firsts(base, class.wants, class.empties, start) else {
             return None;
         };
         if told.most < u32::from(MANY) {
             return Some(bounds);
         }
-        self.narrowed(base, wants, class.empties, wants.len(), bounds)
+        self.with_lists(base, class, told, bounds)
     }
 
-    // The bounds with the wants from one up to before another; none, where it is seen that the wants
-    // are met at no node.
-    fn narrowed(
-        &self,
-        base: u16,
-        wants: &[Want],
-        from: usize,
-        to: usize,
-        start: Bounds,
-    ) -> Option<Bounds>
+    // The bounds with the wants before one; none, where it is seen that the wants are met at no node.
+    fn with_firsts(&self, base: u16, wants: &[Want], to: usize, start: Bounds) -> Option<Bounds>
         requires on_board { All (λ (w : Want). base + w.offset < point_count self.now.shape)
             wants.now }
-        requires ordered { from ≤ to }
         requires within { to ≤ length wants.now }
-        requires start { IsBoundTo self.now base wants.now from start }
+        requires start { IsBoundTo self.now base wants.now 0 start }
         ensures some { IfSome result (IsBoundTo self.now base wants.now to) }
         ensures inside { IfSome result (λ bounds. (n : ℕ) → IsBounded bounds n → IsBounded start n) }
         ensures none { IfNone result ((n : ℕ) → n < self.now.nodes →
             ¬ AreMet self.now base wants.now n) }
     {
         let mut bounds = start;
-        for k in from..to {
+        for k in 0..to {
             let want = wants[k];
             let time = self.time_of(base, want.offset);
             if time.is_many() {
@@ -109,6 +111,41 @@ impl PackedRuns {
                 return None;
             };
             bounds.latest = latest;
+        }
+        Some(bounds)
+    }
+
+    // The bounds with the lists of runs of points that are to be empty, where it is told what the
+    // words of the others do.
+    fn with_lists(
+        &self,
+        base: u16,
+        class: ClassWants,
+        told: WordBounds,
+        start: Bounds,
+    ) -> Option<Bounds>
+        requires on_board { All (λ (w : Want). base + w.offset < point_count self.now.shape)
+            class.wants.now }
+        requires told { IsToldFor self.now base class.wants.now class.empties told }
+        requires inside { (n : ℕ) → IsBounded start n →
+            (told.latest / 2 ≤ n) × (n < told.least / 2) }
+        requires start { IsBoundTo self.now base class.wants.now class.empties start }
+        ensures some { IfSome result (IsBoundTo self.now base class.entry.wants.now
+            (length class.entry.wants.now)) }
+        ensures none { IfNone result ((n : ℕ) → n < self.now.nodes →
+            ¬ AreMet self.now base class.entry.wants.now n) }
+    {
+        let mut bounds = start;
+        for k in class.empties..class.wants.len() {
+            let want = class.wants[k];
+            let time = self.time_of(base, want.offset);
+            if !time.is_many() {
+                continue;
+            }
+            let Some(next) = with_runs(bounds, self.list(time.list()), want) else {
+                return None;
+            };
+            bounds = next;
         }
         Some(bounds)
     }

@@ -23,7 +23,8 @@ impl PackedRuns {
         found: &mut Vec<Stretch>,
         spare: &mut Vec<Stretch>,
     ) -> Result<(), NoMemory>
-        requires { All (λ (w : Want). base + w.offset < point_count self.now.shape) class.wants.now }
+        requires { All (λ (w : Want). base + w.offset < point_count self.now.shape)
+            class.wants.now }
         ensures nodes { OnOk result ((n : ℕ) → n < self.now.nodes → IsIn found.new.items n ↔
             AreMet self.now base class.entry.wants.now n) }
         ensures apart { OnOk result (AreApart 0 self.now.nodes found.new.items) }

@@ -148,7 +148,8 @@ impl RunIndex {
         found: &mut Vec<Stretch>,
         spare: &mut Vec<Stretch>,
     ) -> Result<(), NoMemory>
-        requires { All (λ (w : Want). base + w.offset < point_count self.now.shape) class.wants.now }
+        requires { All (λ (w : Want). base + w.offset < point_count self.now.shape)
+            class.wants.now }
         ensures nodes { OnOk result ((n : ℕ) → n < count_in self.now → IsIn found.new.items n ↔
             AreWantedAt self.now base class.entry.wants.now n) }
         ensures apart { OnOk result (AreApart 0 (count_in self.now) found.new.items) }

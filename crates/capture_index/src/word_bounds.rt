@@ -31,7 +31,7 @@ use crate::wants::ClassWants;
 pub(crate) struct WordBounds {
     pub(crate) latest: u32,
     pub(crate) least: u32,
-    // Below `MANY`, where at all these nodes the wants of empty points alone are met.
+    // From `MANY` on, unless each point that is to be empty has a word.
     pub(crate) most: u32,
 }
 
@@ -39,21 +39,15 @@ impl PackedRuns {
     // What the words of the points of wants tell; none, where the wants are met at no node. Points
     // that may be empty or have a stone aren't looked at.
     pub(crate) fn told_by_words(&self, base: u16, class: ClassWants) -> Option<WordBounds>
-        requires { All (λ (w : Want). base + w.offset < point_count self.now.shape) class.wants.now }
+        requires on_board { All (λ (w : Want). base + w.offset < point_count self.now.shape)
+            class.wants.now }
+        requires some { class.empties < length class.wants.now }
+        requires few { 2 * self.now.nodes ≤ MANY }
         ensures some { IfSome result (IsToldFor self.now base class.entry.wants.now
             class.entry.empties) }
         ensures none { IfNone result ((n : ℕ) → n < self.now.nodes →
             ¬ AreMet self.now base class.entry.wants.now n) }
     {
-        let end = 2 * self.nodes;
-        // Words don't tell nodes of greater numbers.
-        if class.empties == class.wants.len() || end > u32::from(MANY) {
-            return Some(WordBounds {
-                latest: 0,
-                least: end,
-                most: u32::from(MANY),
-            });
-        }
         let points = self.points_from(base);
         let latest = self.latest_stone(base, points, class);
         self.with_empties(base, points, class, latest)

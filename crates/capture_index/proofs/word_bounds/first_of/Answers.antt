@@ -1,6 +1,6 @@
 use Rattle.std.proofs.Common.{arith, inl, inr}
 use Rattle.std.proofs.lemmas.Bool.{cases_lt}
-use Rattle.capture_index.proofs.EmptyPoints.{before-runs}
+use Rattle.capture_index.proofs.WordsTold.{before-runs}
 use Rattle.capture_index.proofs.word_bounds.first_of.Goals as goal
 
 pub returns : goal.returns

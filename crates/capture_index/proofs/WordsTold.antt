@@ -1,10 +1,8 @@
 -- What the words of points tell of the nodes at which wants are met.
-use Rattle.std.proofs.Common.{◌≡◌, ◌≢◌, ℕ, suc, ◌+◌, ◌/◌, ◌%◌, ◌==◌, ◌<◌, ◌≤◌, Bool, true, false, cond, List, [], ◌∷◌, length, get_or, sym, refl, ◌∙◌, ap, arith, inl, inr}
+use Rattle.std.proofs.Common.{◌≡◌, ℕ, suc, ◌+◌, ◌/◌, ◌%◌, ◌==◌, ◌<◌, ◌≤◌, Bool, true, false, cond, List, [], ◌∷◌, length, get_or, sym, refl, ◌∙◌, ap, arith, inl, inr, below_more}
 use Rattle.std.proofs.lemmas.Bool.{cases_lt, false_from_ne_true, false≢true, le-leb, leb-true}
-use Rattle.std.proofs.lemmas.List.{get_or_default}
 use Rattle.std.specs.Prelude.{nat_le, slice_index_or}
 use Rattle.kb_geometry.specs.declared.stone.Cell.TheVariants as stone
-use Rattle.kb_geometry.specs.Board.{point_count}
 use Rattle.capture_index.specs.declared.bounds.Bounds.{Bounds}
 use Rattle.capture_index.specs.declared.packed_runs.PackedRuns.{PackedRuns}
 use Rattle.capture_index.specs.declared.run.Run.{Run}
@@ -13,12 +11,19 @@ use Rattle.capture_index.specs.declared.time.Time.{Time}
 use Rattle.capture_index.specs.declared.time.TheConstants.{MANY}
 use Rattle.capture_index.specs.declared.word_bounds.WordBounds.{WordBounds}
 use Rattle.capture_index.specs.Bounds.{IsBounded}
-use Rattle.capture_index.specs.Finding.{ArePointsFrom, IsBoundTo, IsMet, IsToldFor, no_time, packed_cell, time_at}
-use Rattle.capture_index.specs.Lists.{IsWantedBy, run_of_word, runs_of}
+use Rattle.capture_index.specs.Finding.{IsBoundTo, IsMet, IsToldFor, packed_cell, time_at}
+use Rattle.capture_index.specs.Lists.{IsWantedBy, is_many, run_of_word}
 use Rattle.capture_index.specs.Runs.{cell_by}
 use Rattle.capture_index.specs.Stretches.{is_wanted, no_want}
 use Rattle.capture_index.specs.Wants.{IsOfEmpty}
 use Rattle.capture_index.proofs.Narrowing.{met-wanted, packed_cell-few, wanted-met}
+
+-- ---- words and lists
+pub is_few : (time : Time) → time.word < MANY → is_many time ≡ false
+is_few time few = false_from_ne_true (is_many time) (λ t. absurd (omega (arith, few, leb-true MANY time.word t)))
+
+pub is_word : (time : Time) → is_many time ≡ false → time.word < MANY
+is_word time few = elim (cases_lt time.word MANY) [ inl less ↦ less | inr from ↦ absurd (false≢true (sym few ∙ le-leb MANY time.word from)) ]
 
 -- ---- a point that is to be empty
 module _ (want : Want) (of_empty : IsOfEmpty want) (time : Time) where
@@ -59,33 +64,24 @@ before-runs (r ∷ rs) n before =
     let later : nat_le r.first n ≡ false = false_from_ne_true (nat_le r.first n) (λ t. absurd (omega (arith, before 0 r (omega arith), leb-true r.first n t))) in
     ap (λ (b : Bool). cond b r.cell (cell_by rs n)) later ∙ before-runs rs n (λ k d lt. before (suc k) d (omega (arith, lt)))
 
--- a want that allows no empty point isn't met on one
-pub stone-there : (index : PackedRuns) (base : ℕ) (want : Want) (time : Time) → time ≡ time_at index (base + want.offset) → want.empty ≡ false → (n : ℕ) → IsMet index base want n → cell_by (runs_of index.ends.items index.runs.items time) n ≢ stone.Empty
-stone-there index base want time is none n met empty =
-    let there : packed_cell index (base + want.offset) n ≡ stone.Empty = ap (λ (t : Time). cell_by (runs_of index.ends.items index.runs.items t) n) (sym is) ∙ empty in
-    false≢true (sym none ∙ (sym (ap (is_wanted want) there) ∙ met))
-
--- ---- the points from a base on
-pub point-read : (index : PackedRuns) (base : ℕ) (points : List Time) → ArePointsFrom index base points → (offset i : ℕ) → i ≡ offset → base + offset < point_count index.shape → (time : Time) → time ≡ get_or points i time → time ≡ time_at index (base + offset)
-point-read index base points are offset i same lt time read =
-    let below : offset < length points = omega (arith, lt, are.0) in
-    read ∙ ap (λ (k : ℕ). get_or points k time) same ∙ get_or_default points offset time no_time below ∙ are.1 offset below
-
 -- ---- what is told as bounds
 module _ (index : PackedRuns) (base : ℕ) (wants : List Want) (empties : ℕ) (told : WordBounds) (is : IsToldFor index base wants empties told) where
-  pub bound-told : IsBoundTo index base wants 0 (record { latest = told.latest; least = told.least; gaps = 0 })
-  bound-told = record {
-    kept = is.kept;
-    inside = λ n b. omega (arith, b.1, is.within);
-    words = λ n b k lt few. absurd (omega (arith, lt));
-    whole = λ e n b k lt. absurd (omega (arith, lt));
-  }
+  -- a word more of a point that is to be empty
+  pub bound-word-told : (k : ℕ) → empties ≤ k → k < length wants → (bounds : Bounds) → IsBoundTo index base wants k bounds → ((n : ℕ) → IsBounded bounds n → (told.latest / 2 ≤ n) × (n < told.least / 2)) → is_many (time_at index (base + (slice_index_or wants k no_want).offset)) ≡ false → IsBoundTo index base wants (k + 1) bounds
+  bound-word-told k from lt bounds bound inside word =
+      let met : (n : ℕ) → IsBounded bounds n → IsMet index base (slice_index_or wants k no_want) n = λ n b. is.met n (inside n b).0 (inside n b).1 k from lt word in
+      record {
+        kept = bound.kept;
+        inside = bound.inside;
+        words = λ n b. below_more (λ j. is_many (time_at index (base + (slice_index_or wants j no_want).offset)) ≡ false → IsMet index base (slice_index_or wants j no_want) n) k (bound.words n b) (λ few. met n b);
+        whole = λ e n b. below_more (λ j. IsMet index base (slice_index_or wants j no_want) n) k (bound.whole e n b) (met n b);
+      }
 
-  -- the points that are to be empty are so within narrower bounds, unless one has a list of runs
-  pub bound-all : (bounds : Bounds) → IsBoundTo index base wants empties bounds → ((n : ℕ) → IsBounded bounds n → IsBounded (record { latest = told.latest; least = told.least; gaps = 0 }) n) → told.most < MANY → IsBoundTo index base wants (length wants) bounds
+  -- the words of all of them, where none has a list of runs
+  pub bound-all : (bounds : Bounds) → IsBoundTo index base wants empties bounds → ((n : ℕ) → IsBounded bounds n → (told.latest / 2 ≤ n) × (n < told.least / 2)) → told.most < MANY → IsBoundTo index base wants (length wants) bounds
   bound-all bounds bound inside few =
       let met : (n : ℕ) → IsBounded bounds n → (k : ℕ) → empties ≤ k → k < length wants → IsMet index base (slice_index_or wants k no_want) n =
-      λ n b. is.met few n (inside n b).0 (inside n b).1 in
+      λ n b k from lt. is.met n (inside n b).0 (inside n b).1 k from lt (is.few few k from lt) in
       record {
         kept = bound.kept;
         inside = bound.inside;
