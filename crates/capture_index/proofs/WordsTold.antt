@@ -1,7 +1,7 @@
 -- What the words of points tell of the nodes at which wants are met.
-use Rattle.std.proofs.Common.{◌≡◌, ℕ, suc, ◌+◌, ◌/◌, ◌%◌, ◌==◌, ◌<◌, ◌≤◌, Bool, true, false, cond, List, [], ◌∷◌, length, get_or, sym, refl, ◌∙◌, ap, arith, inl, inr, below_more}
+use Rattle.std.proofs.Common.{subst, ◌⊎◌, ◌≡◌, ℕ, suc, ◌+◌, ◌/◌, ◌%◌, ◌==◌, ◌<◌, ◌≤◌, Bool, true, false, cond, List, [], ◌∷◌, length, get_or, sym, refl, ◌∙◌, ap, arith, inl, inr}
 use Rattle.std.proofs.lemmas.Bool.{cases_lt, false_from_ne_true, false≢true, le-leb, leb-true}
-use Rattle.std.specs.Prelude.{nat_le, slice_index_or}
+use Rattle.std.specs.Prelude.{IfSome, None, Option, Some, nat_le, slice_index_or}
 use Rattle.kb_geometry.specs.declared.stone.Cell.TheVariants as stone
 use Rattle.capture_index.specs.declared.bounds.Bounds.{Bounds}
 use Rattle.capture_index.specs.declared.packed_runs.PackedRuns.{PackedRuns}
@@ -12,18 +12,11 @@ use Rattle.capture_index.specs.declared.time.TheConstants.{MANY}
 use Rattle.capture_index.specs.declared.word_bounds.WordBounds.{WordBounds}
 use Rattle.capture_index.specs.Bounds.{IsBounded}
 use Rattle.capture_index.specs.Finding.{IsBoundTo, IsMet, IsToldFor, packed_cell, time_at}
-use Rattle.capture_index.specs.Lists.{IsWantedBy, is_many, run_of_word}
+use Rattle.capture_index.specs.Lists.{IsWantedBy, run_of_word}
 use Rattle.capture_index.specs.Runs.{cell_by}
 use Rattle.capture_index.specs.Stretches.{is_wanted, no_want}
 use Rattle.capture_index.specs.Wants.{IsOfEmpty}
 use Rattle.capture_index.proofs.Narrowing.{met-wanted, packed_cell-few, wanted-met}
-
--- ---- words and lists
-pub is_few : (time : Time) → time.word < MANY → is_many time ≡ false
-is_few time few = false_from_ne_true (is_many time) (λ t. absurd (omega (arith, few, leb-true MANY time.word t)))
-
-pub is_word : (time : Time) → is_many time ≡ false → time.word < MANY
-is_word time few = elim (cases_lt time.word MANY) [ inl less ↦ less | inr from ↦ absurd (false≢true (sym few ∙ le-leb MANY time.word from)) ]
 
 -- ---- a point that is to be empty
 module _ (want : Want) (of_empty : IsOfEmpty want) (time : Time) where
@@ -66,25 +59,23 @@ before-runs (r ∷ rs) n before =
 
 -- ---- what is told as bounds
 module _ (index : PackedRuns) (base : ℕ) (wants : List Want) (empties : ℕ) (told : WordBounds) (is : IsToldFor index base wants empties told) where
-  -- a word more of a point that is to be empty
-  pub bound-word-told : (k : ℕ) → empties ≤ k → k < length wants → (bounds : Bounds) → IsBoundTo index base wants k bounds → ((n : ℕ) → IsBounded bounds n → (told.latest / 2 ≤ n) × (n < told.least / 2)) → is_many (time_at index (base + (slice_index_or wants k no_want).offset)) ≡ false → IsBoundTo index base wants (k + 1) bounds
-  bound-word-told k from lt bounds bound inside word =
-      let met : (n : ℕ) → IsBounded bounds n → IsMet index base (slice_index_or wants k no_want) n = λ n b. is.met n (inside n b).0 (inside n b).1 k from lt word in
-      record {
-        kept = bound.kept;
-        inside = bound.inside;
-        words = λ n b. below_more (λ j. is_many (time_at index (base + (slice_index_or wants j no_want).offset)) ≡ false → IsMet index base (slice_index_or wants j no_want) n) k (bound.words n b) (λ few. met n b);
-        whole = λ e n b. below_more (λ j. IsMet index base (slice_index_or wants j no_want) n) k (bound.whole e n b) (met n b);
-      }
-
   -- the words of all of them, where none has a list of runs
-  pub bound-all : (bounds : Bounds) → IsBoundTo index base wants empties bounds → ((n : ℕ) → IsBounded bounds n → (told.latest / 2 ≤ n) × (n < told.least / 2)) → told.most < MANY → IsBoundTo index base wants (length wants) bounds
+  bound-all : (bounds : Bounds) → IsBoundTo index base wants empties bounds → ((n : ℕ) → IsBounded bounds n → (told.latest / 2 ≤ n) × (n < told.least / 2)) → told.most < MANY → IsBoundTo index base wants (length wants) bounds
   bound-all bounds bound inside few =
       let met : (n : ℕ) → IsBounded bounds n → (k : ℕ) → empties ≤ k → k < length wants → IsMet index base (slice_index_or wants k no_want) n =
-      λ n b k from lt. is.met n (inside n b).0 (inside n b).1 k from lt (is.few few k from lt) in
+      λ n b. is.met few n (inside n b).0 (inside n b).1 in
       record {
         kept = bound.kept;
         inside = bound.inside;
         words = λ n b k lt word. elim (cases_lt k empties) [ inl first ↦ bound.words n b k first word | inr behind ↦ met n b k behind lt ];
         whole = λ e n b k lt. elim (cases_lt k empties) [ inl first ↦ bound.whole e n b k first | inr behind ↦ met n b k behind lt ];
       }
+
+  -- where the wants are bound that words leave, all are
+  bound-left : (left : ℕ) → (left ≡ length wants) ⊎ ((left ≡ empties) × (told.most < MANY)) → (bounds : Bounds) → IsBoundTo index base wants left bounds → ((n : ℕ) → IsBounded bounds n → (told.latest / 2 ≤ n) × (n < told.least / 2)) → IsBoundTo index base wants (length wants) bounds
+  bound-left left (inl all) bounds bound inside = subst (λ (k : ℕ). IsBoundTo index base wants k bounds) all bound
+  bound-left left (inr (first, few)) bounds bound inside = bound-all bounds (subst (λ (k : ℕ). IsBoundTo index base wants k bounds) first bound) inside few
+
+  pub some-left : (left : ℕ) → (left ≡ length wants) ⊎ ((left ≡ empties) × (told.most < MANY)) → (result : Option Bounds) → IfSome result (IsBoundTo index base wants left) → IfSome result (λ bounds. (n : ℕ) → IsBounded bounds n → (told.latest / 2 ≤ n) × (n < told.least / 2)) → IfSome result (IsBoundTo index base wants (length wants))
+  some-left left is None bound inside = bound
+  some-left left is (Some bounds) bound inside = bound-left left is bounds bound inside

@@ -48,8 +48,8 @@ AreMetByWord index base wants count n = (k : ℕ) → k < count →
     is_many (time_at index (base + (slice_index_or wants k no_want).offset)) ≡ false →
     IsMet index base (slice_index_or wants k no_want) n
 
--- The bounds have each node at which all wants are met. At their nodes the first so many are met
--- whose points have a word, and all of these unless it is told that some perhaps aren't.
+-- The bounds have each node at which all wants are met. At their nodes those of the first so many are
+-- met whose points have a word, and all of the first so many where `gaps` is 0.
 pub record IsBoundTo (index : PackedRuns) (base : ℕ) (wants : List Want) (count : ℕ)
     (bounds : Bounds) : Type 0 where
   pub kept : (n : ℕ) → n < index.nodes → AreMet index base wants n → IsBounded bounds n
@@ -63,20 +63,16 @@ abbrev pub ArePointsFrom : PackedRuns → ℕ → List Time → Type 0
 ArePointsFrom index base points = (length points + base ≡ point_count index.shape)
     × ((k : ℕ) → k < length points → slice_index_or points k no_time ≡ time_at index (base + k))
 
--- What words tell of wants, of which those from one on are of empty points alone: they are met at
--- none but these nodes, and the latter are met at all of these, but perhaps those whose points have a
--- list of runs. There is none such where it is told so.
+-- All wants are met at no other nodes than those from half of `latest` up to before half of `least`,
+-- which is at most twice the number of nodes. Where `most` is below `MANY`, each want from the one with
+-- number `empties` on is met at all these nodes.
 pub record IsToldFor (index : PackedRuns) (base : ℕ) (wants : List Want) (empties : ℕ)
     (told : WordBounds) : Type 0 where
   pub kept : (n : ℕ) → n < index.nodes → AreMet index base wants n →
       (told.latest / 2 ≤ n) × (n < told.least / 2)
   pub within : told.least ≤ 2 * index.nodes
-  pub met : (n : ℕ) → told.latest / 2 ≤ n → n < told.least / 2 → (k : ℕ) → empties ≤ k →
-      k < length wants →
-      is_many (time_at index (base + (slice_index_or wants k no_want).offset)) ≡ false →
-      IsMet index base (slice_index_or wants k no_want) n
-  pub few : told.most < MANY → (k : ℕ) → empties ≤ k → k < length wants →
-      is_many (time_at index (base + (slice_index_or wants k no_want).offset)) ≡ false
+  pub met : told.most < MANY → (n : ℕ) → told.latest / 2 ≤ n → n < told.least / 2 →
+      (k : ℕ) → empties ≤ k → k < length wants → IsMet index base (slice_index_or wants k no_want) n
 
 -- the nodes that are left are those at which the first so many wants with lists are met
 abbrev pub IsCutBy : PackedRuns → ℕ → List Want → ℕ → List Stretch → List Stretch → Type 0

@@ -109,7 +109,8 @@ abbrev pub ArePartedOn : Shape → Grid → ℕ → ℕ → List Want → OtherW
 ArePartedOn shape grid from to stones others stones' others' = (before : List Want) →
     AreParted shape grid from before stones others → AreParted shape grid to before stones' others'
 
--- the list grows by the wants of the class with this rectangle, from a place on of empty points alone
+-- the list grows by the wants of the class with this rectangle, from `empties` on, counted in the whole
+-- list, of empty points alone
 pub record IsClassAdded (shape : Shape) (grid : Grid) (empties : ℕ)
     (before after : List Want) : Type 0 where
   pub more : List Want

@@ -5,6 +5,7 @@ ghost use Rattle.std.specs.Prelude.{
   ◌/◌,
   ◌<◌,
   ◌≤◌,
+  ◌⊎◌,
   ℕ,
   [],
   ◌∷◌,
@@ -18,7 +19,7 @@ ghost use Rattle.std.specs.Prelude.{
 ghost use Rattle.kb_geometry.specs.Board.{point_count};
 ghost use Rattle.capture_index.specs.declared.stretch.Want.{Want};
 ghost use Rattle.capture_index.specs.Bounds.{IsBounded, IsNarrowed};
-ghost use Rattle.capture_index.specs.Finding.{AreMet, IsBoundTo, IsToldFor};
+ghost use Rattle.capture_index.specs.Finding.{AreMet, IsBoundTo};
 ghost use Rattle.capture_index.specs.Lists.{IsWantedBy, run_of_word};
 
 use crate::hull::hull_of;
@@ -52,15 +53,6 @@ impl PackedRuns {
         ensures none { IfNone result ((n : ℕ) → n < self.now.nodes →
             ¬ AreMet self.now base class.entry.wants.now n) }
     {
-        let whole = Bounds {
-            latest: 0,
-            least: 2 * self.nodes,
-            gaps: 0,
-        };
-        // Words don't tell nodes of greater numbers.
-        if class.empties == class.wants.len() || whole.least > u32::from(MANY) {
-            return self.with_firsts(base, class.wants, class.wants.len(), whole);
-        }
         let Some(told) = self.told_by_words(base, class) else {
             return None;
         };
@@ -69,17 +61,18 @@ impl PackedRuns {
             least: told.least,
             gaps: 0,
         };
-        let Some(bounds) = self.with_firsts(base, class.wants, class.empties, start) else {
-            return None;
-        };
-        if told.most < u32::from(MANY) {
-            return Some(bounds);
-        }
-        self.with_lists(base, class, told, bounds)
+        self.with_wants_before(base, class.wants, left_by_words(class, told), start)
     }
 
-    // The bounds with the wants before one; none, where it is seen that the wants are met at no node.
-    fn with_firsts(&self, base: u16, wants: &[Want], to: usize, start: Bounds) -> Option<Bounds>
+    // The bounds with the wants before the one with number `to`; none, where it is seen that the wants
+    // are met at no node.
+    fn with_wants_before(
+        &self,
+        base: u16,
+        wants: &[Want],
+        to: usize,
+        start: Bounds,
+    ) -> Option<Bounds>
         requires on_board { All (λ (w : Want). base + w.offset < point_count self.now.shape)
             wants.now }
         requires within { to ≤ length wants.now }
@@ -114,40 +107,17 @@ impl PackedRuns {
         }
         Some(bounds)
     }
+}
 
-    // The bounds with the lists of runs of points that are to be empty, where it is told what the
-    // words of the others do.
-    fn with_lists(
-        &self,
-        base: u16,
-        class: ClassWants,
-        told: WordBounds,
-        start: Bounds,
-    ) -> Option<Bounds>
-        requires on_board { All (λ (w : Want). base + w.offset < point_count self.now.shape)
-            class.wants.now }
-        requires told { IsToldFor self.now base class.wants.now class.empties told }
-        requires inside { (n : ℕ) → IsBounded start n →
-            (told.latest / 2 ≤ n) × (n < told.least / 2) }
-        requires start { IsBoundTo self.now base class.wants.now class.empties start }
-        ensures some { IfSome result (IsBoundTo self.now base class.entry.wants.now
-            (length class.entry.wants.now)) }
-        ensures none { IfNone result ((n : ℕ) → n < self.now.nodes →
-            ¬ AreMet self.now base class.entry.wants.now n) }
-    {
-        let mut bounds = start;
-        for k in class.empties..class.wants.len() {
-            let want = class.wants[k];
-            let time = self.time_of(base, want.offset);
-            if !time.is_many() {
-                continue;
-            }
-            let Some(next) = with_runs(bounds, self.list(time.list()), want) else {
-                return None;
-            };
-            bounds = next;
-        }
-        Some(bounds)
+// How many wants are to be looked at still: those of empty points aren't, where words tell all.
+fn left_by_words(class: ClassWants, told: WordBounds) -> usize
+    ensures { (result ≡ length class.entry.wants.now)
+        ⊎ ((result ≡ class.entry.empties) × (told.most < MANY)) }
+{
+    if told.most < u32::from(MANY) {
+        class.empties
+    } else {
+        class.wants.len()
     }
 }
 

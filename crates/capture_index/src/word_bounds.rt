@@ -1,4 +1,5 @@
-// What the words of points alone tell of the nodes at which wants are met.
+// What the words of points tell of the nodes at which wants are met, and the first nodes of lists where
+// stones are wanted.
 ghost use Rattle.std.specs.Prelude.{
   ◌≡◌,
   ◌≢◌,
@@ -31,23 +32,31 @@ use crate::wants::ClassWants;
 pub(crate) struct WordBounds {
     pub(crate) latest: u32,
     pub(crate) least: u32,
-    // From `MANY` on, unless each point that is to be empty has a word.
+    // The greatest word of the points that are to be empty: at least `MANY`, where one of them has a
+    // list of runs, or where they weren't looked at.
     pub(crate) most: u32,
 }
 
 impl PackedRuns {
-    // What the words of the points of wants tell; none, where the wants are met at no node. Points
-    // that may be empty or have a stone aren't looked at.
+    // What the words of the points of wants tell; none, where the wants are met at no node. Wants from
+    // the first one on that allows an empty point, up to those of empty points alone, aren't looked at.
     pub(crate) fn told_by_words(&self, base: u16, class: ClassWants) -> Option<WordBounds>
-        requires on_board { All (λ (w : Want). base + w.offset < point_count self.now.shape)
+        requires { All (λ (w : Want). base + w.offset < point_count self.now.shape)
             class.wants.now }
-        requires some { class.empties < length class.wants.now }
-        requires few { 2 * self.now.nodes ≤ MANY }
         ensures some { IfSome result (IsToldFor self.now base class.entry.wants.now
             class.entry.empties) }
         ensures none { IfNone result ((n : ℕ) → n < self.now.nodes →
             ¬ AreMet self.now base class.entry.wants.now n) }
     {
+        let many = u32::from(MANY);
+        // With more nodes the number of a list could be taken for a node.
+        if class.empties == class.wants.len() || 2 * self.nodes > many {
+            return Some(WordBounds {
+                latest: 0,
+                least: 2 * self.nodes,
+                most: many,
+            });
+        }
         let points = self.points_from(base);
         let latest = self.latest_stone(base, points, class);
         self.with_empties(base, points, class, latest)

@@ -1,12 +1,11 @@
 -- One point more.
-use Rattle.std.proofs.Common.{◌+◌, ◌≡◌, ℕ, ◌/◌, ◌<◌, ap, arith, false, inl, inr, subst, sym, ◌∙◌}
+use Rattle.std.proofs.Common.{◌≡◌, ℕ, ◌/◌, ◌<◌, arith, inl, inr, subst}
 use Rattle.std.proofs.lemmas.Bool.{cases_lt}
 use Rattle.std.specs.Prelude.{slice_index_or}
 use Rattle.capture_index.specs.declared.time.TheConstants.{MANY}
-use Rattle.capture_index.specs.Finding.{IsMet, time_at}
-use Rattle.capture_index.specs.Lists.{is_many}
+use Rattle.capture_index.specs.Finding.{IsMet}
 use Rattle.capture_index.specs.Stretches.{no_want}
-use Rattle.capture_index.proofs.WordsTold.{is_few, is_word, met-before, unmet-behind}
+use Rattle.capture_index.proofs.WordsTold.{met-before, unmet-behind}
 use Rattle.capture_index.proofs.packed_runs.PackedRuns.with_empties.Goals as goal
 
 pub returns-then-word-latest-clause-none : goal.returns-then-word-latest-clause-none
@@ -40,19 +39,12 @@ loop-k-preserved c =
             ]
             | inr many ↦ omega (arith, before, many, so_far.within, c.requires.few, least_is, word_is)
           ];
-      met = λ n in_bounds j from lt word. elim (cases_lt j k) [
-        | inl less ↦ so_far.met n (omega (arith, in_bounds, least_is)) j from less word
-        | inr last ↦
-            let same : k ≡ j = omega (arith, lt, last) in
-            let here : is_many (time_at index (base + (slice_index_or wants k no_want).offset)) ≡ false = subst (λ (i : ℕ). is_many (time_at index (base + (slice_index_or wants i no_want).offset)) ≡ false) (sym same) word in
-            let few : time.word < MANY = is_word time (ap is_many c.time_behind-time.ensures ∙ here) in
-            subst (λ (i : ℕ). IsMet index base (slice_index_or wants i no_want) n) same (met-before index base (slice_index_or wants k no_want) of_empty time c.time_behind-time.ensures few n (omega (arith, in_bounds, least_is, word_is)))
-      ];
-      few = λ most j from lt. elim (cases_lt j k) [
-        | inl less ↦ so_far.few (omega (arith, most, c.max-most.ensures)) j from less
-        | inr last ↦
-            let same : k ≡ j = omega (arith, lt, last) in
-            subst (λ (i : ℕ). is_many (time_at index (base + (slice_index_or wants i no_want).offset)) ≡ false) same
-            (sym (ap is_many c.time_behind-time.ensures) ∙ is_few time (omega (arith, most, c.max-most.ensures, word_is)))
-      ];
+      met = λ most n in_bounds j from lt.
+          let few : time.word < MANY = omega (arith, most, c.max-most.ensures, word_is) in
+          elim (cases_lt j k) [
+            | inl less ↦ so_far.met (omega (arith, most, c.max-most.ensures)) n (omega (arith, in_bounds, least_is)) j from less
+            | inr last ↦
+                let same : k ≡ j = omega (arith, lt, last) in
+                subst (λ (i : ℕ). IsMet index base (slice_index_or wants i no_want) n) same (met-before index base (slice_index_or wants k no_want) of_empty time c.time_behind-time.ensures few n (omega (arith, in_bounds, least_is, word_is)))
+          ];
     }

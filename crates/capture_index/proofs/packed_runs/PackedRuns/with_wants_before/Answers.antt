@@ -4,7 +4,7 @@ use Rattle.std.specs.Prelude.{slice_index_or}
 use Rattle.capture_index.specs.Lists.{run_of_word}
 use Rattle.capture_index.specs.Stretches.{no_want}
 use Rattle.capture_index.proofs.Narrowing.{bound-list, bound-none, bound-word, packed_cell-few, packed_cell-many, wanted-met}
-use Rattle.capture_index.proofs.packed_runs.PackedRuns.with_firsts.Goals as goal
+use Rattle.capture_index.proofs.packed_runs.PackedRuns.with_wants_before.Goals as goal
 
 pub returns-in_default-clause-none : goal.returns-in_default-clause-none
 returns-in_default-clause-none c =
