@@ -138,8 +138,9 @@ impl RunIndex {
         next_branch(self.packed.branches(), node, self.packed.node_count())
     }
 
-    /// Finds the nodes at which each wanted cell is there, as stretches, the latest first. What was
-    /// in `found` before is gone. `spare` is room for work, and holds nothing that counts. The only
+    /// Finds the nodes at which each wanted cell is there, as stretches, the latest first. The class
+    /// tells which cells are wanted, each on the point so far behind the one with number `base`. What
+    /// was in `found` before is gone. `spare` is room for work, and holds nothing that counts. The only
     /// error is `NoMemory`.
     pub fn find(
         &self,

@@ -78,6 +78,26 @@ fn is_in(stretches: &[Stretch], node: u32) -> bool {
         .any(|stretch| stretch.from <= node && node < stretch.to)
 }
 
+// The one stretch of nodes at which two wanted cells stand.
+fn expect_stretch(
+    rt: &impl Abort,
+    alloc: Global,
+    index: &RunIndex,
+    base: u16,
+    wants: [Want; 2],
+    from: u32,
+    to: u32,
+) -> Result<(), Fail> {
+    let count = index.shape().count();
+    assert!(rt; base < 100 && wants[0].offset < 100 && wants[1].offset < 100);
+    assert!(rt; base + wants[0].offset < count && base + wants[1].offset < count);
+    let mut found = Vec::new(alloc);
+    let mut spare = Vec::new(alloc);
+    index.find(base, ClassWants::of(&wants), &mut found, &mut spare)?;
+    assert_eq!(rt; found.as_slice(), [Stretch { from, to }].as_slice());
+    Ok(())
+}
+
 // The nodes at which two wanted cells stand, and those of them at which they begin.
 fn expect_found(
     rt: &impl Abort,
@@ -344,7 +364,9 @@ fn eight_kinds_of_wants_at_a_word(rt: HostRuntime) -> Result<(), Fail> {
 #[test]
 fn lines_of_many_nodes(rt: HostRuntime) -> Result<(), Fail> {
     let alloc = rt.alloc();
-    for count in [16_383u32, 16_384] {
+    let black = want(0, false, true, false);
+    let empty = want(1, true, false, false);
+    for count in [16_383u32, 16_384, 16_385] {
         let deltas = made_line::<Brand>(&rt, alloc, count, Blank::new(1))?;
         let index = RunIndex::of(alloc, &deltas)?;
         let last = count - 1;
@@ -354,6 +376,7 @@ fn lines_of_many_nodes(rt: HostRuntime) -> Result<(), Fail> {
         expect_where(&rt, alloc, &index, 4, WHITE, &[last])?;
         expect_where(&rt, alloc, &index, 5, EMPTY, &[0])?;
         expect_where(&rt, alloc, &index, 5, WHITE, &[])?;
+        expect_stretch(&rt, alloc, &index, 3, [black, empty], 5, last - 1)?;
         assert_eq!(rt; cell(&index, 3, 4), Some(EMPTY));
         assert_eq!(rt; cell(&index, 3, last - 2), Some(BLACK));
         assert_eq!(rt; cell(&index, 4, last), Some(WHITE));

@@ -12,10 +12,11 @@ use std::marker::Model;
 
 /// What a class asks of points.
 ///
-/// How many wants at its end are of empty points alone is known, as these are looked at the fastest.
+/// How many of the wants at the end are of empty points alone is known too, since
+/// [`RunIndex::find`](crate::RunIndex::find) takes the least for these.
 #[derive(Clone, Copy, Debug)]
 pub struct ClassWants<'a> {
-    /// All wants.
+    /// What is asked of points, in any order.
     pub wants: &'a [Want],
     // From this one on each is of an empty point alone.
     pub(crate) empties: usize,
@@ -24,7 +25,7 @@ pub struct ClassWants<'a> {
 }
 
 impl<'a> ClassWants<'a> {
-    /// A class that asks this.
+    /// A class with these wants, which need not be those of images.
     pub fn of(wants: &'a [Want]) -> ClassWants<'a>
         ensures { result.wants.now ≡ wants.now }
     {
@@ -64,7 +65,8 @@ struct WantRange {
     end: usize,
 }
 
-// How many wants the classes have at the most: one for each cell.
+// At most as many wants as the classes have cells. All have as many cells, since they are one pattern
+// turned.
 fn most_wants(images: &Images) -> usize {
     let count = images.class_count();
     if count == 0 {
