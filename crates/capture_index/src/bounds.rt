@@ -19,7 +19,7 @@ ghost use Rattle.std.specs.Prelude.{
 ghost use Rattle.kb_geometry.specs.Board.{point_count};
 ghost use Rattle.capture_index.specs.declared.stretch.Want.{Want};
 ghost use Rattle.capture_index.specs.Bounds.{IsBounded, IsNarrowed};
-ghost use Rattle.capture_index.specs.Finding.{AreMet, IsBoundTo};
+ghost use Rattle.capture_index.specs.Finding.{AreMet, ArePointsFrom, IsBoundTo};
 ghost use Rattle.capture_index.specs.Lists.{IsWantedBy, run_of_word};
 
 use crate::hull::hull_of;
@@ -53,7 +53,16 @@ impl PackedRuns {
         ensures none { IfNone result ((n : ℕ) → n < self.now.nodes →
             ¬ AreMet self.now base class.entry.wants.now n) }
     {
-        let Some(told) = self.told_by_words(base, class) else {
+        // Then the base need not be a point.
+        if class.wants.is_empty() {
+            return Some(Bounds {
+                latest: 0,
+                least: 2 * self.nodes,
+                gaps: 0,
+            });
+        }
+        let points = self.points_from(base);
+        let Some(told) = self.told_by_words(base, points, class) else {
             return None;
         };
         let start = Bounds {
@@ -61,7 +70,8 @@ impl PackedRuns {
             least: told.least,
             gaps: 0,
         };
-        self.with_wants_before(base, class.wants, left_by_words(class, told), start)
+        let to = left_by_words(class, told);
+        self.with_wants_before(base, points, class.wants, to, start)
     }
 
     // The bounds with the wants before the one with number `to`; none, where it is seen that the wants
@@ -69,12 +79,14 @@ impl PackedRuns {
     fn with_wants_before(
         &self,
         base: u16,
+        points: &[Time],
         wants: &[Want],
         to: usize,
         start: Bounds,
     ) -> Option<Bounds>
         requires on_board { All (λ (w : Want). base + w.offset < point_count self.now.shape)
             wants.now }
+        requires points { ArePointsFrom self.now base points.now }
         requires within { to ≤ length wants.now }
         requires start { IsBoundTo self.now base wants.now 0 start }
         ensures some { IfSome result (IsBoundTo self.now base wants.now to) }
@@ -85,7 +97,7 @@ impl PackedRuns {
         let mut bounds = start;
         for k in 0..to {
             let want = wants[k];
-            let time = self.time_of(base, want.offset);
+            let time = self.time_behind(base, points, want.offset);
             if time.is_many() {
                 let Some(next) = with_runs(bounds, self.list(time.list()), want) else {
                     return None;

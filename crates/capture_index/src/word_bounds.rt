@@ -40,9 +40,15 @@ pub(crate) struct WordBounds {
 impl PackedRuns {
     // What the words of the points of wants tell; none, where the wants are met at no node. Wants from
     // the first one on that allows an empty point, up to those of empty points alone, aren't looked at.
-    pub(crate) fn told_by_words(&self, base: u16, class: ClassWants) -> Option<WordBounds>
-        requires { All (λ (w : Want). base + w.offset < point_count self.now.shape)
+    pub(crate) fn told_by_words(
+        &self,
+        base: u16,
+        points: &[Time],
+        class: ClassWants,
+    ) -> Option<WordBounds>
+        requires on_board { All (λ (w : Want). base + w.offset < point_count self.now.shape)
             class.wants.now }
+        requires points { ArePointsFrom self.now base points.now }
         ensures some { IfSome result (IsToldFor self.now base class.entry.wants.now
             class.entry.empties) }
         ensures none { IfNone result ((n : ℕ) → n < self.now.nodes →
@@ -57,13 +63,12 @@ impl PackedRuns {
                 most: many,
             });
         }
-        let points = self.points_from(base);
         let latest = self.latest_stone(base, points, class);
         self.with_empties(base, points, class, latest)
     }
 
     // The words of the points from the base on.
-    fn points_from(&self, base: u16) -> &[Time]
+    pub(crate) fn points_from(&self, base: u16) -> &[Time]
         requires { base ≤ point_count self.now.shape }
         ensures { ArePointsFrom self.now base result.now }
     {
@@ -72,7 +77,7 @@ impl PackedRuns {
 
     // The word of the point so far behind the base. In a loop this takes less than `time_of`, which
     // adds base and offset each time.
-    fn time_behind(&self, base: u16, points: &[Time], offset: u16) -> Time
+    pub(crate) fn time_behind(&self, base: u16, points: &[Time], offset: u16) -> Time
         requires points { ArePointsFrom self.now base points.now }
         requires on_board { base + offset < point_count self.now.shape }
         ensures { result ≡ time_at self.now (base + offset) }
