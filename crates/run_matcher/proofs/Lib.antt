@@ -3,3 +3,4 @@ pub mod FewPlacements
 pub mod HoldingOn
 pub mod KeyLists
 pub mod OccurrencesOfOne
+pub mod SortedKeys

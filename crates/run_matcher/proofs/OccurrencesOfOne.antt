@@ -1,5 +1,5 @@
 -- A placement begins to hold at the nodes at which its wants begin to be met.
-use Rattle.std.proofs.Common.{◌≡◌, ◌↔◌, ◌⊎◌, ℕ, ◌+◌, ◌<◌, inl, inr, Some, None, Option, Bool, true, false, not, List, [], ◌++◌, length, refl, sym, ap, ◌∙◌, arith, subst}
+use Rattle.std.proofs.Common.{◌≡◌, ◌↔◌, ◌⊎◌, ℕ, ◌+◌, ◌<◌, ◌≤◌, inl, inr, Some, None, Option, Bool, true, false, not, List, [], ◌++◌, length, refl, sym, ap, ◌∙◌, arith, subst}
 use Rattle.std.specs.Prelude.{Contains, IfSome, map}
 use Rattle.std.specs.Option.{option_map_or}
 use Rattle.std.proofs.lemmas.Bool.{and_from, and_parts, cases_lt, false≢true, false_from_ne_true}
@@ -18,14 +18,17 @@ use Rattle.capture_index.specs.Stretches.{AreApart, AreWantedAt, BeginsIn, IsIn}
 use Rattle.capture_index.specs.declared.stretch.Stretch.{Stretch}
 use Rattle.capture_index.specs.Wants.{AreWantsOf, ClassesOn, base_of}
 use Rattle.capture_index.proofs.WantsOfPlacements.{parent_seen-at, wanted-holds}
-use Rattle.run_matcher.specs.Begins.{BeginAt}
-use Rattle.run_matcher.specs.Keys.{key_of, occurrences_of}
+use Rattle.run_matcher.specs.Begins.{BeginAt, IsKnownIn}
+use Rattle.run_matcher.specs.GoingOn.{GoesOnToHold, occurrences_of}
+use Rattle.run_matcher.specs.Keys.{begun_list, key_of}
 use Rattle.run_matcher.specs.Matchers.{IsMatcherOf}
 use Rattle.run_matcher.specs.PlacementOccurrences.{IsOccurrenceBelow, IsOccurrenceOf}
 use Rattle.run_matcher.specs.SoughtPlacements.{IsSought}
+use Rattle.run_matcher.specs.declared.begun.Begun.{Begun}
 use Rattle.run_matcher.specs.declared.sought.Sought.{Sought}
 use Rattle.run_matcher.proofs.BegunNodes.{AreParentsThere, begun, count-seen, parents-there}
-use Rattle.run_matcher.proofs.KeyLists.{keys-added}
+use Rattle.run_matcher.proofs.HoldingOn.{met-holds}
+use Rattle.run_matcher.proofs.KeyLists.{begun-added, keys-added}
 
 -- ---- what the test of a placement tells
 module _ (deltas : Deltas) (placement : Placement) where
@@ -89,19 +92,27 @@ module _ (deltas : Deltas) (are : AreDeltas deltas) (placement : Placement) (pla
 -- ---- what is gathered
 
 -- the keys of what begins in stretches
-pub begins-added : (seen' : NodePositions) (stretches : List Stretch) (i : ℕ) (nodes old new : List ℕ) (before : List Occurrence) → i < 65536 → ((x : ℕ) → Contains nodes x ↔ BeginsIn seen' stretches x) → new ≡ old ++ map (key_of i) nodes → occurrences_of old ≡ before →
-    (o : Occurrence) → Contains (occurrences_of new) o ↔ (Contains before o ⊎ ((o.placement ≡ i) × BeginsIn seen' stretches o.node))
-begins-added seen' stretches i nodes old new before small begun added shown o =
-    let keys = keys-added i nodes old new small added o in (
-      λ h. elim (keys.0 h) [
-        | inl was ↦ inl (subst (λ (os : List Occurrence). Contains os o) shown was)
-        | inr (e, node) ↦ inr (e, (begun o.node).0 node)
-      ],
-      λ h. keys.1 (elim h [
-        | inl was ↦ inl (subst (λ (os : List Occurrence). Contains os o) (sym shown) was)
-        | inr (e, begins) ↦ inr (e, (begun o.node).1 begins)
-      ]),
-    )
+module _ (seen' : NodePositions) (stretches : List Stretch) (i known : ℕ) (nodes old new : List ℕ) (before : List Begun) (small : i < 65536) (few : known ≤ 65536) (begun : (x : ℕ) → Contains nodes x ↔ BeginsIn seen' stretches x) (added : new ≡ old ++ map (key_of i known) nodes) (shown : begun_list old ≡ before) where
+  pub begins-added : (o : Occurrence) → Contains (occurrences_of (begun_list new)) o ↔ (Contains (occurrences_of before) o ⊎ ((o.placement ≡ i) × BeginsIn seen' stretches o.node))
+  begins-added o =
+      let keys = keys-added i known nodes old new small few added o in (
+        λ h. elim (keys.0 h) [
+          | inl was ↦ inl (subst (λ (bs : List Begun). Contains (occurrences_of bs) o) shown was)
+          | inr (e, node) ↦ inr (e, (begun o.node).0 node)
+        ],
+        λ h. keys.1 (elim h [
+          | inl was ↦ inl (subst (λ (bs : List Begun). Contains (occurrences_of bs) o) (sym shown) was)
+          | inr (e, begins) ↦ inr (e, (begun o.node).1 begins)
+        ]),
+      )
+
+  pub known-added : ((n k : ℕ) → IsIn stretches n → n ≤ k → k < known → IsIn stretches k) → (b : Begun) → Contains (begun_list new) b → Contains before b ⊎ IsKnownIn stretches i b
+  known-added inside b h = elim (begun-added i known nodes old new small few added b h) [
+    | inl was ↦ inl (subst (λ (bs : List Begun). Contains bs b) shown was)
+    | inr (e, node, is) ↦
+        let first = (begun b.occurrence.node).0 node in
+        inr (record { same = e; here = first.inside; on = λ k from below. inside b.occurrence.node k first.inside from (omega (arith, below, is)) })
+  ]
 
 -- nothing begins where there is no stretch
 pub none-begins : (seen' : NodePositions) (stretches : List Stretch) (i : ℕ) (gathered : List Occurrence) → length stretches ≡ 0 → (o : Occurrence) → Contains gathered o ↔ (Contains gathered o ⊎ ((o.placement ≡ i) × BeginsIn seen' stretches o.node))
@@ -136,6 +147,16 @@ module _ (seen' : NodePositions) (sought : Sought) (stretches : List Stretch) (o
           | inr (e, node, t) ↦ inr (e, begins.1 (told.1 (node, t)))
         ]),
       )
+
+  -- and as far as is known it goes on to hold
+  pub known-holds : (deltas : Deltas) → seen' ≡ positions_of deltas → (b : Begun) → IsKnownIn stretches sought.number b → GoesOnToHold deltas sought.images.now.placements b
+  known-holds deltas is b known k from below =
+      let inside = known.on k from below in
+      let (j, d, lt, at) = inside in
+      let each = apart.each j d lt in
+      let k_in : k < count_in seen' = omega (arith, each.2, at.1) in
+      subst (λ (i : ℕ). HoldsAt deltas (placement_at sought.images.now.placements i) k) (sym known.same)
+      (met-holds seen' sought on is_sought deltas is k k_in ((held k k_in).0 inside))
 
 -- all placements: what is gathered is what occurs
 pub gathered-all : (deltas : Deltas) (placements : List Placement) (o : Occurrence) → IsOccurrenceBelow deltas placements (length placements) o ↔ Contains (occurrences_in deltas placements) o

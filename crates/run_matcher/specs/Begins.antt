@@ -1,11 +1,20 @@
 -- The nodes at which wanted cells begin to stand: words for the private functions.
-use Rattle.std.specs.Prelude.{ℕ, ◌<◌, IfSome, List}
+use Rattle.std.specs.Prelude.{◌≡◌, ℕ, ◌<◌, ◌≤◌, IfSome, List}
+use Rattle.capture_index.specs.declared.stretch.Stretch.{Stretch}
 use Rattle.capture_index.specs.declared.stretch.Want.{Want}
 use Rattle.capture_index.specs.NodePositions.{NodePositions, count_in, parent_in}
-use Rattle.capture_index.specs.Stretches.{AreWantedAt}
+use Rattle.capture_index.specs.Stretches.{AreWantedAt, IsIn}
+use Rattle.run_matcher.specs.declared.begun.Begun.{Begun}
 
 -- at the node each want is met, and it is the root or some want isn't met at its parent
 pub record BeginAt (seen : NodePositions) (base : ℕ) (wants : List Want) (n : ℕ) : Type 0 where
   pub in_range : n < count_in seen
   pub here : AreWantedAt seen base wants n
   pub before : IfSome (parent_in seen n) (λ m. ¬ AreWantedAt seen base wants m)
+
+-- the placement begins to hold at a node in the stretches, and as far as is known its nodes are in
+-- them
+pub record IsKnownIn (stretches : List Stretch) (placement : ℕ) (b : Begun) : Type 0 where
+  pub same : b.occurrence.placement ≡ placement
+  pub here : IsIn stretches b.occurrence.node
+  pub on : (k : ℕ) → b.occurrence.node ≤ k → k < b.known → IsIn stretches k

@@ -1,4 +1,5 @@
 -- Words that contracts of public functions rest on.
+pub mod GoingOn
 pub mod PlacementOccurrences
 pub mod SoughtPlacements
 -- Words of private functions.

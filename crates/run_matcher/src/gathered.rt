@@ -2,9 +2,12 @@
 ghost use Rattle.std.specs.Prelude.{
   ◌≡◌,
   ◌<◌,
+  ◌≤◌,
   ◌↔◌,
   ◌⊎◌,
+  ℕ,
   [],
+  All,
   Contains,
   IfOk,
   IsTrue,
@@ -16,37 +19,40 @@ ghost use Rattle.pattern_images.specs.Placements.{Placement};
 ghost use Rattle.line_matcher.specs.declared.occurrence.Occurrence.{Occurrence};
 ghost use Rattle.line_matcher.specs.Occurrences.{occurrences_in};
 ghost use Rattle.capture_index.specs.NodePositions.{count_in, positions_of};
-ghost use Rattle.capture_index.specs.Stretches.{AreApart, BeginsIn};
+ghost use Rattle.capture_index.specs.declared.stretch.Stretch.{Stretch};
+ghost use Rattle.capture_index.specs.Stretches.{AreApart, BeginsIn, IsIn};
+ghost use Rattle.run_matcher.specs.GoingOn.{GoesOnToHold, occurrences_of};
+ghost use Rattle.run_matcher.specs.Begins.{IsKnownIn};
+ghost use Rattle.run_matcher.specs.declared.begun.Begun.{Begun};
 ghost use Rattle.run_matcher.specs.PlacementOccurrences.{IsOccurrenceOf};
 ghost use Rattle.run_matcher.specs.SoughtPlacements.{IsSought};
 
-use crate::keys::{occurrences, push_keys};
-use crate::{Buffers, Sought};
+use crate::keys::{begun_once, push_keys};
+use crate::{Begun, Buffers, Sought};
 use capture_index::{RunIndex, Stretch};
 use kb_geometry::NoMemory;
-use line_matcher::Occurrence;
 use std::alloc::Global;
 use std::marker::Model;
 
-/// Occurrences of one game while they are gathered placement by placement. It may serve for many
-/// games one after another, which spares making its lists anew.
+/// Occurrences of one game while they are gathered placement by placement, each with how far its
+/// placement is known to go on to hold. It may serve for many games one after another, which spares
+/// making its lists anew.
 ///
-/// Contracts see a list: which occurrences are in it counts, and not in what order they are, nor
-/// how often.
+/// Contracts see a list: which are in it counts, and not in what order they are, nor how often.
 #[derive(Debug, Drop)]
 pub struct Gathered {
-    // A number for each occurrence.
-    keys: Vec<u32>,
+    // A number for each.
+    keys: Vec<u64>,
 }
 
 impl Model for Gathered {
     ghost use Rattle.std.specs.Prelude.{List};
-    ghost use Rattle.line_matcher.specs.declared.occurrence.Occurrence.{Occurrence};
-    ghost use Rattle.run_matcher.specs.Keys.{occurrences_of};
+    ghost use Rattle.run_matcher.specs.declared.begun.Begun.{Begun};
+    ghost use Rattle.run_matcher.specs.Keys.{begun_list};
 
-    ghost Value = { List Occurrence };
+    ghost Value = { List Begun };
 
-    ghost view = { λ g. occurrences_of g.keys.items };
+    ghost view = { λ g. begun_list g.keys.items };
 }
 
 impl Gathered {
@@ -73,9 +79,10 @@ impl Gathered {
         self.keys.is_empty()
     }
 
-    /// Adds the occurrences of a placement: the nodes at which it begins to hold. The runs are
-    /// those of a game on a board of the images' shape. What is in the buffers doesn't count. The
-    /// only error is `NoMemory`.
+    /// Adds the occurrences of a placement: the nodes at which it begins to hold. Where it holds in
+    /// one stretch of nodes, they are known to go on to the end of that. The runs are those of a game
+    /// on a board of the images' shape. What is in the buffers doesn't count. The only error is
+    /// `NoMemory`.
     pub fn add(
         &mut self,
         runs: &RunIndex,
@@ -84,10 +91,13 @@ impl Gathered {
     ) -> Result<(), NoMemory>
         requires shape { sought.now.images.now.shape ≡ runs.now.shape }
         requires sought { IsSought sought.now }
-        ensures { OnOk result ((deltas : Deltas) → AreDeltas deltas →
-            runs.now ≡ positions_of deltas → (o : Occurrence) → Contains self.new o
-            ↔ (Contains self.old o ⊎ IsOccurrenceOf deltas sought.now.images.now.placements
-            sought.now.number o)) }
+        ensures occurrences { OnOk result ((deltas : Deltas) → AreDeltas deltas →
+            runs.now ≡ positions_of deltas → (o : Occurrence) →
+            Contains (occurrences_of self.new) o ↔ (Contains (occurrences_of self.old) o
+            ⊎ IsOccurrenceOf deltas sought.now.images.now.placements sought.now.number o)) }
+        ensures known { OnOk result ((deltas : Deltas) → AreDeltas deltas →
+            runs.now ≡ positions_of deltas → (b : Begun) → Contains self.new b →
+            Contains self.old b ⊎ GoesOnToHold deltas sought.now.images.now.placements b) }
     {
         runs.find(
             sought.base,
@@ -113,26 +123,43 @@ impl Gathered {
     ) -> Result<(), NoMemory>
         requires apart { AreApart 0 (count_in runs.now) stretches.now }
         requires placement { placement < 65536 }
-        ensures { OnOk result ((o : Occurrence) → Contains self.new o ↔ (Contains self.old o
+        ensures occurrences { OnOk result ((o : Occurrence) →
+            Contains (occurrences_of self.new) o ↔ (Contains (occurrences_of self.old) o
             ⊎ ((o.placement ≡ placement) × BeginsIn runs.now stretches.now o.node))) }
+        ensures known { OnOk result ((b : Begun) → Contains self.new b →
+            Contains self.old b ⊎ IsKnownIn stretches.now placement b) }
     {
         let _few = runs.node_count();
         nodes.clear();
         runs.push_begins(stretches, nodes)?;
-        push_keys(nodes, placement, &mut self.keys)?;
+        push_keys(nodes, placement, known_end(stretches), &mut self.keys)?;
         Ok(())
     }
 
     /// What was gathered, by node and at one node in the order of the placements, each once. The
     /// only error is `NoMemory`. What is in here afterwards doesn't count: clear it.
-    pub fn sorted(&mut self, alloc: Global) -> Result<Vec<Occurrence>, NoMemory>
-        ensures { IfOk result (λ found. (deltas : Deltas) (placements : List Placement) →
-            ((o : Occurrence) → Contains self.old o
+    pub fn sorted(&mut self, alloc: Global) -> Result<Vec<Begun>, NoMemory>
+        ensures list { IfOk result (λ found. (deltas : Deltas) (placements : List Placement) →
+            ((o : Occurrence) → Contains (occurrences_of self.old) o
             ↔ Contains (occurrences_in deltas placements) o) →
-            found.items ≡ occurrences_in deltas placements) }
+            occurrences_of found.items ≡ occurrences_in deltas placements) }
+        ensures from { IfOk result (λ found. (b : Begun) → Contains found.items b →
+            Contains self.old b) }
     {
         self.keys.sort_unstable();
-        self.keys.dedup();
-        Ok(occurrences(alloc, &self.keys)?)
+        Ok(begun_once(alloc, &self.keys)?)
+    }
+}
+
+// The node up to before which all nodes behind one in the stretches are in them too, where there is
+// one stretch. Where there are more, none is told.
+fn known_end(stretches: &[Stretch]) -> u32
+    requires { All (λ (s : Stretch). s.to ≤ 65536) stretches.now }
+    ensures few { result ≤ 65536 }
+    ensures inside { (n k : ℕ) → IsIn stretches.now n → n ≤ k → k < result → IsIn stretches.now k }
+{
+    match stretches {
+        [one] => one.to,
+        _ => 0,
     }
 }

@@ -1,52 +1,99 @@
-// Occurrences as numbers, which stand in the order of the occurrences.
-ghost use Rattle.std.specs.Prelude.{◌≡◌, ◌+◌, ◌*◌, ◌/◌, ◌%◌, ◌<◌, ◌++◌, All, IfOk, OnOk, map};
-ghost use Rattle.run_matcher.specs.Keys.{key_of, occurrence_of, occurrences_of};
+// Occurrences and how far they are known to hold as numbers, which stand in the order of the
+// occurrences.
+ghost use Rattle.std.specs.Prelude.{
+  ◌≡◌,
+  ◌+◌,
+  ◌*◌,
+  ◌/◌,
+  ◌%◌,
+  ◌<◌,
+  ◌≤◌,
+  ◌++◌,
+  All,
+  AllPairs,
+  Contains,
+  IfOk,
+  IsSorted,
+  OnOk,
+  map,
+};
+ghost use Rattle.std.specs.Ordering.{nat_cmp};
+ghost use Rattle.line_matcher.specs.Occurrences.{StandsBefore};
+ghost use Rattle.run_matcher.specs.GoingOn.{occurrences_of};
+ghost use Rattle.run_matcher.specs.Keys.{begun_of, key_of};
 
+use crate::Begun;
 use kb_geometry::NoMemory;
 use line_matcher::Occurrence;
 use std::alloc::Global;
 
 // Numbers of placements are below this.
-const ROOM: u32 = 65_536;
+const ROOM: u64 = 65_536;
 
-// Adds the keys of a placement at these nodes.
-pub(crate) fn push_keys(nodes: &[u32], placement: u32, keys: &mut Vec<u32>) -> Result<(), NoMemory>
+// Numbers of nodes up to before which placements hold are below this.
+const KNOWN_ROOM: u64 = 131_072;
+
+// Adds the keys of a placement that begins to hold at these nodes.
+pub(crate) fn push_keys(
+    nodes: &[u32],
+    placement: u32,
+    known: u32,
+    keys: &mut Vec<u64>,
+) -> Result<(), NoMemory>
     requires nodes { All (λ n. n < 65536) nodes.now }
     requires placement { placement < 65536 }
-    ensures { OnOk result (keys.new.items ≡ keys.old.items ++ map (key_of placement) nodes.now) }
+    requires known { known ≤ 65536 }
+    ensures { OnOk result (keys.new.items ≡ keys.old.items
+        ++ map (key_of placement known) nodes.now) }
 {
     for node in nodes {
-        keys.push(key(*node, placement))?;
+        keys.push(key(*node, placement, known))?;
     }
     Ok(())
 }
 
 // The key of a placement at a node.
-fn key(node: u32, placement: u32) -> u32
+fn key(node: u32, placement: u32, known: u32) -> u64
     requires node { node < 65536 }
     requires placement { placement < 65536 }
-    ensures { result ≡ key_of placement node }
+    requires known { known ≤ 65536 }
+    ensures { result ≡ key_of placement known node }
 {
-    node * ROOM + placement
+    (u64::from(node) * ROOM + u64::from(placement)) * KNOWN_ROOM + u64::from(known)
 }
 
-// The occurrences with these keys.
-pub(crate) fn occurrences(alloc: Global, keys: &[u32]) -> Result<Vec<Occurrence>, NoMemory>
-    ensures { IfOk result (λ found. found.items ≡ occurrences_of keys.now) }
+// What keys in order stand for: of those with one node and placement the first.
+pub(crate) fn begun_once(alloc: Global, keys: &[u64]) -> Result<Vec<Begun>, NoMemory>
+    requires { IsSorted nat_cmp keys.now }
+    ensures from { IfOk result (λ found. (b : Begun) → Contains found.items b →
+        Contains (map begun_of keys.now) b) }
+    ensures all { IfOk result (λ found. (b : Begun) → Contains (map begun_of keys.now) b →
+        Contains (occurrences_of found.items) b.occurrence) }
+    ensures ordered { IfOk result (λ found. AllPairs StandsBefore (occurrences_of found.items)) }
 {
     let mut found = Vec::with_capacity(alloc, keys.len())?;
+    // The place of the key before, and 1 more.
+    let mut next = 0;
     for key in keys {
-        found.push(occurrence(*key))?;
+        let place = *key / KNOWN_ROOM;
+        if place >= next {
+            found.push(begun(*key))?;
+            next = place + 1;
+        }
     }
     Ok(found)
 }
 
-// The occurrence with a key.
-fn occurrence(key: u32) -> Occurrence
-    ensures { result ≡ occurrence_of key }
+// What a key stands for.
+fn begun(key: u64) -> Begun
+    ensures { result ≡ begun_of key }
 {
-    Occurrence {
-        node: key / ROOM,
-        placement: key % ROOM,
+    let place = key / KNOWN_ROOM;
+    Begun {
+        occurrence: Occurrence {
+            node: (place / ROOM) as u32,
+            placement: (place % ROOM) as u32,
+        },
+        known: (key % KNOWN_ROOM) as u32,
     }
 }

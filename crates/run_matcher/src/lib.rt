@@ -5,6 +5,7 @@
 //! going over the nodes; [`Gathered`] does so for whichever placements are asked for.
 #![tactic(auto)]
 
+mod begun;
 mod buffers;
 mod gathered;
 mod holding;
@@ -15,6 +16,7 @@ mod sought;
 #[cfg(test)]
 mod tests;
 
+pub use begun::Begun;
 pub use buffers::Buffers;
 pub use gathered::Gathered;
 pub use matching::match_runs;

@@ -3,8 +3,9 @@ ghost use Rattle.std.specs.Prelude.{◌≡◌, IfOk};
 ghost use Rattle.capture_board.specs.Deltas.{AreDeltas, Deltas};
 ghost use Rattle.line_matcher.specs.Occurrences.{occurrences_in};
 ghost use Rattle.capture_index.specs.NodePositions.{positions_of};
+ghost use Rattle.run_matcher.specs.GoingOn.{occurrences_of};
 
-use crate::{Buffers, Gathered, RunMatcher};
+use crate::{Begun, Buffers, Gathered, RunMatcher};
 use capture_index::RunIndex;
 use kb_geometry::NoMemory;
 use line_matcher::Occurrence;
@@ -29,5 +30,17 @@ pub fn match_runs(
     for placement in 0..matcher.len() {
         gathered.add(runs, &matcher.sought(placement), &mut buffers)?;
     }
-    Ok(gathered.sorted(alloc)?)
+    let begun = gathered.sorted(alloc)?;
+    Ok(occurrences(alloc, &begun)?)
+}
+
+// The occurrences alone.
+fn occurrences(alloc: Global, begun: &[Begun]) -> Result<Vec<Occurrence>, NoMemory>
+    ensures { IfOk result (λ found. found.items ≡ occurrences_of begun.now) }
+{
+    let mut found = Vec::with_capacity(alloc, begun.len())?;
+    for one in begun {
+        found.push(one.occurrence)?;
+    }
+    Ok(found)
 }

@@ -20,6 +20,7 @@ use Rattle.line_matcher.specs.declared.occurrence.Occurrence.{Occurrence}
 use Rattle.line_matcher.specs.Occurrences.{occurrences_in}
 use Rattle.line_matcher.proofs.OccurrenceLaw.{occurrences-are}
 use Rattle.final_index.specs.Planes.{PlaneGames}
+use Rattle.run_matcher.specs.declared.begun.Begun.{Begun}
 use Rattle.candidate_sieve.specs.declared.candidates.Candidate.{Candidate}
 use Rattle.candidate_sieve.specs.Candidates.{AreCandidates, AreCandidatesAdded, IsPossibleIn, MeetsCells}
 use Rattle.candidate_sieve.proofs.CellsTold.{holds-were}
@@ -99,23 +100,23 @@ module _ (query : Query) (games : List Game) (few : length games ≤ 64) (asked 
         let placement_is : o.placement ≡ (candidate_at found j).placement = sym number ∙ ap (λ (d : Candidate). d.placement) (sym at_j) in
         (j, lt, ap (λ (d : Candidate). bit_at d.games g) at_j ∙ has, (placement_is, is.node_there, occurs-begins changes placements o (candidate_at found j).placement placement_is is))
 
-    pub on_shape : (old new : List (List Occurrence)) → AreGathered games (IsOfCandidates placements found (length found)) old new → AreGathered games here old new
+    pub on_shape : (old new : List (List Begun)) → AreGathered games (IsOfCandidates placements found (length found)) old new → AreGathered games here old new
     on_shape old new gathered = AreGathered-as games here (IsOfCandidates placements found (length found)) old new (λ g game at changes of o. (sound g game at changes of o, complete g game at changes of o)) gathered
 
 -- where the query doesn't look on boards of the shape nothing is added
-pub not_on_shape : (query : Query) (shapes : List Shape) (games : List Game) (asked : ℕ) (shape : Shape) (lists : List (List Occurrence)) → ¬ Contains shapes shape → AreGathered games (IsOnShape query shapes asked shape) lists lists
+pub not_on_shape : (query : Query) (shapes : List Shape) (games : List Game) (asked : ℕ) (shape : Shape) (lists : List (List Begun)) → ¬ Contains shapes shape → AreGathered games (IsOnShape query shapes asked shape) lists lists
 not_on_shape query shapes games asked shape lists none = AreGathered-none games (IsOnShape query shapes asked shape) lists (λ g tree changes o h. none (subst (Contains shapes) h.1 h.2))
 
 -- ---- one shape after another
 
 module _ (query : Query) (shapes : List Shape) (games : List Game) (asked : ℕ) (planes : List PlaneGames) where
-  pub on_planes-start : (lists : List (List Occurrence)) → ((g : ℕ) → gathered_of lists g ≡ []) → AreGathered games (IsOnPlanes query shapes asked planes 0) [] lists
+  pub on_planes-start : (lists : List (List Begun)) → ((g : ℕ) → gathered_of lists g ≡ []) → AreGathered games (IsOnPlanes query shapes asked planes 0) [] lists
   on_planes-start lists none g game there changes of o = (
     λ h. absurd (omega (arith, h.1, ap length (none g))),
     λ h. elim h [ inl before ↦ absurd (omega (arith, before.1)) | inr is ↦ absurd (omega (arith, is.2)) ],
   )
 
-  pub on_planes-more : (k : ℕ) (p : PlaneGames) (mid new : List (List Occurrence)) → k < length planes → p ≡ get_or planes k p → AreGathered games (IsOnPlanes query shapes asked planes k) [] mid → AreGathered games (IsOnShape query shapes asked p.shape) mid new → AreGathered games (IsOnPlanes query shapes asked planes (k + 1)) [] new
+  pub on_planes-more : (k : ℕ) (p : PlaneGames) (mid new : List (List Begun)) → k < length planes → p ≡ get_or planes k p → AreGathered games (IsOnPlanes query shapes asked planes k) [] mid → AreGathered games (IsOnShape query shapes asked p.shape) mid new → AreGathered games (IsOnPlanes query shapes asked planes (k + 1)) [] new
   on_planes-more k p mid new lt at so_far added =
       AreGathered-more games (IsOnPlanes query shapes asked planes (k + 1)) (IsOnPlanes query shapes asked planes k) (IsOnShape query shapes asked p.shape) [] mid new (λ g tree changes o. (
         λ (j, q, less, read, h). elim (cases_eq j k) [
@@ -144,7 +145,7 @@ module _ (query : Query) (shapes : List Shape) (games : List Game) (asked : ℕ)
         let p = get_or planes j none in
         (j, p, omega (arith, inside, le), get_or_default planes j p none inside, sym at ∙ get_or-map (λ (q : PlaneGames). q.shape) planes j none game.tree.shape inside)
 
-    pub on_planes-all : (filter : Filter) (new : List (List Occurrence)) → AreAccepted filter games asked → AreGathered games (IsOnPlanes query shapes asked planes k) [] new → HaveOccurrences query filter shapes games new
+    pub on_planes-all : (filter : Filter) (new : List (List Begun)) → AreAccepted filter games asked → AreGathered games (IsOnPlanes query shapes asked planes k) [] new → HaveOccurrences query filter shapes games new
     on_planes-all filter new accepted gathered g game there changes of o = (
       λ h. elim ((gathered g game there changes of o).0 h) [
         | inl before ↦ absurd (omega (arith, before.1))

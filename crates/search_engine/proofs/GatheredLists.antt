@@ -1,5 +1,5 @@
 -- The lists of the games of a block, to which occurrences are added candidate by candidate and bit by bit.
-use Rattle.std.proofs.Common.{◌≡◌, ◌≢◌, ℕ, inl, inr, ◌+◌, ◌<◌, ◌≤◌, ◌↔◌, ◌⊎◌, List, [], Some, Contains, get_or, length, slice_set, sym, ap, ◌∙◌, subst, arith}
+use Rattle.std.proofs.Common.{◌≡◌, ◌≢◌, ℕ, inl, inr, ◌+◌, ◌<◌, ◌≤◌, ◌↔◌, ◌⊎◌, List, [], ◌∷◌, Some, Contains, get_or, length, slice_set, refl, sym, ap, ◌∙◌, subst, arith}
 use Rattle.std.specs.Int.{bit_at}
 use Rattle.std.specs.List.{slice_get}
 use Rattle.std.proofs.lemmas.Bool.{cases_eq, cases_lt}
@@ -11,40 +11,60 @@ use Rattle.node_position.specs.Games.{AreNodeChanges, Game}
 use Rattle.pattern_images.specs.Placements.{Placement}
 use Rattle.line_matcher.specs.declared.occurrence.Occurrence.{Occurrence}
 use Rattle.candidate_sieve.specs.declared.candidates.Candidate.{Candidate}
+use Rattle.run_matcher.specs.GoingOn.{occurrences_of}
 use Rattle.run_matcher.specs.PlacementOccurrences.{IsOccurrenceOf}
+use Rattle.run_matcher.specs.declared.begun.Begun.{Begun}
 use Rattle.search_engine.specs.BlockCandidates.{IsNextBit, candidate_at}
-use Rattle.search_engine.specs.Gathering.{AreGathered, IsOfCandidate, IsOfCandidates, gathered_of}
+use Rattle.search_engine.specs.Gathering.{AreGathered, IsOfCandidate, IsOfCandidates, begun_of, gathered_of}
 use Rattle.search_engine.proofs.GamesSearched.{same_game}
 
 -- ---- one list changes
 
-module _ (lists : List (List Occurrence)) (at : ℕ) (one : List Occurrence) where
-  pub gathered-set_same : at < length lists → gathered_of (slice_set lists at one) at ≡ one
-  gathered-set_same lt = get_or-set_same lists at one [] lt
+module _ (lists : List (List Begun)) (at : ℕ) (one : List Begun) where
+  pub begun-set_same : at < length lists → begun_of (slice_set lists at one) at ≡ one
+  begun-set_same lt = get_or-set_same lists at one [] lt
 
-  pub gathered-set_other : (g : ℕ) → g ≢ at → gathered_of (slice_set lists at one) g ≡ gathered_of lists g
-  gathered-set_other g other = get_or-set_other lists at g one [] other
+  pub begun-set_other : (g : ℕ) → g ≢ at → begun_of (slice_set lists at one) g ≡ begun_of lists g
+  begun-set_other g other = get_or-set_other lists at g one [] other
 
-  pub gathered-read : at < length lists → one ≡ get_or lists at one → one ≡ gathered_of lists at
-  gathered-read lt is = is ∙ get_or_default lists at one [] lt
+  pub begun-read : at < length lists → one ≡ get_or lists at one → one ≡ begun_of lists at
+  begun-read lt is = is ∙ get_or_default lists at one [] lt
 
--- the list of one game gains what its new list has more
-pub gains : (lists seen : List (List Occurrence)) (at : ℕ) (old new : List Occurrence) (more : Occurrence → Type 0) → lists ≡ seen → at < length lists → old ≡ get_or lists at old → ((o : Occurrence) → Contains new o ↔ (Contains old o ⊎ more o))
-    → (o : Occurrence) → Contains (gathered_of (slice_set lists at new) at) o ↔ (Contains (gathered_of seen at) o ⊎ more o)
-gains lists seen at old new more shown lt is added o =
-    let here = gathered-set_same lists at new lt in
-    let before : old ≡ gathered_of seen at = gathered-read lists at old lt is ∙ ap (λ (ls : List (List Occurrence)). gathered_of ls at) shown in
-    subst (λ (os : List Occurrence). Contains os o ↔ (Contains (gathered_of seen at) o ⊎ more o)) (sym here) (subst (λ (os : List Occurrence). Contains new o ↔ (Contains os o ⊎ more o)) before (added o))
+module _ (lists seen : List (List Begun)) (at : ℕ) (old new : List Begun) (shown : lists ≡ seen) (lt : at < length lists) (is : old ≡ get_or lists at old) where
+  here : begun_of (slice_set lists at new) at ≡ new
+  here = begun-set_same lists at new lt
+
+  before : old ≡ begun_of seen at
+  before = begun-read lists at old lt is ∙ ap (λ (ls : List (List Begun)). begun_of ls at) shown
+
+  -- the list of one game gains the occurrences that its new list has more
+  pub gains : (more : Occurrence → Type 0) → ((o : Occurrence) → Contains (occurrences_of new) o ↔ (Contains (occurrences_of old) o ⊎ more o))
+      → (o : Occurrence) → Contains (gathered_of (slice_set lists at new) at) o ↔ (Contains (gathered_of seen at) o ⊎ more o)
+  gains more added o =
+      subst (λ (bs : List Begun). Contains (occurrences_of bs) o ↔ (Contains (gathered_of seen at) o ⊎ more o)) (sym here)
+      (subst (λ (bs : List Begun). Contains (occurrences_of new) o ↔ (Contains (occurrences_of bs) o ⊎ more o)) before (added o))
+
+  -- and of what it gains is true what is true of that
+  pub gains-only : (more : Begun → Type 0) → ((b : Begun) → Contains new b → Contains old b ⊎ more b) → (b : Begun) → Contains (begun_of (slice_set lists at new) at) b → Contains (begun_of seen at) b ⊎ more b
+  gains-only more added b h = elim (added b (subst (λ (bs : List Begun). Contains bs b) here h)) [
+    | inl was ↦ inl (subst (λ (bs : List Begun). Contains bs b) before was)
+    | inr told ↦ inr told
+  ]
+
+-- a list without an occurrence has none that begins
+pub none-begun : (begun : List Begun) → occurrences_of begun ≡ [] → begun ≡ []
+none-begun [] none = refl
+none-begun (b ∷ begun) none = absurd (omega (arith, ap length none))
 
 -- ---- what is added
 
 module _ (games : List Game) (are : ℕ → Tree → Deltas → Occurrence → Type 0) where
   -- nothing, where nothing is to be added
-  pub AreGathered-none : (lists : List (List Occurrence)) → ((g : ℕ) (tree : Tree) (changes : Deltas) (o : Occurrence) → are g tree changes o → ⊥) → AreGathered games are lists lists
+  pub AreGathered-none : (lists : List (List Begun)) → ((g : ℕ) (tree : Tree) (changes : Deltas) (o : Occurrence) → are g tree changes o → ⊥) → AreGathered games are lists lists
   AreGathered-none lists none g game there changes of o = (λ h. inl h, λ h. elim h [ inl before ↦ before | inr more ↦ absurd (none g game.tree changes o more) ])
 
   -- the same in other words
-  pub AreGathered-as : (same : ℕ → Tree → Deltas → Occurrence → Type 0) (old new : List (List Occurrence)) → ((g : ℕ) (game : Game) → slice_get games g ≡ Some game → (changes : Deltas) → AreNodeChanges game.tree changes → (o : Occurrence) → same g game.tree changes o ↔ are g game.tree changes o)
+  pub AreGathered-as : (same : ℕ → Tree → Deltas → Occurrence → Type 0) (old new : List (List Begun)) → ((g : ℕ) (game : Game) → slice_get games g ≡ Some game → (changes : Deltas) → AreNodeChanges game.tree changes → (o : Occurrence) → same g game.tree changes o ↔ are g game.tree changes o)
       → AreGathered games same old new → AreGathered games are old new
   AreGathered-as same old new told gathered g game there changes of o = (
     λ h. elim ((gathered g game there changes of o).0 h) [ inl before ↦ inl before | inr more ↦ inr ((told g game there changes of o).0 more) ],
@@ -52,7 +72,7 @@ module _ (games : List Game) (are : ℕ → Tree → Deltas → Occurrence → T
   )
 
   -- in two parts
-  pub AreGathered-more : (one other : ℕ → Tree → Deltas → Occurrence → Type 0) (old mid new : List (List Occurrence)) → ((g : ℕ) (tree : Tree) (changes : Deltas) (o : Occurrence) → are g tree changes o ↔ (one g tree changes o ⊎ other g tree changes o))
+  pub AreGathered-more : (one other : ℕ → Tree → Deltas → Occurrence → Type 0) (old mid new : List (List Begun)) → ((g : ℕ) (tree : Tree) (changes : Deltas) (o : Occurrence) → are g tree changes o ↔ (one g tree changes o ⊎ other g tree changes o))
       → AreGathered games one old mid → AreGathered games other mid new → AreGathered games are old new
   AreGathered-more one other old mid new parts first second g game there changes of o = (
     λ h. elim ((second g game there changes of o).0 h) [
@@ -67,12 +87,12 @@ module _ (games : List Game) (are : ℕ → Tree → Deltas → Occurrence → T
 
 -- ---- the games of one candidate
 
-module _ (games : List Game) (placements : List Placement) (c : Candidate) (old : List (List Occurrence)) where
+module _ (games : List Game) (placements : List Placement) (c : Candidate) (old : List (List Begun)) where
   pub of_candidate-start : AreGathered games (IsOfCandidate placements c 0) old old
   of_candidate-start = AreGathered-none games (IsOfCandidate placements c 0) old (λ g tree changes o h. omega (arith, h.0))
 
   -- the next game with a bit
-  pub of_candidate-more : (from at : ℕ) (lists new : List (List Occurrence)) (game : Game) → slice_get games at ≡ Some game → IsNextBit c.games from at → AreGathered games (IsOfCandidate placements c from) old lists
+  pub of_candidate-more : (from at : ℕ) (lists new : List (List Begun)) (game : Game) → slice_get games at ≡ Some game → IsNextBit c.games from at → AreGathered games (IsOfCandidate placements c from) old lists
       → ((changes : Deltas) → AreNodeChanges game.tree changes → (o : Occurrence) → Contains (gathered_of new at) o ↔ (Contains (gathered_of lists at) o ⊎ IsOccurrenceOf changes placements c.placement o))
       → ((g : ℕ) → g ≢ at → gathered_of new g ≡ gathered_of lists g) → AreGathered games (IsOfCandidate placements c (at + 1)) old new
   of_candidate-more from at lists new game place next so_far here others g other there changes of o = elim (cases_eq g at) [
@@ -108,7 +128,7 @@ module _ (games : List Game) (placements : List Placement) (c : Candidate) (old 
   ]
 
   -- no other game has a bit
-  pub of_candidate-all : (few : length games ≤ 64) (from : ℕ) (new : List (List Occurrence)) → ((g : ℕ) → from ≤ g → g < 64 → bit_at c.games g ≡ 0) → AreGathered games (IsOfCandidate placements c from) old new → AreGathered games (IsOfCandidate placements c 64) old new
+  pub of_candidate-all : (few : length games ≤ 64) (from : ℕ) (new : List (List Begun)) → ((g : ℕ) → from ≤ g → g < 64 → bit_at c.games g ≡ 0) → AreGathered games (IsOfCandidate placements c from) old new → AreGathered games (IsOfCandidate placements c 64) old new
   of_candidate-all few from new none so_far = AreGathered-as games (IsOfCandidate placements c 64) (IsOfCandidate placements c from) old new (λ g game there changes of o. (
     λ h. (omega (arith, few, slice_get_within games g game there), h.1, h.2),
     λ h. elim (cases_lt g from) [
@@ -119,11 +139,11 @@ module _ (games : List Game) (placements : List Placement) (c : Candidate) (old 
 
 -- ---- one candidate after another
 
-module _ (games : List Game) (placements : List Placement) (found : List Candidate) (old : List (List Occurrence)) where
+module _ (games : List Game) (placements : List Placement) (found : List Candidate) (old : List (List Begun)) where
   pub of_candidates-start : AreGathered games (IsOfCandidates placements found 0) old old
   of_candidates-start = AreGathered-none games (IsOfCandidates placements found 0) old (λ g tree changes o h. omega (arith, h.1))
 
-  pub of_candidates-more : (few : length games ≤ 64) (k : ℕ) (c : Candidate) (lists new : List (List Occurrence)) → c ≡ candidate_at found k → AreGathered games (IsOfCandidates placements found k) old lists → AreGathered games (IsOfCandidate placements c 64) lists new → AreGathered games (IsOfCandidates placements found (k + 1)) old new
+  pub of_candidates-more : (few : length games ≤ 64) (k : ℕ) (c : Candidate) (lists new : List (List Begun)) → c ≡ candidate_at found k → AreGathered games (IsOfCandidates placements found k) old lists → AreGathered games (IsOfCandidate placements c 64) lists new → AreGathered games (IsOfCandidates placements found (k + 1)) old new
   of_candidates-more few k c lists new at so_far added g game there changes of o =
       let before = so_far g game there changes of o in
       let step = added g game there changes of o in (

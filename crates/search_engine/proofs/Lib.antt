@@ -15,6 +15,7 @@ pub mod KeptCounts
 mod KeptGames
 mod PossibleGames
 mod Gathering
+mod GoingOn
 pub mod ToldKept
 mod JoinedPieces
 mod BlocksSearched

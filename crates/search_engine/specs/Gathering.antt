@@ -15,7 +15,9 @@ use Rattle.line_matcher.specs.declared.occurrence.Occurrence.{Occurrence}
 use Rattle.line_matcher.specs.Occurrences.{occurrences_in}
 use Rattle.final_index.specs.Planes.{PlaneGames}
 use Rattle.candidate_sieve.specs.declared.candidates.Candidate.{Candidate}
+use Rattle.run_matcher.specs.GoingOn.{GoesOnToHold, occurrences_of}
 use Rattle.run_matcher.specs.PlacementOccurrences.{IsOccurrenceOf}
+use Rattle.run_matcher.specs.declared.begun.Begun.{Begun}
 use Rattle.search_engine.specs.BlockCandidates.{candidate_at}
 
 -- ---- the list of one game
@@ -38,15 +40,25 @@ AreOccurrencesIn query tree occurrences = (changes : Deltas) (placements : List 
     AreNodeChanges tree changes → ArePlacements query tree.shape placements →
     occurrences ≡ occurrences_in changes placements
 
+-- as far as is known, each of these placements goes on to hold in the game
+abbrev pub GoOnIn : Query → Tree → List Begun → Type 0
+GoOnIn query tree begun = (changes : Deltas) (placements : List Placement) →
+    AreNodeChanges tree changes → ArePlacements query tree.shape placements → (b : Begun) →
+    Contains begun b → GoesOnToHold changes placements b
+
 -- ---- the lists of a block's games
 
 -- the list of the game at a place
-abbrev pub gathered_of : List (List Occurrence) → ℕ → List Occurrence
-gathered_of lists g = slice_index_or lists g []
+abbrev pub begun_of : List (List Begun) → ℕ → List Begun
+begun_of lists g = slice_index_or lists g []
+
+-- the occurrences in it
+abbrev pub gathered_of : List (List Begun) → ℕ → List Occurrence
+gathered_of lists g = occurrences_of (begun_of lists g)
 
 -- the list of each game has exactly its occurrences, if the filter accepts it and its board's shape
 -- is among these, and none else
-abbrev pub HaveOccurrences : Query → Filter → List Shape → List Game → List (List Occurrence) →
+abbrev pub HaveOccurrences : Query → Filter → List Shape → List Game → List (List Begun) →
     Type 0
 HaveOccurrences query filter shapes games lists = (g : ℕ) (game : Game) →
     slice_get games g ≡ Some game →
@@ -59,7 +71,7 @@ AreOnBoards games shape c = (g : ℕ) → g < 64 → bit_at c.games g ≡ 1 →
 
 -- the list of each game gains exactly the occurrences of which this is true
 abbrev pub AreGathered : List Game → (ℕ → Tree → Deltas → Occurrence → Type 0) →
-    List (List Occurrence) → List (List Occurrence) → Type 0
+    List (List Begun) → List (List Begun) → Type 0
 AreGathered games are old new = (g : ℕ) (game : Game) → slice_get games g ≡ Some game →
     (changes : Deltas) → AreNodeChanges game.tree changes → (o : Occurrence) →
     Contains (gathered_of new g) o ↔ (Contains (gathered_of old g) o ⊎ are g game.tree changes o)
@@ -89,3 +101,19 @@ abbrev pub IsOnPlanes : Query → List Shape → ℕ → List PlaneGames → ℕ
     Occurrence → Type 0
 IsOnPlanes query shapes asked planes k g tree changes o = (j : ℕ) × (p : PlaneGames) × (j < k)
     × (slice_index_or planes j p ≡ p) × IsOnShape query shapes asked p.shape g tree changes o
+
+-- ---- how far they go on to hold
+
+-- what the list of each game has goes on to hold there, as far as is known
+abbrev pub AllGoOn : Query → List Game → List (List Begun) → Type 0
+AllGoOn query games lists = (g : ℕ) (game : Game) → slice_get games g ≡ Some game →
+    GoOnIn query game.tree (begun_of lists g)
+
+-- what the list of a game gains is of a game on a board of the shape, and goes on to hold there, as
+-- far as is known
+abbrev pub MoreGoOn : List Game → Shape → List Placement → List (List Begun) → List (List Begun) →
+    Type 0
+MoreGoOn games shape placements old new = (g : ℕ) (game : Game) → slice_get games g ≡ Some game →
+    (changes : Deltas) → AreNodeChanges game.tree changes → (b : Begun) →
+    Contains (begun_of new g) b → Contains (begun_of old g) b
+    ⊎ ((game.tree.shape ≡ shape) × GoesOnToHold changes placements b)

@@ -3,7 +3,7 @@ ghost use Rattle.std.specs.Prelude.{OnOk};
 ghost use Rattle.info_filter.specs.declared.filter.Filter.{Filter};
 ghost use Rattle.segment_store.specs.Planes.{ArePlanesOn};
 ghost use Rattle.search_engine.specs.BlockCandidates.{AreAccepted};
-ghost use Rattle.search_engine.specs.Gathering.{AreGathered, HaveOccurrences, IsOnShape};
+ghost use Rattle.search_engine.specs.Gathering.{AllGoOn, AreGathered, HaveOccurrences, IsOnShape};
 
 use crate::game_occurrences::GameOccurrences;
 use crate::matchers::Matchers;
@@ -24,8 +24,9 @@ pub(crate) fn gather(
     buffers: &mut Buffers,
     gathered: &mut GameOccurrences,
 ) -> Result<(), NoMemory>
-    ensures { OnOk result ((filter : Filter) → AreAccepted filter block.now asked →
+    ensures gathered { OnOk result ((filter : Filter) → AreAccepted filter block.now asked →
         HaveOccurrences matchers.now.query filter matchers.now.shapes block.now gathered.new) }
+    ensures known { OnOk result (AllGoOn matchers.now.query block.now gathered.new) }
 {
     let _count = block.len();
     gathered.clear();
@@ -50,9 +51,11 @@ fn gather_on_shape(
     gathered: &mut GameOccurrences,
 ) -> Result<(), NoMemory>
     requires { ArePlanesOn block.now planes.now }
-    ensures { OnOk result (AreGathered block.now
+    ensures gathered { OnOk result (AreGathered block.now
         (IsOnShape matchers.now.query matchers.now.shapes asked planes.now.shape)
         gathered.old gathered.new) }
+    ensures known { OnOk result (AllGoOn matchers.now.query block.now gathered.old →
+        AllGoOn matchers.now.query block.now gathered.new) }
 {
     let _count = block.len();
     let Some(matcher) = matchers.find(planes.shape()) else {

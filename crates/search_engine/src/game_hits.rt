@@ -1,12 +1,14 @@
 // The hits of a query in one game.
-ghost use Rattle.std.specs.Prelude.{◌≡◌, ◌↔◌, ◌<◌, IsTrue, OnOk, length};
+ghost use Rattle.std.specs.Prelude.{◌≡◌, ◌↔◌, ◌<◌, ◌≤◌, ℕ, Contains, IsTrue, OnOk, length};
 ghost use Rattle.game_tree.specs.Tree.{node_count};
 ghost use Rattle.node_position.specs.Games.{AreNodeChanges};
 ghost use Rattle.pattern_images.specs.Placements.{ArePlacements};
 ghost use Rattle.pattern_images.specs.ImageList.{placement_at};
 ghost use Rattle.continuation_table.specs.Continuation.{HoldsAt};
 ghost use Rattle.line_matcher.specs.Occurrences.{occurrences_in};
-ghost use Rattle.search_engine.specs.Gathering.{AreOccurrencesIn};
+ghost use Rattle.run_matcher.specs.GoingOn.{GoesOnToHold, occurrences_of};
+ghost use Rattle.run_matcher.specs.declared.begun.Begun.{Begun};
+ghost use Rattle.search_engine.specs.Gathering.{AreOccurrencesIn, GoOnIn};
 ghost use Rattle.search_engine.specs.Hits.{AreHitsIn, AreHitsOf, IsHit, LooksAt};
 ghost use Rattle.search_engine.specs.Searching.{AreHitsAdded};
 
@@ -16,51 +18,54 @@ use game_tree::GameTree;
 use kb_geometry::NoMemory;
 use line_matcher::Occurrence;
 use pattern_images::{Hit, Query};
-use run_matcher::RunMatcher;
+use run_matcher::{Begun, RunMatcher};
 use segment_store::FinishedGame;
 
-// Adds the hits of the occurrences in the game with this number, on whose board the query looks.
+// Adds the hits of what occurs in the game with this number, on whose board the query looks.
 pub(crate) fn add_hits_in(
     query: &Query,
     number: u32,
     game: &FinishedGame,
     matcher: &RunMatcher,
-    occurrences: &[Occurrence],
+    begun: &[Begun],
     hits: &mut Vec<Hit>,
 ) -> Result<(), NoMemory>
     requires shape { matcher.now.images.now.shape ≡ game.now.tree.shape }
     requires images { ArePlacements query.now game.now.tree.shape
         matcher.now.images.now.placements }
-    requires occurrences { AreOccurrencesIn query.now game.now.tree occurrences.now }
+    requires occurrences { AreOccurrencesIn query.now game.now.tree (occurrences_of begun.now) }
+    requires known { GoOnIn query.now game.now.tree begun.now }
     ensures { OnOk result (AreHitsAdded (AreHitsIn query.now number game.now.tree)
         hits.old.items hits.new.items) }
 {
     let deltas = game.deltas();
-    add_hits(query, number, game, deltas, matcher, occurrences, hits)
+    add_hits(query, number, game, deltas, matcher, begun, hits)
 }
 
-// Adds the hits of the occurrences in a game with these changes.
+// Adds the hits of what occurs in a game with these changes.
 fn add_hits(
     query: &Query,
     number: u32,
     game: &FinishedGame,
     deltas: &NodeDeltas,
     matcher: &RunMatcher,
-    occurrences: &[Occurrence],
+    begun: &[Begun],
     hits: &mut Vec<Hit>,
 ) -> Result<(), NoMemory>
     requires changes { AreNodeChanges game.now.tree deltas.now }
     requires shape { matcher.now.images.now.shape ≡ game.now.tree.shape }
-    requires occurrences { occurrences.now ≡ occurrences_in deltas.now
+    requires occurrences { occurrences_of begun.now ≡ occurrences_in deltas.now
         matcher.now.images.now.placements }
+    requires known { (b : Begun) → Contains begun.now b →
+        GoesOnToHold deltas.now matcher.now.images.now.placements b }
     ensures { OnOk result (AreHitsAdded
         (AreHitsOf query.now number game.now.tree deltas.now
-        matcher.now.images.now.placements occurrences.now)
+        matcher.now.images.now.placements (occurrences_of begun.now))
         hits.old.items hits.new.items) }
 {
-    for occurrence in occurrences {
-        if looks_at(query, game.tree(), occurrence.node) {
-            hits.push(hit_of(number, game, deltas, matcher, *occurrence))?;
+    for one in begun {
+        if looks_at(query, game.tree(), one.occurrence.node) {
+            hits.push(hit_of(number, game, deltas, matcher, *one))?;
         }
     }
     Ok(())
@@ -78,28 +83,29 @@ fn looks_at(query: &Query, tree: &GameTree, node: u32) -> bool
     query.from_move <= moves && moves <= query.to_move
 }
 
-// The hit of an occurrence in the game with this number and these changes. The runs tell how far the
+// The hit of what occurs in the game with this number and these changes. It is known how far the
 // placement goes on to hold, and the changes of the nodes before that needn't be asked.
 fn hit_of(
     number: u32,
     game: &FinishedGame,
     deltas: &NodeDeltas,
     matcher: &RunMatcher,
-    occurrence: Occurrence,
+    begun: Begun,
 ) -> Hit
     requires changes { AreNodeChanges game.now.tree deltas.now }
     requires shape { matcher.now.images.now.shape ≡ game.now.tree.shape }
-    requires node { occurrence.node < node_count game.now.tree }
-    requires placement { occurrence.placement < length matcher.now.images.now.placements }
-    requires holds { HoldsAt deltas.now
-        (placement_at matcher.now.images.now.placements occurrence.placement) occurrence.node }
-    ensures { IsHit number game.now.tree deltas.now matcher.now.images.now.placements occurrence
-        result }
+    requires node { begun.occurrence.node < node_count game.now.tree }
+    requires placement { begun.occurrence.placement < length matcher.now.images.now.placements }
+    requires holds { HoldsAt deltas.now (placement_at matcher.now.images.now.placements
+        begun.occurrence.placement) begun.occurrence.node }
+    requires known { GoesOnToHold deltas.now matcher.now.images.now.placements begun }
+    ensures { IsHit number game.now.tree deltas.now matcher.now.images.now.placements
+        begun.occurrence result }
 {
-    let Occurrence { node, placement } = occurrence;
+    let Occurrence { node, placement } = begun.occurrence;
+    let known = known_to(game, deltas, matcher, begun);
     let placement = placement as usize;
     let images = matcher.images;
-    let known = matcher.sought(placement).holds_to(game.runs(), node);
     Hit {
         game: number,
         node,
@@ -108,4 +114,26 @@ fn hit_of(
         outcome: game.outcome(),
         next: next_below(game.tree(), deltas, images, placement, node, known),
     }
+}
+
+// A number of a node up to before which the placement goes on to hold. Where it holds in several
+// stretches none is known with it, and the runs tell.
+fn known_to(game: &FinishedGame, deltas: &NodeDeltas, matcher: &RunMatcher, begun: Begun) -> u32
+    requires changes { AreNodeChanges game.now.tree deltas.now }
+    requires shape { matcher.now.images.now.shape ≡ game.now.tree.shape }
+    requires node { begun.occurrence.node < node_count game.now.tree }
+    requires placement { begun.occurrence.placement < length matcher.now.images.now.placements }
+    requires holds { HoldsAt deltas.now (placement_at matcher.now.images.now.placements
+        begun.occurrence.placement) begun.occurrence.node }
+    requires known { GoesOnToHold deltas.now matcher.now.images.now.placements begun }
+    ensures { (k : ℕ) → begun.occurrence.node ≤ k → k < result → HoldsAt deltas.now
+        (placement_at matcher.now.images.now.placements begun.occurrence.placement) k }
+{
+    let Occurrence { node, placement } = begun.occurrence;
+    if begun.known > node {
+        return begun.known;
+    }
+    matcher
+        .sought(placement as usize)
+        .holds_to(game.runs(), node)
 }

@@ -20,21 +20,24 @@ ghost use Rattle.pattern_images.specs.Placements.{Placement};
 ghost use Rattle.line_matcher.specs.declared.occurrence.Occurrence.{Occurrence};
 ghost use Rattle.line_matcher.specs.Occurrences.{occurrences_in};
 ghost use Rattle.candidate_sieve.specs.declared.candidates.Candidate.{Candidate};
+ghost use Rattle.run_matcher.specs.GoingOn.{GoesOnToHold, occurrences_of};
 ghost use Rattle.run_matcher.specs.PlacementOccurrences.{IsOccurrenceOf};
 ghost use Rattle.run_matcher.specs.SoughtPlacements.{IsSought};
+ghost use Rattle.run_matcher.specs.declared.begun.Begun.{Begun};
 ghost use Rattle.search_engine.specs.Gathering.{
   AreGathered,
   AreOnBoards,
   IsOfCandidate,
   IsOfCandidates,
+  MoreGoOn,
+  begun_of,
   gathered_of,
 };
 
 use crate::bits::next_bit;
 use candidate_sieve::Candidate;
 use kb_geometry::NoMemory;
-use line_matcher::Occurrence;
-use run_matcher::{Buffers, Gathered, RunMatcher, Sought};
+use run_matcher::{Begun, Buffers, Gathered, RunMatcher, Sought};
 use segment_store::{Block, FinishedGame};
 use std::alloc::Global;
 use std::marker::Model;
@@ -42,8 +45,8 @@ use std::marker::Model;
 // The most games of a block.
 const MOST: usize = 64;
 
-// For each place in a block the occurrences in the game there. The lists are kept from block to
-// block. Contracts see them.
+// For each place in a block what occurs in the game there. The lists are kept from block to block.
+// Contracts see them.
 #[derive(Debug, Drop)]
 pub(crate) struct GameOccurrences {
     lists: Vec<Gathered>,
@@ -51,9 +54,9 @@ pub(crate) struct GameOccurrences {
 
 impl Model for GameOccurrences {
     ghost use Rattle.std.specs.Prelude.{List, length, ◌≡◌};
-    ghost use Rattle.line_matcher.specs.declared.occurrence.Occurrence.{Occurrence};
+    ghost use Rattle.run_matcher.specs.declared.begun.Begun.{Begun};
 
-    ghost Value = { List (List Occurrence) };
+    ghost Value = { List (List Begun) };
 
     ghost view = { λ g. g.lists.items };
 
@@ -92,9 +95,11 @@ impl GameOccurrences {
             c.placement < length matcher.now.images.now.placements }
         requires on_boards { (c : Candidate) → Contains candidates.now c →
             AreOnBoards block.now matcher.now.images.now.shape c }
-        ensures { OnOk result (AreGathered block.now
+        ensures gathered { OnOk result (AreGathered block.now
             (IsOfCandidates matcher.now.images.now.placements candidates.now
             (length candidates.now)) self.old self.new) }
+        ensures known { OnOk result (MoreGoOn block.now matcher.now.images.now.shape
+            matcher.now.images.now.placements self.old self.new) }
     {
         let _count = block.len();
         for candidate in candidates {
@@ -113,8 +118,10 @@ impl GameOccurrences {
     ) -> Result<(), NoMemory>
         requires in_range { candidate.placement < length matcher.now.images.now.placements }
         requires on_boards { AreOnBoards block.now matcher.now.images.now.shape candidate }
-        ensures { OnOk result (AreGathered block.now
+        ensures gathered { OnOk result (AreGathered block.now
             (IsOfCandidate matcher.now.images.now.placements candidate 64) self.old self.new) }
+        ensures known { OnOk result (MoreGoOn block.now matcher.now.images.now.shape
+            matcher.now.images.now.placements self.old self.new) }
     {
         let _count = block.len();
         let sought = matcher.sought(candidate.placement as usize);
@@ -141,8 +148,11 @@ impl GameOccurrences {
             (o : Occurrence) → Contains (gathered_of self.new at) o
             ↔ (Contains (gathered_of self.old at) o ⊎ IsOccurrenceOf changes
             sought.now.images.now.placements sought.now.number o)) }
+        ensures known { OnOk result ((changes : Deltas) → AreNodeChanges game.now.tree changes →
+            (b : Begun) → Contains (begun_of self.new at) b → Contains (begun_of self.old at) b
+            ⊎ GoesOnToHold changes sought.now.images.now.placements b) }
         ensures others { OnOk result ((g : ℕ) → g ≢ at →
-            gathered_of self.new g ≡ gathered_of self.old g) }
+            begun_of self.new g ≡ begun_of self.old g) }
     {
         let _changes = game.deltas();
         self.lists[at].add(game.runs(), sought, buffers)?;
@@ -157,16 +167,18 @@ impl GameOccurrences {
         self.lists[at].is_empty()
     }
 
-    // The occurrences in the game at this place, by node and at one node in the order of the
-    // placements. What is in its list afterwards doesn't count.
-    pub(crate) fn sorted(&mut self, alloc: Global, at: usize) -> Result<Vec<Occurrence>, NoMemory>
+    // What occurs in the game at this place, by node and at one node in the order of the placements.
+    // What is in its list afterwards doesn't count.
+    pub(crate) fn sorted(&mut self, alloc: Global, at: usize) -> Result<Vec<Begun>, NoMemory>
         requires { at < 64 }
         ensures list { IfOk result (λ found. (changes : Deltas) (placements : List Placement) →
             ((o : Occurrence) → Contains (gathered_of self.old at) o
             ↔ Contains (occurrences_in changes placements) o) →
-            found.items ≡ occurrences_in changes placements) }
+            occurrences_of found.items ≡ occurrences_in changes placements) }
+        ensures from { IfOk result (λ found. (b : Begun) → Contains found.items b →
+            Contains (begun_of self.old at) b) }
         ensures others { OnOk result ((g : ℕ) → g ≢ at →
-            gathered_of self.new g ≡ gathered_of self.old g) }
+            begun_of self.new g ≡ begun_of self.old g) }
     {
         Ok(self.lists[at].sorted(alloc)?)
     }

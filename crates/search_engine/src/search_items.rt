@@ -4,10 +4,14 @@ ghost use Rattle.std.specs.List.{slice_get};
 ghost use Rattle.info_filter.specs.declared.filter.Filter.{Filter};
 ghost use Rattle.info_filter.specs.Filter.{Accepts};
 ghost use Rattle.node_position.specs.Games.{Game};
+ghost use Rattle.run_matcher.specs.GoingOn.{occurrences_of};
 ghost use Rattle.search_engine.specs.Gathering.{
+  AllGoOn,
   AreOccurrencesIn,
+  GoOnIn,
   HasOccurrences,
   HaveOccurrences,
+  begun_of,
   gathered_of,
 };
 ghost use Rattle.search_engine.specs.Hits.{AreGameHits, AreHitsFrom};
@@ -27,9 +31,8 @@ use crate::matchers::Matchers;
 use candidate_sieve::Candidate;
 use info_filter::Filter;
 use kb_geometry::NoMemory;
-use line_matcher::Occurrence;
 use pattern_images::Hit;
-use run_matcher::Buffers;
+use run_matcher::{Begun, Buffers};
 use segment_store::FinishedGame;
 use std::alloc::Global;
 
@@ -104,8 +107,9 @@ fn add_found(
     gathered: &mut GameOccurrences,
     hits: &mut Vec<Hit>,
 ) -> Result<(), NoMemory>
-    requires { HaveOccurrences matchers.now.query filter.now matchers.now.shapes item.now.block.now
-        gathered.old }
+    requires gathered { HaveOccurrences matchers.now.query filter.now matchers.now.shapes
+        item.now.block.now gathered.old }
+    requires known { AllGoOn matchers.now.query item.now.block.now gathered.old }
     ensures { OnOk result (AreCovered matchers.now.query matchers.now.shapes item.now.block.now →
         AreHitsAdded
         (AreHitsFrom item.now.first matchers.now.query filter.now item.now.block.now)
@@ -132,13 +136,15 @@ fn add_one(
     requires gathered { (game : Game) → slice_get item.now.block.now at ≡ Some game →
         HasOccurrences matchers.now.query _filter.now matchers.now.shapes game.tree
         (gathered_of gathered.old at) }
+    requires known { (game : Game) → slice_get item.now.block.now at ≡ Some game →
+        GoOnIn matchers.now.query game.tree (begun_of gathered.old at) }
     ensures hits { OnOk result ((game : Game) → slice_get item.now.block.now at ≡ Some game →
         IsCovered matchers.now.query matchers.now.shapes game.tree.shape →
         AreHitsAdded
         (AreGameHits matchers.now.query _filter.now (item.now.first + at) game.tree)
         hits.old.items hits.new.items) }
     ensures others { OnOk result ((g : ℕ) → g ≢ at →
-        gathered_of gathered.new g ≡ gathered_of gathered.old g) }
+        begun_of gathered.new g ≡ begun_of gathered.old g) }
 {
     let _count = item.block.len();
     let game = item.block.get(at);
@@ -159,11 +165,13 @@ fn add_on_its_board(
     matchers: &Matchers,
     number: u32,
     game: &FinishedGame,
-    occurrences: &[Occurrence],
+    begun: &[Begun],
     hits: &mut Vec<Hit>,
 ) -> Result<(), NoMemory>
     requires there { Contains matchers.now.shapes game.now.tree.shape }
-    requires occurrences { AreOccurrencesIn matchers.now.query game.now.tree occurrences.now }
+    requires occurrences { AreOccurrencesIn matchers.now.query game.now.tree
+        (occurrences_of begun.now) }
+    requires known { GoOnIn matchers.now.query game.now.tree begun.now }
     ensures { OnOk result ((filter : Filter) → Accepts filter game.now.tree.info →
         AreHitsAdded (AreGameHits matchers.now.query filter number game.now.tree)
         hits.old.items hits.new.items) }
@@ -171,12 +179,5 @@ fn add_on_its_board(
     let Some(matcher) = matchers.find(game.tree().shape()) else {
         return Ok(());
     };
-    add_hits_in(
-        matchers.query(),
-        number,
-        game,
-        &matcher.runs,
-        occurrences,
-        hits,
-    )
+    add_hits_in(matchers.query(), number, game, &matcher.runs, begun, hits)
 }

@@ -49,7 +49,8 @@ impl ShapeList {
     pub(crate) fn new(alloc: Global) -> Result<ShapeList, NoMemory>
         ensures { IfOk result (λ shapes. shapes ≡ []) }
     {
-        let places = vec![in alloc; 0; SHAPES]?;
+        // Copied from an array, which takes less than the same word pushed 2,704 times.
+        let places = Vec::from_slice(alloc, &[0; SHAPES])?;
         Ok(ShapeList {
             shapes: Vec::new(alloc),
             places,

@@ -1,14 +1,16 @@
-// How far placements go on to hold in small games, worked out by hand.
+// How far placements go on to hold in small games, worked out by hand: by the runs from a node on, and
+// as it is known with an occurrence.
 ghost use Rattle.std.specs.Prelude.{◌≡◌, ◌<◌};
 
 use super::games::{Row, game_of};
 use super::{Asked, BLACK, EMPTY, at, query_of};
-use crate::RunMatcher;
+use crate::{Begun, Buffers, Gathered, RunMatcher};
 use capture_board::{NodeDeltas, Steps};
 use capture_index::RunIndex;
 use kb_geometry::Shape;
 use pattern_images::{Images, Query, images};
 use std::alloc::Global;
+use std::fmt::Write;
 use std::marker::Brand;
 use std::process::Abort;
 use std::sync::ledger::{Blank, Ledger};
@@ -116,6 +118,90 @@ fn placements_hold_until_a_wanted_point_changes(rt: HostRuntime) -> Result<(), F
         let asked = (pattern, true, true, at(x, y));
         let to = held_to::<Brand>(&rt, rt.alloc(), rows, asked, node, Blank::new(1))?;
         assert_eq!(rt; to, wanted, "from node {node}");
+    }
+    Ok(())
+}
+
+// A game, a pattern and the point at which it is looked for, and for each node at which it begins to
+// hold there the node and the one up to before which it is known to go on. Where it holds in several
+// stretches of nodes that is 0.
+type Known = (
+    &'static [Row],
+    (u8, u8, &'static str),
+    (u8, u8),
+    &'static str,
+);
+
+const KNOWN: [Known; 8] = [
+    (LINE, BLACK, (0, 0), "1 4"),
+    (LINE, BLACK, (2, 2), "2 5"),
+    (LINE, (2, 1, "X."), (0, 0), "1 3"),
+    (LINE, (3, 1, "**."), (0, 0), "0 5"),
+    // The point is empty before the stone comes and again where it is taken off.
+    (LINE, EMPTY, (0, 0), "0 0, 4 0"),
+    (VARIATIONS, BLACK, (1, 1), "2 4"),
+    // The other variation goes on with the stone on aa.
+    (VARIATIONS, BLACK, (0, 0), "1 0"),
+    (VARIATIONS, BLACK, (0, 1), ""),
+];
+
+// What occurs of the only placement of a search, in a game on a board of 3 by 3.
+fn known_counted<L: Ledger>(
+    rt: &impl Abort,
+    alloc: Global,
+    rows: &[Row],
+    asked: Asked,
+    blank: Blank,
+) -> Result<String, Fail>
+    requires name { blank.name ≡ L.name }
+    requires parts { blank.parts ≡ L.parts }
+    requires some { 0 < blank.parts }
+{
+    let shape = Shape::new(3, 3).expect(rt, "a board");
+    let mut steps = Steps::<L>::new(blank);
+    let deltas = game_of(rt, alloc, shape, rows, &mut steps)?;
+    let query = query_of(rt, alloc, asked)?;
+    assert_eq!(rt; deltas.shape(), shape);
+    let images = images(alloc, &query, shape)?;
+    known_in(rt, alloc, &deltas, &images)
+}
+
+fn known_in(
+    rt: &impl Abort,
+    alloc: Global,
+    deltas: &NodeDeltas,
+    images: &Images,
+) -> Result<String, Fail>
+    requires { images.now.shape ≡ deltas.now.shape }
+{
+    let runs = RunIndex::of(alloc, deltas)?;
+    let matcher = RunMatcher::new(alloc, images)?;
+    assert_eq!(rt; images.len(), 1);
+    let mut gathered = Gathered::new(alloc);
+    // Twice, since each occurrence is listed once.
+    for _time in 0..2 {
+        gathered.add(&runs, &matcher.sought(0), &mut Buffers::new(alloc))?;
+    }
+    shown(alloc, &gathered.sorted(alloc)?)
+}
+
+fn shown(alloc: Global, begun: &[Begun]) -> Result<String, Fail> {
+    let mut text = String::new(alloc);
+    for Begun { occurrence, known } in begun {
+        if !text.is_empty() {
+            text.push_str(", ")?;
+        }
+        write!(text, "{} {known}", occurrence.node)?;
+    }
+    Ok(text)
+}
+
+#[test]
+fn the_end_of_one_stretch_is_known(rt: HostRuntime) -> Result<(), Fail> {
+    for (rows, pattern, (x, y), wanted) in KNOWN {
+        let asked = (pattern, true, true, at(x, y));
+        let known = known_counted::<Brand>(&rt, rt.alloc(), rows, asked, Blank::new(1))?;
+        assert_eq!(rt; known.as_str(), wanted);
     }
     Ok(())
 }

@@ -4,4 +4,4 @@ use Rattle.run_matcher.proofs.keys.push_keys.Given as goal
 
 -- the nodes so far
 abbrev pub invariant-loop-node : goal.invariant-loop-node
-invariant-loop-node l = l.keys.items ≡ l.fn.keys.items ++ map (key_of l.placement) (take l.node-index l.nodes)
+invariant-loop-node l = l.keys.items ≡ l.fn.keys.items ++ map (key_of l.placement l.known) (take l.node-index l.nodes)

@@ -3,10 +3,11 @@ use Rattle.std.specs.Prelude.{Contains}
 use Rattle.capture_board.specs.Deltas.{AreDeltas, Deltas}
 use Rattle.capture_index.specs.NodePositions.{positions_of}
 use Rattle.line_matcher.specs.declared.occurrence.Occurrence.{Occurrence}
+use Rattle.run_matcher.specs.GoingOn.{occurrences_of}
 use Rattle.run_matcher.specs.PlacementOccurrences.{IsOccurrenceBelow}
 use Rattle.run_matcher.proofs.matching.match_runs.Given as goal
 
 -- the placements so far
 abbrev pub invariant-loop-placement : goal.invariant-loop-placement
 invariant-loop-placement l =
-    (deltas : Deltas) → AreDeltas deltas → l.runs ≡ positions_of deltas → (o : Occurrence) → Contains l.gathered o ↔ IsOccurrenceBelow deltas l.matcher.images.now.placements l.placement o
+    (deltas : Deltas) → AreDeltas deltas → l.runs ≡ positions_of deltas → (o : Occurrence) → Contains (occurrences_of l.gathered) o ↔ IsOccurrenceBelow deltas l.matcher.images.now.placements l.placement o

@@ -2,21 +2,28 @@ use Rattle.std.proofs.Common.{arith, subst, sym}
 use Rattle.final_index.specs.Planes.{PlaneGames}
 use Rattle.segment_store.specs.Planes.{ArePlanesOn}
 use Rattle.search_engine.proofs.GatheredBlocks.{on_planes-all, on_planes-more, on_planes-start}
+use Rattle.search_engine.proofs.GoingOn.{all-none}
 use Rattle.search_engine.proofs.block_occurrences.gather.Goals as goal
 
 pub loop-planes-init : goal.loop-planes-init
-loop-planes-init c = on_planes-start c.args.matchers.now.query c.args.matchers.now.shapes c.args.block.now c.args.asked c.planes-planes-items.result.now c.clear.new.self c.clear.ensures
+loop-planes-init c = record {
+  gathered = on_planes-start c.args.matchers.now.query c.args.matchers.now.shapes c.args.block.now c.args.asked c.planes-planes-items.result.now c.clear.new.self c.clear.ensures;
+  known = all-none c.args.matchers.now.query c.args.block.now c.clear.new.self c.clear.ensures;
+}
 
 pub loop-planes-preserved : goal.loop-planes-preserved
-loop-planes-preserved c =
-    on_planes-more c.args.matchers.now.query c.args.matchers.now.shapes c.args.block.now c.args.asked c.planes-planes-items.result.now c.loop-planes.planes-index c.planes-item.result c.loop-planes.gathered c.gather_on_shape.new.gathered c.loop-planes-test.true c.planes-item.is
-    c.loop-planes.invariant c.in_ok-gather_on_shape.ensures
+loop-planes-preserved c = record {
+  gathered =
+      on_planes-more c.args.matchers.now.query c.args.matchers.now.shapes c.args.block.now c.args.asked c.planes-planes-items.result.now c.loop-planes.planes-index c.planes-item.result c.loop-planes.gathered c.gather_on_shape.new.gathered c.loop-planes-test.true c.planes-item.is
+      c.loop-planes.invariant.gathered c.in_ok-gather_on_shape.ensures.gathered;
+  known = c.in_ok-gather_on_shape.ensures.known c.loop-planes.invariant.known;
+}
 
 pub gather_on_shape-requires : goal.gather_on_shape-requires
 gather_on_shape-requires c =
     let p : PlaneGames = c.planes-item.result in
     subst (λ (q : PlaneGames). ArePlanesOn c.args.block.now q) (sym c.planes-item.is) (c.planes-planes-items.ensures.each c.loop-planes.planes-index p c.loop-planes-test.true)
 
-pub returns : goal.returns
-returns c = λ filter accepted.
-    on_planes-all c.args.matchers.now.query c.args.matchers.now.shapes c.args.block.now c.args.asked c.planes-planes-items.result.now c.loop-planes.planes-index (omega (arith, c.loop-planes-test.false)) c.planes-planes-items.ensures filter c.loop-planes.gathered accepted c.loop-planes.invariant
+pub returns-clause-gathered : goal.returns-clause-gathered
+returns-clause-gathered c = λ filter accepted.
+    on_planes-all c.args.matchers.now.query c.args.matchers.now.shapes c.args.block.now c.args.asked c.planes-planes-items.result.now c.loop-planes.planes-index (omega (arith, c.loop-planes-test.false)) c.planes-planes-items.ensures filter c.loop-planes.gathered accepted c.loop-planes.invariant.gathered

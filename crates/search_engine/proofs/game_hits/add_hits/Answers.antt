@@ -1,47 +1,88 @@
-use Rattle.std.proofs.Common.{◌≡◌, ◌<◌, [], true, false, get_or, ap, subst, sym, ◌∙◌}
-use Rattle.std.proofs.lemmas.List.{get_or_default}
+use Rattle.std.proofs.Common.{◌≡◌, ℕ, ◌<◌, List, [], true, false, get_or, length, ap, arith, subst, sym, ◌∙◌}
+use Rattle.std.proofs.lemmas.List.{get_or-map, length-map, take_all}
+use Rattle.std.proofs.lemmas.List.Elements.{Contains-get_or}
 use Rattle.game_tree.specs.Tree.{Tree, node_count}
-use Rattle.line_matcher.specs.declared.occurrence.Occurrence.{Occurrence}
+use Rattle.run_matcher.specs.GoingOn.{occurrences_of}
+use Rattle.run_matcher.specs.declared.begun.Begun.{Begun}
 use Rattle.search_engine.specs.Hits.{AreHitsOf, LooksAt}
+use Rattle.search_engine.specs.Searching.{AreHitsAdded}
 use Rattle.search_engine.proofs.AddedHits.{AreHitsAdded-hit, AreHitsAdded-left_out, AreHitsAdded-none}
 use Rattle.search_engine.proofs.FoundHits.{is_there, node_in_tree}
 use Rattle.search_engine.proofs.game_hits.add_hits.Goals as goal
 use Rattle.search_engine.proofs.game_hits.add_hits.Goals.{then-looks_at+in_ok-push, else-looks_at}
 
 -- what a read past the end would give
-abbrev none : Occurrence
-none = record { node = 0; placement = 0 }
+abbrev none : Begun
+none = record { occurrence = record { node = 0; placement = 0 }; known = 0 }
 
-pub loop-occurrence-init : goal.loop-occurrence-init
-loop-occurrence-init c = AreHitsAdded-none (AreHitsOf c.args.query.now c.args.number c.args.game.now.tree c.args.deltas.now c.args.matcher.now.images.now.placements []) c.args.hits.now.items AreHitsOf.nothing
+-- an element of the list, and its occurrence
+module _ (begun : List Begun) (k : ℕ) (lt : k < length begun) where
+  abbrev one : Begun
+  one = get_or begun k none
+
+  within : k < length (occurrences_of begun)
+  within = omega (arith, lt, length-map begun (λ (b : Begun). b.occurrence))
+
+  read : one.occurrence ≡ get_or (occurrences_of begun) k one.occurrence
+  read = sym (get_or-map (λ (b : Begun). b.occurrence) begun k none one.occurrence lt)
+
+pub loop-one-init : goal.loop-one-init
+loop-one-init c = AreHitsAdded-none (AreHitsOf c.args.query.now c.args.number c.args.game.now.tree c.args.deltas.now c.args.matcher.now.images.now.placements []) c.args.hits.now.items AreHitsOf.nothing
 
 pub looks_at-requires : goal.looks_at-requires
 looks_at-requires c =
-    subst (λ (t : Tree). (get_or c.args.occurrences.now c.loop-occurrence.occurrence-index none).node < node_count t) (sym c.tree.ensures)
-    (node_in_tree c.args.game.now.tree c.args.deltas.now c.requires.changes c.args.matcher.now.images.now.placements c.args.occurrences.now c.requires.occurrences c.loop-occurrence.occurrence-index (get_or c.args.occurrences.now c.loop-occurrence.occurrence-index none) c.loop-occurrence-test.true (get_or_default c.args.occurrences.now c.loop-occurrence.occurrence-index none (get_or c.args.occurrences.now c.loop-occurrence.occurrence-index none) c.loop-occurrence-test.true))
+    let begun = c.args.begun.now in
+    let k = c.loop-one.one-index in
+    let lt = c.loop-one-test.true in
+    subst (λ (t : Tree). (one begun k lt).occurrence.node < node_count t) (sym c.tree.ensures)
+    (node_in_tree c.args.game.now.tree c.args.deltas.now c.requires.changes c.args.matcher.now.images.now.placements (occurrences_of begun) c.requires.occurrences k (one begun k lt).occurrence (within begun k lt) (read begun k lt))
 
 pub hit_of-requires-clause-node : goal.hit_of-requires-clause-node
 hit_of-requires-clause-node c =
-    node_in_tree c.args.game.now.tree c.args.deltas.now c.requires.changes c.args.matcher.now.images.now.placements c.args.occurrences.now c.requires.occurrences c.loop-occurrence.occurrence-index (get_or c.args.occurrences.now c.loop-occurrence.occurrence-index none) c.loop-occurrence-test.true (get_or_default c.args.occurrences.now c.loop-occurrence.occurrence-index none (get_or c.args.occurrences.now c.loop-occurrence.occurrence-index none) c.loop-occurrence-test.true)
+    let begun = c.args.begun.now in
+    let k = c.loop-one.one-index in
+    let lt = c.loop-one-test.true in
+    node_in_tree c.args.game.now.tree c.args.deltas.now c.requires.changes c.args.matcher.now.images.now.placements (occurrences_of begun) c.requires.occurrences k (one begun k lt).occurrence (within begun k lt) (read begun k lt)
 
 pub hit_of-requires-clause-placement : goal.hit_of-requires-clause-placement
 hit_of-requires-clause-placement c =
-    (is_there c.args.game.now.tree c.args.deltas.now c.requires.changes c.args.matcher.now.images.now.placements c.args.occurrences.now c.requires.occurrences c.loop-occurrence.occurrence-index (get_or c.args.occurrences.now c.loop-occurrence.occurrence-index none) c.loop-occurrence-test.true (get_or_default c.args.occurrences.now c.loop-occurrence.occurrence-index none (get_or c.args.occurrences.now c.loop-occurrence.occurrence-index none) c.loop-occurrence-test.true)).placement
+    let begun = c.args.begun.now in
+    let k = c.loop-one.one-index in
+    let lt = c.loop-one-test.true in
+    (is_there c.args.game.now.tree c.args.deltas.now c.requires.changes c.args.matcher.now.images.now.placements (occurrences_of begun) c.requires.occurrences k (one begun k lt).occurrence (within begun k lt) (read begun k lt)).placement
 
 pub hit_of-requires-clause-holds : goal.hit_of-requires-clause-holds
 hit_of-requires-clause-holds c =
-    (is_there c.args.game.now.tree c.args.deltas.now c.requires.changes c.args.matcher.now.images.now.placements c.args.occurrences.now c.requires.occurrences c.loop-occurrence.occurrence-index (get_or c.args.occurrences.now c.loop-occurrence.occurrence-index none) c.loop-occurrence-test.true (get_or_default c.args.occurrences.now c.loop-occurrence.occurrence-index none (get_or c.args.occurrences.now c.loop-occurrence.occurrence-index none) c.loop-occurrence-test.true)).holds
+    let begun = c.args.begun.now in
+    let k = c.loop-one.one-index in
+    let lt = c.loop-one-test.true in
+    (is_there c.args.game.now.tree c.args.deltas.now c.requires.changes c.args.matcher.now.images.now.placements (occurrences_of begun) c.requires.occurrences k (one begun k lt).occurrence (within begun k lt) (read begun k lt)).holds
 
-pub loop-occurrence-preserved : goal.loop-occurrence-preserved
-loop-occurrence-preserved c = elim c.if-looks_at.branch [
-  | then-looks_at+in_ok-push w ↦
-      AreHitsAdded-hit c.args.query.now c.args.number c.args.game.now.tree c.args.deltas.now c.args.matcher.now.images.now.placements c.args.occurrences.now c.args.hits.now.items c.loop-occurrence.hits.items c.loop-occurrence.occurrence-index (get_or c.args.occurrences.now c.loop-occurrence.occurrence-index none) c.loop-occurrence-test.true (get_or_default c.args.occurrences.now c.loop-occurrence.occurrence-index none (get_or c.args.occurrences.now c.loop-occurrence.occurrence-index none) c.loop-occurrence-test.true)
-      c.if-looks_at.hits.items w.hit_of.result c.loop-occurrence.invariant
-      (subst (λ (t : Tree). LooksAt c.args.query.now t (get_or c.args.occurrences.now c.loop-occurrence.occurrence-index none).node) c.tree.ensures (c.looks_at.ensures.0 w.if-looks_at.true))
-      w.hit_of.ensures (ap (λ v. v.items) w.hits-is ∙ w.in_ok-push.ensures.items)
-  | else-looks_at w ↦
-      AreHitsAdded-left_out c.args.query.now c.args.number c.args.game.now.tree c.args.deltas.now c.args.matcher.now.images.now.placements c.args.occurrences.now c.args.hits.now.items c.loop-occurrence.hits.items c.loop-occurrence.occurrence-index (get_or c.args.occurrences.now c.loop-occurrence.occurrence-index none) c.loop-occurrence-test.true (get_or_default c.args.occurrences.now c.loop-occurrence.occurrence-index none (get_or c.args.occurrences.now c.loop-occurrence.occurrence-index none) c.loop-occurrence-test.true)
-      c.if-looks_at.hits.items c.loop-occurrence.invariant
-      (λ looks. let no : false ≡ true = sym w.if-looks_at.false ∙ c.looks_at.ensures.1 (subst (λ (t : Tree). LooksAt c.args.query.now t (get_or c.args.occurrences.now c.loop-occurrence.occurrence-index none).node) (sym c.tree.ensures) looks) in absurd cc)
-      (ap (λ v. v.items) w.hits-is)
-]
+pub hit_of-requires-clause-known : goal.hit_of-requires-clause-known
+hit_of-requires-clause-known c =
+    c.requires.known (get_or c.args.begun.now c.loop-one.one-index none) (Contains-get_or c.args.begun.now c.loop-one.one-index none c.loop-one-test.true)
+
+pub loop-one-preserved : goal.loop-one-preserved
+loop-one-preserved c =
+    let begun = c.args.begun.now in
+    let k = c.loop-one.one-index in
+    let lt = c.loop-one-test.true in
+    let o = (one begun k lt).occurrence in
+    elim c.if-looks_at.branch [
+      | then-looks_at+in_ok-push w ↦
+          AreHitsAdded-hit c.args.query.now c.args.number c.args.game.now.tree c.args.deltas.now c.args.matcher.now.images.now.placements (occurrences_of begun) c.args.hits.now.items c.loop-one.hits.items k o (within begun k lt) (read begun k lt)
+          c.if-looks_at.hits.items w.hit_of.result c.loop-one.invariant
+          (subst (λ (t : Tree). LooksAt c.args.query.now t o.node) c.tree.ensures (c.looks_at.ensures.0 w.if-looks_at.true))
+          w.hit_of.ensures (ap (λ v. v.items) w.hits-is ∙ w.in_ok-push.ensures.items)
+      | else-looks_at w ↦
+          AreHitsAdded-left_out c.args.query.now c.args.number c.args.game.now.tree c.args.deltas.now c.args.matcher.now.images.now.placements (occurrences_of begun) c.args.hits.now.items c.loop-one.hits.items k o (within begun k lt) (read begun k lt)
+          c.if-looks_at.hits.items c.loop-one.invariant
+          (λ looks. let no : false ≡ true = sym w.if-looks_at.false ∙ c.looks_at.ensures.1 (subst (λ (t : Tree). LooksAt c.args.query.now t o.node) (sym c.tree.ensures) looks) in absurd cc)
+          (ap (λ v. v.items) w.hits-is)
+    ]
+
+pub returns : goal.returns
+returns c =
+    let all = occurrences_of c.args.begun.now in
+    subst (λ os. AreHitsAdded (AreHitsOf c.args.query.now c.args.number c.args.game.now.tree c.args.deltas.now c.args.matcher.now.images.now.placements os) c.args.hits.now.items c.loop-one.hits.items)
+    (take_all c.loop-one.one-index all (omega (arith, c.loop-one-test.false, length-map c.args.begun.now (λ (b : Begun). b.occurrence)))) c.loop-one.invariant

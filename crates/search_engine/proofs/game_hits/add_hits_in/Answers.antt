@@ -5,6 +5,9 @@ use Rattle.search_engine.proofs.game_hits.add_hits_in.Goals as goal
 pub add_hits-requires-clause-occurrences : goal.add_hits-requires-clause-occurrences
 add_hits-requires-clause-occurrences c = c.requires.occurrences c.deltas-deltas.result.now c.args.matcher.now.images.now.placements c.deltas-deltas.ensures c.requires.images
 
+pub add_hits-requires-clause-known : goal.add_hits-requires-clause-known
+add_hits-requires-clause-known c = c.requires.known c.deltas-deltas.result.now c.args.matcher.now.images.now.placements c.deltas-deltas.ensures c.requires.images
+
 pub returns : goal.returns
 returns c =
     let is = c.requires.occurrences c.deltas-deltas.result.now c.args.matcher.now.images.now.placements c.deltas-deltas.ensures c.requires.images in

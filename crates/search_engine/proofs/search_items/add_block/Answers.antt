@@ -11,5 +11,5 @@ returns-then-accepted-eq0 c covered =
     let bit = (c.accepted_games-accepted.ensures k game at).1 accepts in
     absurd (omega (arith, bit_at-zero k, subst (λ word. bit_at word k ≡ 1) c.if-accepted-eq0.true bit)))
 
-pub add_found-requires : goal.add_found-requires
-add_found-requires c = c.in_ok-gather.ensures c.args.filter.now c.accepted_games-accepted.ensures
+pub add_found-requires-clause-gathered : goal.add_found-requires-clause-gathered
+add_found-requires-clause-gathered c = c.in_ok-gather.ensures.gathered c.args.filter.now c.accepted_games-accepted.ensures

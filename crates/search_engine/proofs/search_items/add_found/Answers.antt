@@ -2,8 +2,9 @@ use Rattle.std.proofs.Common.{List, arith, refl, subst, sym}
 use Rattle.std.proofs.lemmas.List.{take_all}
 use Rattle.std.proofs.lemmas.Option.{get_or_from_slice_get, slice_get_within}
 use Rattle.node_position.specs.Games.{Game}
-use Rattle.line_matcher.specs.declared.occurrence.Occurrence.{Occurrence}
-use Rattle.search_engine.specs.Gathering.{HasOccurrences}
+use Rattle.run_matcher.specs.GoingOn.{occurrences_of}
+use Rattle.run_matcher.specs.declared.begun.Begun.{Begun}
+use Rattle.search_engine.specs.Gathering.{GoOnIn, HasOccurrences}
 use Rattle.search_engine.specs.Hits.{AreHitsFrom}
 use Rattle.search_engine.specs.Searching.{AreHitsAdded, IsCovered}
 use Rattle.search_engine.proofs.GamesSearched.{AreHitsAdded-game, AreHitsFrom-none, some_there}
@@ -11,18 +12,23 @@ use Rattle.search_engine.proofs.search_items.add_found.Goals as goal
 
 pub loop-at-init : goal.loop-at-init
 loop-at-init c = record {
-  rest = λ g game le there. c.requires g game there;
+  rest = λ g game le there. c.requires.gathered g game there;
+  known = λ g game le there. c.requires.known g game there;
   hits = λ covered. AreHitsFrom-none c.args.item.now.first c.args.matchers.now.query c.args.filter.now c.args.hits.now.items;
 }
 
 pub add_one-requires-clause-gathered : goal.add_one-requires-clause-gathered
 add_one-requires-clause-gathered c = λ game there. c.loop-at.invariant.rest c.loop-at.at game (omega arith) there
 
+pub add_one-requires-clause-known : goal.add_one-requires-clause-known
+add_one-requires-clause-known c = λ game there. c.loop-at.invariant.known c.loop-at.at game (omega arith) there
+
 pub loop-at-preserved : goal.loop-at-preserved
 loop-at-preserved c =
     let query = c.args.matchers.now.query in
     let games = c.args.item.now.block.now in record {
-      rest = λ g game le there. subst (λ (os : List Occurrence). HasOccurrences query c.args.filter.now c.args.matchers.now.shapes game.tree os) (sym (c.in_ok-add_one.ensures.others g (λ same. absurd (omega (arith, le, same))))) (c.loop-at.invariant.rest g game (omega (arith, le)) there);
+      rest = λ g game le there. subst (λ (bs : List Begun). HasOccurrences query c.args.filter.now c.args.matchers.now.shapes game.tree (occurrences_of bs)) (sym (c.in_ok-add_one.ensures.others g (λ same. absurd (omega (arith, le, same))))) (c.loop-at.invariant.rest g game (omega (arith, le)) there);
+      known = λ g game le there. subst (GoOnIn query game.tree) (sym (c.in_ok-add_one.ensures.others g (λ same. absurd (omega (arith, le, same))))) (c.loop-at.invariant.known g game (omega (arith, le)) there);
       hits = λ covered.
           let (game, at) = some_there games c.loop-at.at (omega (arith, c.loop-at-test.true, c.len-at-end.ensures.value)) in
           let lt = slice_get_within games c.loop-at.at game at in

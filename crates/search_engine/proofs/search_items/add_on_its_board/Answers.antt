@@ -3,7 +3,8 @@ use Rattle.std.specs.Prelude.{Contains}
 use Rattle.game_tree.specs.Tree.{Tree}
 use Rattle.pattern_images.specs.declared.query.Query.{Query}
 use Rattle.pattern_images.specs.Query.{IsForBoard}
-use Rattle.search_engine.specs.Gathering.{AreOccurrencesIn}
+use Rattle.run_matcher.specs.GoingOn.{occurrences_of}
+use Rattle.search_engine.specs.Gathering.{AreOccurrencesIn, GoOnIn}
 use Rattle.search_engine.specs.Hits.{AreHitsIn}
 use Rattle.search_engine.specs.Searching.{AreHitsAdded}
 use Rattle.search_engine.proofs.AddedHits.{OnOk-then}
@@ -16,7 +17,10 @@ returns-in_default c =
     absurd (c.in_default.ensures.none (subst (Contains c.args.matchers.now.shapes) (sym shape) c.requires.there))
 
 pub add_hits_in-requires-clause-occurrences : goal.add_hits_in-requires-clause-occurrences
-add_hits_in-requires-clause-occurrences c = subst (λ (q : Query). AreOccurrencesIn q c.args.game.now.tree c.args.occurrences.now) (sym c.query.ensures) c.requires.occurrences
+add_hits_in-requires-clause-occurrences c = subst (λ (q : Query). AreOccurrencesIn q c.args.game.now.tree (occurrences_of c.args.begun.now)) (sym c.query.ensures) c.requires.occurrences
+
+pub add_hits_in-requires-clause-known : goal.add_hits_in-requires-clause-known
+add_hits_in-requires-clause-known c = subst (λ (q : Query). GoOnIn q c.args.game.now.tree c.args.begun.now) (sym c.query.ensures) c.requires.known
 
 pub returns : goal.returns
 returns c =

@@ -1,5 +1,7 @@
-use Rattle.std.proofs.Common.{◌≡◌, ◌+◌, ◌∙◌, subst, sym}
+use Rattle.std.proofs.Common.{◌≡◌, ◌+◌, ◌∙◌, Contains, List, ap, subst, sym}
 use Rattle.node_position.specs.Games.{Game}
+use Rattle.run_matcher.specs.GoingOn.{occurrences_of}
+use Rattle.run_matcher.specs.declared.begun.Begun.{Begun}
 use Rattle.search_engine.specs.Gathering.{gathered_of}
 use Rattle.search_engine.specs.Hits.{AreGameHits}
 use Rattle.search_engine.specs.Searching.{AreHitsAdded, IsCovered}
@@ -26,7 +28,12 @@ add_on_its_board-requires-clause-occurrences c = λ changes placements of are.
     let gathered = gathered_of c.args.gathered.now c.args.at in
     let has = c.requires.gathered c.get-game.result.now c.get-game.ensures in
     let asked = asked_with_some query c.args._filter.now c.args.matchers.now.shapes tree gathered has c.deltas-changes.result.now c.deltas-changes.ensures c.is_empty.result c.is_empty.ensures c.if-is_empty.false in
-    c.deref.ensures.value ∙ c.in_ok-found.ensures.list changes placements (has_exactly query c.args._filter.now c.args.matchers.now.shapes tree gathered has changes of asked.0 asked.1 placements are)
+    ap occurrences_of c.deref.ensures.value ∙ c.in_ok-found.ensures.list changes placements (has_exactly query c.args._filter.now c.args.matchers.now.shapes tree gathered has changes of asked.0 asked.1 placements are)
+
+pub add_on_its_board-requires-clause-known : goal.add_on_its_board-requires-clause-known
+add_on_its_board-requires-clause-known c = λ changes placements of are b h.
+    c.requires.known c.get-game.result.now c.get-game.ensures changes placements of are b
+    (c.in_ok-found.ensures.from b (subst (λ (bs : List Begun). Contains bs b) c.deref.ensures.value h))
 
 pub returns-clause-hits : goal.returns-clause-hits
 returns-clause-hits c = λ game at covered.

@@ -1,20 +1,35 @@
 -- One placement more.
-use Rattle.std.proofs.Common.{◌≡◌, ◌↔◌, ◌⊎◌, ◌∙◌, List, arith, subst, sym}
+use Rattle.std.proofs.Common.{◌≡◌, ◌↔◌, ◌⊎◌, ◌∙◌, inl, inr, List, arith, subst, sym}
 use Rattle.std.specs.Prelude.{Contains}
 use Rattle.std.proofs.lemmas.Bool.{eqb-true}
 use Rattle.capture_index.specs.Stretches.{BeginsIn}
 use Rattle.capture_index.specs.declared.stretch.Stretch.{Stretch}
-use Rattle.run_matcher.proofs.OccurrencesOfOne.{gathered-more, none-begins}
+use Rattle.run_matcher.specs.Begins.{IsKnownIn}
+use Rattle.run_matcher.specs.GoingOn.{occurrences_of}
+use Rattle.run_matcher.proofs.OccurrencesOfOne.{gathered-more, known-holds, none-begins}
 use Rattle.run_matcher.proofs.gathered.Gathered.add.Goals as goal
 
-pub returns-then-is_empty : goal.returns-then-is_empty
-returns-then-is_empty c =
+pub returns-then-is_empty-clause-occurrences : goal.returns-then-is_empty-clause-occurrences
+returns-then-is_empty-clause-occurrences c =
     let stretches = c.find.new.found.items in
-    gathered-more c.args.runs.now c.args.sought.now stretches c.requires.shape c.requires.sought c.in_ok-find.ensures.apart c.in_ok-find.ensures.nodes c.args.self.now c.args.self.now
-    (none-begins c.args.runs.now stretches c.args.sought.now.number c.args.self.now (omega (arith, eqb-true _ 0 (sym c.is_empty.ensures ∙ c.if-is_empty.true), c.find.new.found.ok.0)))
+    gathered-more c.args.runs.now c.args.sought.now stretches c.requires.shape c.requires.sought c.in_ok-find.ensures.apart c.in_ok-find.ensures.nodes (occurrences_of c.args.self.now) (occurrences_of c.args.self.now)
+    (none-begins c.args.runs.now stretches c.args.sought.now.number (occurrences_of c.args.self.now) (omega (arith, eqb-true _ 0 (sym c.is_empty.ensures ∙ c.if-is_empty.true), c.find.new.found.ok.0)))
 
-pub returns : goal.returns
-returns c =
+pub returns-then-is_empty-clause-known : goal.returns-then-is_empty-clause-known
+returns-then-is_empty-clause-known c = λ deltas are is b h. inl h
+
+pub returns-clause-occurrences : goal.returns-clause-occurrences
+returns-clause-occurrences c =
     let stretches = c.find.new.found.items in
-    gathered-more c.args.runs.now c.args.sought.now stretches c.requires.shape c.requires.sought c.in_ok-find.ensures.apart c.in_ok-find.ensures.nodes c.args.self.now c.add_begins.new.self
-    (λ o. subst (λ (ss : List Stretch). Contains c.add_begins.new.self o ↔ (Contains c.args.self.now o ⊎ ((o.placement ≡ c.args.sought.now.number) × BeginsIn c.args.runs.now ss o.node))) c.deref.ensures.value (c.in_ok-add_begins.ensures o))
+    gathered-more c.args.runs.now c.args.sought.now stretches c.requires.shape c.requires.sought c.in_ok-find.ensures.apart c.in_ok-find.ensures.nodes (occurrences_of c.args.self.now) (occurrences_of c.add_begins.new.self)
+    (λ o. subst (λ (ss : List Stretch). Contains (occurrences_of c.add_begins.new.self) o ↔ (Contains (occurrences_of c.args.self.now) o ⊎ ((o.placement ≡ c.args.sought.now.number) × BeginsIn c.args.runs.now ss o.node))) c.deref.ensures.value (c.in_ok-add_begins.ensures.occurrences o))
+
+pub returns-clause-known : goal.returns-clause-known
+returns-clause-known c = λ deltas are is b h.
+    let stretches = c.find.new.found.items in
+    elim (c.in_ok-add_begins.ensures.known b h) [
+      | inl was ↦ inl was
+      | inr told ↦
+          inr (known-holds c.args.runs.now c.args.sought.now stretches c.requires.shape c.requires.sought c.in_ok-find.ensures.apart c.in_ok-find.ensures.nodes deltas is b
+          (subst (λ (ss : List Stretch). IsKnownIn ss c.args.sought.now.number b) c.deref.ensures.value told))
+    ]

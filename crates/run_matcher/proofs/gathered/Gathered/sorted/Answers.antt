@@ -1,14 +1,21 @@
--- Keys that are sorted, each once.
-use Rattle.std.proofs.Common.{◌↔◌, ◌∙◌, ap, List, sym, subst}
-use Rattle.std.specs.Prelude.{Contains}
-use Rattle.line_matcher.specs.declared.occurrence.Occurrence.{Occurrence}
+-- Keys that are sorted, and of each occurrence the first.
+use Rattle.std.proofs.Common.{◌↔◌, List, sym, subst}
+use Rattle.std.specs.Prelude.{Contains, IsPermutation}
 use Rattle.line_matcher.specs.Occurrences.{occurrences_in}
-use Rattle.run_matcher.specs.Keys.{occurrences_of}
-use Rattle.run_matcher.proofs.KeyLists.{sorted-occurrences}
+use Rattle.run_matcher.specs.GoingOn.{occurrences_of}
+use Rattle.run_matcher.specs.declared.begun.Begun.{Begun}
+use Rattle.run_matcher.proofs.SortedKeys.{from_keys, sorted-occurrences}
 use Rattle.run_matcher.proofs.gathered.Gathered.sorted.Goals as goal
 
-pub returns : goal.returns
-returns c = λ deltas placements same.
-    sorted-occurrences c.self.inside.keys.items c.sort_unstable.new.self.items c.dedup.new.self.items c.sort_unstable.ensures.permutation c.sort_unstable.ensures.sorted c.dedup.ensures.filtered c.in_ok-occurrences.field-0.items
-    (c.in_ok-occurrences.ensures ∙ ap occurrences_of c.deref.ensures.value) deltas placements
-    (λ o. subst (λ (os : List Occurrence). Contains os o ↔ Contains (occurrences_in deltas placements) o) (sym c.self.view_is) (same o))
+pub returns-clause-list : goal.returns-clause-list
+returns-clause-list c = λ deltas placements same.
+    let keys = c.self.inside.keys.items in
+    let moved = subst (IsPermutation keys) (sym c.deref.ensures.value) c.sort_unstable.ensures.permutation in
+    sorted-occurrences keys c.deref.result.now moved c.in_ok-begun_once.field-0.items c.in_ok-begun_once.ensures.from c.in_ok-begun_once.ensures.all c.in_ok-begun_once.ensures.ordered deltas placements
+    (λ o. subst (λ (bs : List Begun). Contains (occurrences_of bs) o ↔ Contains (occurrences_in deltas placements) o) (sym c.self.view_is) (same o))
+
+pub returns-clause-from : goal.returns-clause-from
+returns-clause-from c = λ b h.
+    let keys = c.self.inside.keys.items in
+    let moved = subst (IsPermutation keys) (sym c.deref.ensures.value) c.sort_unstable.ensures.permutation in
+    subst (λ (bs : List Begun). Contains bs b) c.self.view_is (from_keys keys c.deref.result.now moved c.in_ok-begun_once.field-0.items c.in_ok-begun_once.ensures.from b h)

@@ -2,14 +2,19 @@ use Rattle.std.proofs.Common.{◌≡◌, ◌↔◌, ◌⊎◌, ◌∙◌, ℕ, C
 use Rattle.std.proofs.lemmas.Option.{slice_get_within}
 use Rattle.node_position.specs.Games.{Game}
 use Rattle.pattern_images.specs.ImageList.{ImageList}
+use Rattle.run_matcher.specs.GoingOn.{GoesOnToHold, occurrences_of}
 use Rattle.run_matcher.specs.PlacementOccurrences.{IsOccurrenceOf}
-use Rattle.search_engine.specs.Gathering.{gathered_of}
+use Rattle.search_engine.specs.Gathering.{begun_of, gathered_of}
 use Rattle.search_engine.proofs.GamesSearched.{same_game}
 use Rattle.search_engine.proofs.GatheredLists.{of_candidate-all, of_candidate-more, of_candidate-start}
+use Rattle.search_engine.proofs.GoingOn.{more-at, more-none, more-then}
 use Rattle.search_engine.proofs.game_occurrences.GameOccurrences.add.Goals as goal
 
 pub loop-at-init : goal.loop-at-init
-loop-at-init c = of_candidate-start c.args.block.now c.args.matcher.now.images.now.placements c.args.candidate c.args.self.now
+loop-at-init c = record {
+  gathered = of_candidate-start c.args.block.now c.args.matcher.now.images.now.placements c.args.candidate c.args.self.now;
+  known = more-none c.args.block.now c.args.matcher.now.images.now.shape c.args.matcher.now.images.now.placements c.args.self.now;
+}
 
 pub get-requires : goal.get-requires
 get-requires c =
@@ -26,14 +31,26 @@ add_at-requires-clause-shape c =
 
 pub loop-at-preserved : goal.loop-at-preserved
 loop-at-preserved c =
+    let block = c.args.block.now in
+    let images = c.args.matcher.now.images.now in
     let lists = c.loop-at.self in
     let new = c.add_at.new.self in
     let at = c.in-Some.at in
-    of_candidate-more c.args.block.now c.args.matcher.now.images.now.placements c.args.candidate c.args.self.now c.loop-at.from at lists new c.get.result.now c.get.ensures c.in-Some.ensures.some c.loop-at.invariant
-    (λ changes of o. subst (λ (images : ImageList). Contains (gathered_of new at) o ↔ (Contains (gathered_of lists at) o ⊎ IsOccurrenceOf changes images.placements c.args.candidate.placement o)) c.sought-sought.ensures.images
-    (subst (λ (i : ℕ). Contains (gathered_of new at) o ↔ (Contains (gathered_of lists at) o ⊎ IsOccurrenceOf changes c.sought-sought.result.images.now.placements i o)) c.sought-sought.ensures.number (c.in_ok-add_at.ensures.here changes of o)))
-    c.in_ok-add_at.ensures.others
+    let next = c.in-Some.ensures.some in
+    let (game, there, shape) = c.requires.on_boards at next.below next.set in
+    let same : c.get.result.now ≡ game = same_game block at c.get.result.now game c.get.ensures there in record {
+      gathered =
+          of_candidate-more block images.placements c.args.candidate c.args.self.now c.loop-at.from at lists new c.get.result.now c.get.ensures next c.loop-at.invariant.gathered
+          (λ changes of o. subst (λ (i : ImageList). Contains (gathered_of new at) o ↔ (Contains (gathered_of lists at) o ⊎ IsOccurrenceOf changes i.placements c.args.candidate.placement o)) c.sought-sought.ensures.images
+          (subst (λ (i : ℕ). Contains (gathered_of new at) o ↔ (Contains (gathered_of lists at) o ⊎ IsOccurrenceOf changes c.sought-sought.result.images.now.placements i o)) c.sought-sought.ensures.number (c.in_ok-add_at.ensures.here changes of o)))
+          (λ g other. ap occurrences_of (c.in_ok-add_at.ensures.others g other));
+      known =
+          more-then block images.shape images.placements c.args.self.now lists new c.loop-at.invariant.known
+          (more-at block images.shape images.placements at lists new c.get.result.now c.get.ensures (ap (λ (g : Game). g.tree.shape) same ∙ shape)
+          (λ changes of b h. subst (λ (i : ImageList). Contains (begun_of lists at) b ⊎ GoesOnToHold changes i.placements b) c.sought-sought.ensures.images (c.in_ok-add_at.ensures.known changes of b h))
+          c.in_ok-add_at.ensures.others);
+    }
 
-pub returns : goal.returns
-returns c =
-    of_candidate-all c.args.block.now c.args.matcher.now.images.now.placements c.args.candidate c.args.self.now (omega (arith, c.len-count.ensures.value, c.len-count.ensures.most)) c.loop-at.from c.loop-at.self c.in_default.ensures.none c.loop-at.invariant
+pub returns-clause-gathered : goal.returns-clause-gathered
+returns-clause-gathered c =
+    of_candidate-all c.args.block.now c.args.matcher.now.images.now.placements c.args.candidate c.args.self.now (omega (arith, c.len-count.ensures.value, c.len-count.ensures.most)) c.loop-at.from c.loop-at.self c.in_default.ensures.none c.loop-at.invariant.gathered

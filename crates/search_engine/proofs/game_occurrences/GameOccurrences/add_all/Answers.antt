@@ -3,10 +3,14 @@ use Rattle.std.proofs.lemmas.List.Elements.{Contains-get_or}
 use Rattle.search_engine.specs.BlockCandidates.{candidate_at, no_candidate}
 use Rattle.search_engine.specs.Gathering.{AreGathered, IsOfCandidates}
 use Rattle.search_engine.proofs.GatheredLists.{of_candidates-more, of_candidates-start}
+use Rattle.search_engine.proofs.GoingOn.{more-none, more-then}
 use Rattle.search_engine.proofs.game_occurrences.GameOccurrences.add_all.Goals as goal
 
 pub loop-candidate-init : goal.loop-candidate-init
-loop-candidate-init c = of_candidates-start c.args.block.now c.args.matcher.now.images.now.placements c.args.candidates.now c.args.self.now
+loop-candidate-init c = record {
+  gathered = of_candidates-start c.args.block.now c.args.matcher.now.images.now.placements c.args.candidates.now c.args.self.now;
+  known = more-none c.args.block.now c.args.matcher.now.images.now.shape c.args.matcher.now.images.now.placements c.args.self.now;
+}
 
 pub add-requires-clause-in_range : goal.add-requires-clause-in_range
 add-requires-clause-in_range c =
@@ -23,8 +27,11 @@ add-requires-clause-on_boards c =
 pub loop-candidate-preserved : goal.loop-candidate-preserved
 loop-candidate-preserved c =
     let found = c.args.candidates.now in
-    let k = c.loop-candidate.candidate-index in
-    of_candidates-more c.args.block.now c.args.matcher.now.images.now.placements found c.args.self.now (omega (arith, c.len-count.ensures.value, c.len-count.ensures.most)) k (candidate_at found k) c.loop-candidate.self c.add.new.self refl c.loop-candidate.invariant c.in_ok-add.ensures
+    let images = c.args.matcher.now.images.now in
+    let k = c.loop-candidate.candidate-index in record {
+      gathered = of_candidates-more c.args.block.now images.placements found c.args.self.now (omega (arith, c.len-count.ensures.value, c.len-count.ensures.most)) k (candidate_at found k) c.loop-candidate.self c.add.new.self refl c.loop-candidate.invariant.gathered c.in_ok-add.ensures.gathered;
+      known = more-then c.args.block.now images.shape images.placements c.args.self.now c.loop-candidate.self c.add.new.self c.loop-candidate.invariant.known c.in_ok-add.ensures.known;
+    }
 
-pub returns : goal.returns
-returns c = subst (λ k. AreGathered c.args.block.now (IsOfCandidates c.args.matcher.now.images.now.placements c.args.candidates.now k) c.args.self.now c.loop-candidate.self) (omega (arith, c.loop-candidate-test.false, c.loop-candidate.auto.candidate-index-end)) c.loop-candidate.invariant
+pub returns-clause-gathered : goal.returns-clause-gathered
+returns-clause-gathered c = subst (λ k. AreGathered c.args.block.now (IsOfCandidates c.args.matcher.now.images.now.placements c.args.candidates.now k) c.args.self.now c.loop-candidate.self) (omega (arith, c.loop-candidate-test.false, c.loop-candidate.auto.candidate-index-end)) c.loop-candidate.invariant.gathered

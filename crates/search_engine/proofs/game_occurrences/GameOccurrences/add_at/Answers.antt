@@ -1,16 +1,24 @@
 use Rattle.std.proofs.Common.{◌<◌, ◌∙◌, ap, arith, length}
+use Rattle.run_matcher.specs.GoingOn.{GoesOnToHold}
 use Rattle.run_matcher.specs.PlacementOccurrences.{IsOccurrenceOf}
-use Rattle.search_engine.specs.Gathering.{gathered_of}
-use Rattle.search_engine.proofs.GatheredLists.{gains, gathered-set_other}
+use Rattle.search_engine.specs.Gathering.{begun_of}
+use Rattle.search_engine.proofs.GatheredLists.{begun-set_other, gains, gains-only}
 use Rattle.search_engine.proofs.game_occurrences.GameOccurrences.add_at.Goals as goal
 
 pub returns-clause-here : goal.returns-clause-here
 returns-clause-here c = λ changes of.
     let lists = c.self.inside.lists.items in
     let lt : c.args.at < length lists = omega (arith, c.requires.at, c.self.invariant) in
-    gains lists c.args.self.now c.args.at c.index_mut.result.now c.add.new.self (IsOccurrenceOf changes c.args.sought.now.images.now.placements c.args.sought.now.number) c.self.view_is lt c.index_mut.ensures.value
-    (c.in_ok-add.ensures changes of.net (c.runs.ensures changes of))
+    gains lists c.args.self.now c.args.at c.index_mut.result.now c.add.new.self c.self.view_is lt c.index_mut.ensures.value (IsOccurrenceOf changes c.args.sought.now.images.now.placements c.args.sought.now.number)
+    (c.in_ok-add.ensures.occurrences changes of.net (c.runs.ensures changes of))
+
+pub returns-clause-known : goal.returns-clause-known
+returns-clause-known c = λ changes of.
+    let lists = c.self.inside.lists.items in
+    let lt : c.args.at < length lists = omega (arith, c.requires.at, c.self.invariant) in
+    gains-only lists c.args.self.now c.args.at c.index_mut.result.now c.add.new.self c.self.view_is lt c.index_mut.ensures.value (GoesOnToHold changes c.args.sought.now.images.now.placements)
+    (c.in_ok-add.ensures.known changes of.net (c.runs.ensures changes of))
 
 pub returns-clause-others : goal.returns-clause-others
 returns-clause-others c = λ g other.
-    gathered-set_other c.self.inside.lists.items c.args.at c.add.new.self g other ∙ ap (λ ls. gathered_of ls g) c.self.view_is
+    begun-set_other c.self.inside.lists.items c.args.at c.add.new.self g other ∙ ap (λ ls. begun_of ls g) c.self.view_is

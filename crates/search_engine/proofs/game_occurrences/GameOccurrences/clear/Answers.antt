@@ -1,7 +1,8 @@
 use Rattle.std.proofs.Common.{slice_set, arith, length-set, [], inl, inr, ◌∙◌, ap}
 use Rattle.std.proofs.lemmas.Bool.{cases_eq, cases_lt}
 use Rattle.std.proofs.lemmas.List.{get_or-set_other, get_or-set_same, get_or_past}
-use Rattle.search_engine.specs.Gathering.{gathered_of}
+use Rattle.run_matcher.specs.GoingOn.{occurrences_of}
+use Rattle.search_engine.specs.Gathering.{begun_of}
 use Rattle.search_engine.proofs.game_occurrences.GameOccurrences.clear.Goals as goal
 
 pub loop-at-preserved : goal.loop-at-preserved
@@ -10,13 +11,13 @@ loop-at-preserved c =
     let at = c.loop-at.at in record {
       count = omega (arith, c.loop-at.invariant.count, length-set lists at c.clear.new.self);
       none = λ g lt. elim (cases_eq g at) [
-        | inl same ↦ ap (gathered_of (slice_set lists at c.clear.new.self)) same ∙ get_or-set_same lists at c.clear.new.self [] (omega (arith, c.loop-at-test.true, c.loop-at.invariant.count)) ∙ c.clear.ensures
+        | inl same ↦ ap (begun_of (slice_set lists at c.clear.new.self)) same ∙ get_or-set_same lists at c.clear.new.self [] (omega (arith, c.loop-at-test.true, c.loop-at.invariant.count)) ∙ c.clear.ensures
         | inr other ↦ get_or-set_other lists at g c.clear.new.self [] other ∙ c.loop-at.invariant.none g (omega (arith, lt, other))
       ];
     }
 
 pub returns : goal.returns
-returns c = λ g. elim (cases_lt g 64) [
+returns c = λ g. ap occurrences_of (elim (cases_lt g 64) [
   | inl lt ↦ c.loop-at.invariant.none g (omega (arith, lt, c.loop-at-test.false))
   | inr ge ↦ get_or_past c.loop-at.self-inside.lists.items g [] (omega (arith, ge, c.loop-at.invariant.count))
-]
+])
