@@ -5,7 +5,7 @@ use Rattle.std.proofs.lemmas.List.{append-nil, get_or-map, length-map, map-appen
 use Rattle.std.proofs.lemmas.List.Elements.{Contains-append_cases, Contains-append_left, Contains-append_right, Contains-get_or}
 use Rattle.line_matcher.specs.declared.occurrence.Occurrence.{Occurrence}
 use Rattle.run_matcher.specs.GoingOn.{occurrences_of}
-use Rattle.run_matcher.specs.Keys.{begun_list, begun_of, key_of, place_of}
+use Rattle.run_matcher.specs.Keys.{begun_list, begun_of, key_of, occurrence_number}
 use Rattle.run_matcher.specs.declared.begun.Begun.{Begun}
 
 -- ---- members of a list that is mapped
@@ -20,18 +20,18 @@ module _ {X Y : Type 0} (f : X → Y) (default : X) where
 
 -- ---- keys
 
-abbrev pub the_occurrence : ℕ → ℕ → Occurrence
+abbrev the_occurrence : ℕ → ℕ → Occurrence
 the_occurrence node placement = record { node = node; placement = placement }
 
-abbrev pub the_begun : ℕ → ℕ → ℕ → Begun
+abbrev the_begun : ℕ → ℕ → ℕ → Begun
 the_begun node placement known = record { occurrence = the_occurrence node placement; known = known }
 
 same-begun : (n m i j a b : ℕ) → n ≡ m → i ≡ j → a ≡ b → the_begun n i a ≡ the_begun m j b
 same-begun n m i j a b e f g = ap (λ (k : ℕ). the_begun k i a) e ∙ ap (λ (k : ℕ). the_begun m k a) f ∙ ap (the_begun m j) g
 
 module _ (placement known node : ℕ) (small : placement < 65536) (few : known ≤ 65536) where
-  place-of : place_of (key_of placement known node) ≡ node * 65536 + placement
-  place-of = omega arith
+  number-of : occurrence_number (key_of placement known node) ≡ node * 65536 + placement
+  number-of = omega arith
 
   node-of : (node * 65536 + placement) / 65536 ≡ node
   node-of = omega arith
@@ -43,7 +43,7 @@ module _ (placement known node : ℕ) (small : placement < 65536) (few : known �
   known-of = omega arith
 
   begun_of-key : begun_of (key_of placement known node) ≡ the_begun node placement known
-  begun_of-key = same-begun _ _ _ _ _ _ (ap (λ (p : ℕ). p / 65536) place-of ∙ node-of) (ap (λ (p : ℕ). p % 65536) place-of ∙ placement-of) known-of
+  begun_of-key = same-begun _ _ _ _ _ _ (ap (λ (p : ℕ). p / 65536) number-of ∙ node-of) (ap (λ (p : ℕ). p % 65536) number-of ∙ placement-of) known-of
 
 -- ---- the occurrences of what begins
 

@@ -111,7 +111,7 @@ module _ (seen' : NodePositions) (stretches : List Stretch) (i known : ℕ) (nod
     | inl was ↦ inl (subst (λ (bs : List Begun). Contains bs b) shown was)
     | inr (e, node, is) ↦
         let first = (begun b.occurrence.node).0 node in
-        inr (record { same = e; here = first.inside; on = λ k from below. inside b.occurrence.node k first.inside from (omega (arith, below, is)) })
+        inr (record { same = e; on = λ k from below. inside b.occurrence.node k first.inside from (omega (arith, below, is)) })
   ]
 
 -- nothing begins where there is no stretch

@@ -15,12 +15,12 @@ use Rattle.line_matcher.specs.declared.occurrence.Occurrence.{Occurrence}
 use Rattle.line_matcher.specs.Occurrences.{StandsBefore, occurrences_in}
 use Rattle.line_matcher.proofs.OccurrenceLaw.{occurrences-ordered}
 use Rattle.run_matcher.specs.GoingOn.{occurrences_of}
-use Rattle.run_matcher.specs.Keys.{begun_list, begun_of, occurrence_of, place_of}
+use Rattle.run_matcher.specs.Keys.{begun_list, begun_of, occurrence_of, occurrence_number}
 use Rattle.run_matcher.specs.declared.begun.Begun.{Begun}
 use Rattle.run_matcher.proofs.KeyLists.{begun-of, map-member, member-map, of-begun}
 
-place-order : (a b : ℕ) → a < b → StandsBefore (occurrence_of a) (occurrence_of b)
-place-order a b less = elim (cases_lt (a / 65536) (b / 65536)) [
+number-order : (a b : ℕ) → a < b → StandsBefore (occurrence_of a) (occurrence_of b)
+number-order a b less = elim (cases_lt (a / 65536) (b / 65536)) [
   | inl earlier ↦ inl earlier
   | inr from ↦ inr (omega arith, omega arith)
 ]
@@ -34,15 +34,15 @@ one_way x y (inr a) (inr b) = omega (arith, a.1, b.1)
 abbrev key_at : List ℕ → ℕ → ℕ
 key_at keys i = get_or keys i 0
 
--- Of the first so many keys the first one of each occurrence is in the list. Each has a place before
--- the next one, which is behind that of the last key.
+-- The occurrence of each of the first so many keys is in the list, once and in order. Each has a number
+-- before the next one, which is one behind that of the last key.
 pub record AreOnceTo (keys : List ℕ) (i next : ℕ) (found : List Begun) : Type 0 where
   pub from : (b : Begun) → Contains found b → Contains (begun_list keys) b
-  pub all : (j : ℕ) → j < i → Contains (occurrences_of found) (occurrence_of (place_of (key_at keys j)))
+  pub all : (j : ℕ) → j < i → Contains (occurrences_of found) (occurrence_of (occurrence_number (key_at keys j)))
   pub ordered : AllPairs StandsBefore (occurrences_of found)
-  pub below : (b : Begun) → Contains found b → (place : ℕ) × (b.occurrence ≡ occurrence_of place) × (place < next)
+  pub below : (b : Begun) → Contains found b → (number : ℕ) × (b.occurrence ≡ occurrence_of number) × (number < next)
   pub first : i ≡ 0 → next ≡ 0
-  pub last : (j : ℕ) → i ≡ j + 1 → next ≡ place_of (key_at keys j) + 1
+  pub last : (j : ℕ) → i ≡ j + 1 → next ≡ occurrence_number (key_at keys j) + 1
 
 pub AreOnceTo-none : (keys : List ℕ) (found : List Begun) → found ≡ [] → AreOnceTo keys 0 0 found
 AreOnceTo-none keys found none = record {
@@ -58,11 +58,11 @@ module _ (keys : List ℕ) (sorted : IsSorted nat_cmp keys) (i next key : ℕ) (
   key-is : key_at keys i ≡ key
   key-is = get_or_default keys i 0 key lt ∙ sym is
 
-  place-is : place_of (key_at keys i) ≡ place_of key
-  place-is = ap place_of key-is
+  number-is : occurrence_number (key_at keys i) ≡ occurrence_number key
+  number-is = ap occurrence_number key-is
 
   -- one that is there already
-  repeated : place_of key < next → (j : ℕ) → i ≡ j + 1 → place_of key ≡ place_of (key_at keys j)
+  repeated : occurrence_number key < next → (j : ℕ) → i ≡ j + 1 → occurrence_number key ≡ occurrence_number (key_at keys j)
   repeated less j e =
       let rises : key_at keys j ≤ key_at keys (j + 1) = ge_from_not_lt (key_at keys (j + 1)) (key_at keys j) (sorted j 0 (omega arith) (omega (arith, e, lt))) in
       let at_i : key_at keys (j + 1) ≡ key = ap (key_at keys) (sym e) ∙ key-is in
@@ -71,7 +71,7 @@ module _ (keys : List ℕ) (sorted : IsSorted nat_cmp keys) (i next key : ℕ) (
   before : 0 < i → (j : ℕ) × (i ≡ j + 1)
   before some = (i - 1, omega (arith, some))
 
-  pub once-passed : place_of key < next → AreOnceTo keys (i + 1) next found
+  pub once-passed : occurrence_number key < next → AreOnceTo keys (i + 1) next found
   once-passed less =
       let some : 0 < i = elim (cases_eq i 0) [
         | inl none ↦ absurd (omega (arith, less, so_far.first none))
@@ -84,19 +84,19 @@ module _ (keys : List ℕ) (sorted : IsSorted nat_cmp keys) (i next key : ℕ) (
           | inl earlier ↦ so_far.all j earlier
           | inr here ↦
               let j_is : j ≡ i = omega (arith, here, below) in
-              subst (Contains (occurrences_of found)) (ap occurrence_of (sym same ∙ sym place-is ∙ ap (λ (n : ℕ). place_of (key_at keys n)) (sym j_is))) (so_far.all k (omega (arith, e)))
+              subst (Contains (occurrences_of found)) (ap occurrence_of (sym same ∙ sym number-is ∙ ap (λ (n : ℕ). occurrence_number (key_at keys n)) (sym j_is))) (so_far.all k (omega (arith, e)))
         ];
         ordered = so_far.ordered;
         below = so_far.below;
         first = λ none. absurd (omega (arith, none));
         last = λ j f.
             let j_is : i ≡ j = omega (arith, f) in
-            so_far.last k e ∙ ap (λ (p : ℕ). p + 1) (sym same ∙ sym place-is ∙ ap (λ (n : ℕ). place_of (key_at keys n)) j_is);
+            so_far.last k e ∙ ap (λ (p : ℕ). p + 1) (sym same ∙ sym number-is ∙ ap (λ (n : ℕ). occurrence_number (key_at keys n)) j_is);
       }
 
   -- one more
-  module _ (new : List Begun) (pushed : new ≡ found ++ begun_of key ∷ []) (from : next ≤ place_of key) where
-    shown : occurrences_of new ≡ occurrences_of found ++ occurrence_of (place_of key) ∷ []
+  module _ (new : List Begun) (pushed : new ≡ found ++ begun_of key ∷ []) (from : next ≤ occurrence_number key) where
+    shown : occurrences_of new ≡ occurrences_of found ++ occurrence_of (occurrence_number key) ∷ []
     shown = ap occurrences_of pushed ∙ map-append (λ (b : Begun). b.occurrence) found (begun_of key ∷ [])
 
     cases : (P : Begun → Type 0) → ((b : Begun) → Contains found b → P b) → P (begun_of key) → (b : Begun) → Contains new b → P b
@@ -105,28 +105,28 @@ module _ (keys : List ℕ) (sorted : IsSorted nat_cmp keys) (i next key : ℕ) (
       | inr here ↦ subst P here last
     ]
 
-    pub once-more : AreOnceTo keys (i + 1) (place_of key + 1) new
+    pub once-more : AreOnceTo keys (i + 1) (occurrence_number key + 1) new
     once-more = record {
       from = cases (Contains (begun_list keys)) so_far.from (member-map begun_of 0 keys key (i, lt, get_or_default keys i key key lt ∙ sym is));
-      all = λ j below. subst (λ (os : List Occurrence). Contains os (occurrence_of (place_of (key_at keys j)))) (sym shown) (elim (cases_lt j i) [
-        | inl earlier ↦ Contains-append_left (occurrences_of found) (occurrence_of (place_of key) ∷ []) (occurrence_of (place_of (key_at keys j))) (so_far.all j earlier)
+      all = λ j below. subst (λ (os : List Occurrence). Contains os (occurrence_of (occurrence_number (key_at keys j)))) (sym shown) (elim (cases_lt j i) [
+        | inl earlier ↦ Contains-append_left (occurrences_of found) (occurrence_of (occurrence_number key) ∷ []) (occurrence_of (occurrence_number (key_at keys j))) (so_far.all j earlier)
         | inr here ↦
             let j_is : j ≡ i = omega (arith, here, below) in
-            subst (Contains (occurrences_of found ++ occurrence_of (place_of key) ∷ [])) (ap occurrence_of (sym place-is ∙ ap (λ (n : ℕ). place_of (key_at keys n)) (sym j_is))) (Contains-push (occurrences_of found) (occurrence_of (place_of key)))
+            subst (Contains (occurrences_of found ++ occurrence_of (occurrence_number key) ∷ [])) (ap occurrence_of (sym number-is ∙ ap (λ (n : ℕ). occurrence_number (key_at keys n)) (sym j_is))) (Contains-push (occurrences_of found) (occurrence_of (occurrence_number key)))
       ]);
       ordered = subst (AllPairs StandsBefore) (sym shown)
-          (all_pairs_push StandsBefore (occurrences_of found) (occurrence_of (place_of key)) so_far.ordered
+          (all_pairs_push StandsBefore (occurrences_of found) (occurrence_of (occurrence_number key)) so_far.ordered
           (λ k d inside.
           let (b, there, b_is) = begun-of found (get_or (occurrences_of found) k d) (Contains-get_or (occurrences_of found) k d inside) in
-          let (place, o_is, less) = so_far.below b there in
-          subst (λ (o : Occurrence). StandsBefore o (occurrence_of (place_of key))) (sym o_is ∙ b_is) (place-order place (place_of key) (omega (arith, less, from)))));
-      below = cases (λ (b : Begun). (place : ℕ) × (b.occurrence ≡ occurrence_of place) × (place < place_of key + 1))
-          (λ b there. let (place, o_is, less) = so_far.below b there in (place, o_is, omega (arith, less, from)))
-          (place_of key, refl, omega arith);
+          let (number, o_is, less) = so_far.below b there in
+          subst (λ (o : Occurrence). StandsBefore o (occurrence_of (occurrence_number key))) (sym o_is ∙ b_is) (number-order number (occurrence_number key) (omega (arith, less, from)))));
+      below = cases (λ (b : Begun). (number : ℕ) × (b.occurrence ≡ occurrence_of number) × (number < occurrence_number key + 1))
+          (λ b there. let (number, o_is, less) = so_far.below b there in (number, o_is, omega (arith, less, from)))
+          (occurrence_number key, refl, omega arith);
       first = λ none. absurd (omega (arith, none));
       last = λ j f.
           let j_is : i ≡ j = omega (arith, f) in
-          ap (λ (p : ℕ). p + 1) (sym place-is ∙ ap (λ (n : ℕ). place_of (key_at keys n)) j_is);
+          ap (λ (p : ℕ). p + 1) (sym number-is ∙ ap (λ (n : ℕ). occurrence_number (key_at keys n)) j_is);
     }
 
 -- all keys
@@ -134,7 +134,7 @@ pub once-all : (keys : List ℕ) (i next : ℕ) (found : List Begun) → length 
 once-all keys i next found whole so_far b h =
     let (key, (j, lt, at), is) = map-member begun_of 0 keys b h in
     let read : key_at keys j ≡ key = get_or_default keys j 0 key lt ∙ at in
-    subst (Contains (occurrences_of found)) (ap (λ (n : ℕ). occurrence_of (place_of n)) read ∙ ap (λ (c : Begun). c.occurrence) is) (so_far.all j (omega (arith, lt, whole)))
+    subst (Contains (occurrences_of found)) (ap (λ (n : ℕ). occurrence_of (occurrence_number n)) read ∙ ap (λ (c : Begun). c.occurrence) is) (so_far.all j (omega (arith, lt, whole)))
 
 -- ---- what was gathered, in order
 

@@ -1,4 +1,5 @@
--- The nodes at which wanted cells begin to stand: words for the private functions.
+-- The nodes at which wanted cells begin to stand, and how far a placement is known to hold in
+-- stretches: words for the private functions.
 use Rattle.std.specs.Prelude.{◌≡◌, ℕ, ◌<◌, ◌≤◌, IfSome, List}
 use Rattle.capture_index.specs.declared.stretch.Stretch.{Stretch}
 use Rattle.capture_index.specs.declared.stretch.Want.{Want}
@@ -12,9 +13,7 @@ pub record BeginAt (seen : NodePositions) (base : ℕ) (wants : List Want) (n : 
   pub here : AreWantedAt seen base wants n
   pub before : IfSome (parent_in seen n) (λ m. ¬ AreWantedAt seen base wants m)
 
--- the placement begins to hold at a node in the stretches, and as far as is known its nodes are in
--- them
+-- it is of the placement, and each node from its node on, as far as is known, is in the stretches
 pub record IsKnownIn (stretches : List Stretch) (placement : ℕ) (b : Begun) : Type 0 where
   pub same : b.occurrence.placement ≡ placement
-  pub here : IsIn stretches b.occurrence.node
   pub on : (k : ℕ) → b.occurrence.node ≤ k → k < b.known → IsIn stretches k

@@ -6,7 +6,8 @@ use line_matcher::Occurrence;
 pub struct Begun {
     /// The node and the number of the placement.
     pub occurrence: Occurrence,
-    /// A number of a node: the placement holds at each node from the one of the occurrence on up to
-    /// before this one, in order of the text. It need not be behind that node; then it tells nothing.
+    /// The number of a node, or the number of nodes: the placement holds at each node from the
+    /// occurrence's on up to before it, in order of the text. Where it isn't behind the occurrence's
+    /// node, it tells nothing.
     pub known: u32,
 }

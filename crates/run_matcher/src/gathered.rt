@@ -38,7 +38,7 @@ use std::marker::Model;
 /// placement is known to go on to hold. It may serve for many games one after another, which spares
 /// making its lists anew.
 ///
-/// Contracts see a list: which are in it counts, and not in what order they are, nor how often.
+/// Contracts see a list: what is in it counts, and not in what order, nor how often.
 #[derive(Debug, Drop)]
 pub struct Gathered {
     // A number for each.
@@ -79,10 +79,10 @@ impl Gathered {
         self.keys.is_empty()
     }
 
-    /// Adds the occurrences of a placement: the nodes at which it begins to hold. Where it holds in
-    /// one stretch of nodes, they are known to go on to the end of that. The runs are those of a game
-    /// on a board of the images' shape. What is in the buffers doesn't count. The only error is
-    /// `NoMemory`.
+    /// Adds the occurrences of a placement: the nodes at which it begins to hold. Where
+    /// `RunIndex::find` tells one stretch of nodes, the placement is known to hold to its end; where it
+    /// tells several, nothing is known. The runs are those of a game on a board of the images' shape.
+    /// What is in the buffers doesn't count. The only error is `NoMemory`.
     pub fn add(
         &mut self,
         runs: &RunIndex,
@@ -151,8 +151,8 @@ impl Gathered {
     }
 }
 
-// The node up to before which all nodes behind one in the stretches are in them too, where there is
-// one stretch. Where there are more, none is told.
+// The end of the stretch, where there is one alone: each node from one of its nodes on up to before
+// the end is in it. Else 0, which tells nothing.
 fn known_end(stretches: &[Stretch]) -> u32
     requires { All (λ (s : Stretch). s.to ≤ 65536) stretches.now }
     ensures few { result ≤ 65536 }

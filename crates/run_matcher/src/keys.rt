@@ -33,7 +33,7 @@ const ROOM: u64 = 65_536;
 // Numbers of nodes up to before which placements hold are below this.
 const KNOWN_ROOM: u64 = 131_072;
 
-// Adds the keys of a placement that begins to hold at these nodes.
+// Adds the keys of a placement that begins to hold at these nodes, and is known to go on to hold.
 pub(crate) fn push_keys(
     nodes: &[u32],
     placement: u32,
@@ -52,7 +52,7 @@ pub(crate) fn push_keys(
     Ok(())
 }
 
-// The key of a placement at a node.
+// The key of a placement that begins to hold at a node.
 fn key(node: u32, placement: u32, known: u32) -> u64
     requires node { node < 65536 }
     requires placement { placement < 65536 }
@@ -72,13 +72,13 @@ pub(crate) fn begun_once(alloc: Global, keys: &[u64]) -> Result<Vec<Begun>, NoMe
     ensures ordered { IfOk result (λ found. AllPairs StandsBefore (occurrences_of found.items)) }
 {
     let mut found = Vec::with_capacity(alloc, keys.len())?;
-    // The place of the key before, and 1 more.
+    // One behind the number of the occurrence before.
     let mut next = 0;
     for key in keys {
-        let place = *key / KNOWN_ROOM;
-        if place >= next {
+        let number = *key / KNOWN_ROOM;
+        if number >= next {
             found.push(begun(*key))?;
-            next = place + 1;
+            next = number + 1;
         }
     }
     Ok(found)
@@ -88,11 +88,11 @@ pub(crate) fn begun_once(alloc: Global, keys: &[u64]) -> Result<Vec<Begun>, NoMe
 fn begun(key: u64) -> Begun
     ensures { result ≡ begun_of key }
 {
-    let place = key / KNOWN_ROOM;
+    let number = key / KNOWN_ROOM;
     Begun {
         occurrence: Occurrence {
-            node: (place / ROOM) as u32,
-            placement: (place % ROOM) as u32,
+            node: (number / ROOM) as u32,
+            placement: (number % ROOM) as u32,
         },
         known: (key % KNOWN_ROOM) as u32,
     }

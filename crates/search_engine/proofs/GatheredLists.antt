@@ -15,27 +15,27 @@ use Rattle.run_matcher.specs.GoingOn.{occurrences_of}
 use Rattle.run_matcher.specs.PlacementOccurrences.{IsOccurrenceOf}
 use Rattle.run_matcher.specs.declared.begun.Begun.{Begun}
 use Rattle.search_engine.specs.BlockCandidates.{IsNextBit, candidate_at}
-use Rattle.search_engine.specs.Gathering.{AreGathered, IsOfCandidate, IsOfCandidates, begun_of, gathered_of}
+use Rattle.search_engine.specs.Gathering.{AreGathered, IsOfCandidate, IsOfCandidates, begun_at, gathered_of}
 use Rattle.search_engine.proofs.GamesSearched.{same_game}
 
 -- ---- one list changes
 
 module _ (lists : List (List Begun)) (at : ℕ) (one : List Begun) where
-  pub begun-set_same : at < length lists → begun_of (slice_set lists at one) at ≡ one
+  pub begun-set_same : at < length lists → begun_at (slice_set lists at one) at ≡ one
   begun-set_same lt = get_or-set_same lists at one [] lt
 
-  pub begun-set_other : (g : ℕ) → g ≢ at → begun_of (slice_set lists at one) g ≡ begun_of lists g
+  pub begun-set_other : (g : ℕ) → g ≢ at → begun_at (slice_set lists at one) g ≡ begun_at lists g
   begun-set_other g other = get_or-set_other lists at g one [] other
 
-  pub begun-read : at < length lists → one ≡ get_or lists at one → one ≡ begun_of lists at
+  pub begun-read : at < length lists → one ≡ get_or lists at one → one ≡ begun_at lists at
   begun-read lt is = is ∙ get_or_default lists at one [] lt
 
 module _ (lists seen : List (List Begun)) (at : ℕ) (old new : List Begun) (shown : lists ≡ seen) (lt : at < length lists) (is : old ≡ get_or lists at old) where
-  here : begun_of (slice_set lists at new) at ≡ new
+  here : begun_at (slice_set lists at new) at ≡ new
   here = begun-set_same lists at new lt
 
-  before : old ≡ begun_of seen at
-  before = begun-read lists at old lt is ∙ ap (λ (ls : List (List Begun)). begun_of ls at) shown
+  before : old ≡ begun_at seen at
+  before = begun-read lists at old lt is ∙ ap (λ (ls : List (List Begun)). begun_at ls at) shown
 
   -- the list of one game gains the occurrences that its new list has more
   pub gains : (more : Occurrence → Type 0) → ((o : Occurrence) → Contains (occurrences_of new) o ↔ (Contains (occurrences_of old) o ⊎ more o))
@@ -44,14 +44,14 @@ module _ (lists seen : List (List Begun)) (at : ℕ) (old new : List Begun) (sho
       subst (λ (bs : List Begun). Contains (occurrences_of bs) o ↔ (Contains (gathered_of seen at) o ⊎ more o)) (sym here)
       (subst (λ (bs : List Begun). Contains (occurrences_of new) o ↔ (Contains (occurrences_of bs) o ⊎ more o)) before (added o))
 
-  -- and of what it gains is true what is true of that
-  pub gains-only : (more : Begun → Type 0) → ((b : Begun) → Contains new b → Contains old b ⊎ more b) → (b : Begun) → Contains (begun_of (slice_set lists at new) at) b → Contains (begun_of seen at) b ⊎ more b
+  -- each that it gains is one of these
+  pub gains-only : (more : Begun → Type 0) → ((b : Begun) → Contains new b → Contains old b ⊎ more b) → (b : Begun) → Contains (begun_at (slice_set lists at new) at) b → Contains (begun_at seen at) b ⊎ more b
   gains-only more added b h = elim (added b (subst (λ (bs : List Begun). Contains bs b) here h)) [
     | inl was ↦ inl (subst (λ (bs : List Begun). Contains bs b) before was)
     | inr told ↦ inr told
   ]
 
--- a list without an occurrence has none that begins
+-- a list without an occurrence is empty
 pub none-begun : (begun : List Begun) → occurrences_of begun ≡ [] → begun ≡ []
 none-begun [] none = refl
 none-begun (b ∷ begun) none = absurd (omega (arith, ap length none))

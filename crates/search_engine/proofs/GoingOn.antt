@@ -10,13 +10,13 @@ use Rattle.pattern_images.specs.Placements.{ArePlacements, Placement}
 use Rattle.pattern_images.proofs.OneList.{one_list}
 use Rattle.run_matcher.specs.GoingOn.{GoesOnToHold}
 use Rattle.run_matcher.specs.declared.begun.Begun.{Begun}
-use Rattle.search_engine.specs.Gathering.{AllGoOn, MoreGoOn, begun_of, gathered_of}
+use Rattle.search_engine.specs.Gathering.{AllGoOn, MoreGoOn, begun_at, gathered_of}
 use Rattle.search_engine.proofs.GamesSearched.{same_game}
 use Rattle.search_engine.proofs.GatheredLists.{none-begun}
 
 -- where nothing is gathered
 pub all-none : (query : Query) (games : List Game) (lists : List (List Begun)) → ((g : ℕ) → gathered_of lists g ≡ []) → AllGoOn query games lists
-all-none query games lists none g game there changes placements of are b h = absurd (omega (arith, h.1, ap length (none-begun (begun_of lists g) (none g))))
+all-none query games lists none g game there changes placements of are b h = absurd (omega (arith, h.1, ap length (none-begun (begun_at lists g) (none g))))
 
 module _ (games : List Game) (shape : Shape) (placements : List Placement) where
   pub more-none : (lists : List (List Begun)) → MoreGoOn games shape placements lists lists
@@ -31,14 +31,14 @@ module _ (games : List Game) (shape : Shape) (placements : List Placement) where
 
   -- the list of one game
   pub more-at : (at : ℕ) (lists new : List (List Begun)) (game : Game) → slice_get games at ≡ Some game → game.tree.shape ≡ shape
-      → ((changes : Deltas) → AreNodeChanges game.tree changes → (b : Begun) → Contains (begun_of new at) b → Contains (begun_of lists at) b ⊎ GoesOnToHold changes placements b)
-      → ((g : ℕ) → g ≢ at → begun_of new g ≡ begun_of lists g) → MoreGoOn games shape placements lists new
+      → ((changes : Deltas) → AreNodeChanges game.tree changes → (b : Begun) → Contains (begun_at new at) b → Contains (begun_at lists at) b ⊎ GoesOnToHold changes placements b)
+      → ((g : ℕ) → g ≢ at → begun_at new g ≡ begun_at lists g) → MoreGoOn games shape placements lists new
   more-at at lists new game place on here others g other there changes of b h = elim (cases_eq g at) [
     | inl same ↦
         let read : slice_get games at ≡ Some other = subst (λ (n : ℕ). slice_get games n ≡ Some other) same there in
         let is : game ≡ other = same_game games at game other place read in
-        elim (here changes (subst (λ (k : Game). AreNodeChanges k.tree changes) (sym is) of) b (subst (λ (n : ℕ). Contains (begun_of new n) b) same h)) [
-          | inl was ↦ inl (subst (λ (n : ℕ). Contains (begun_of lists n) b) (sym same) was)
+        elim (here changes (subst (λ (k : Game). AreNodeChanges k.tree changes) (sym is) of) b (subst (λ (n : ℕ). Contains (begun_at new n) b) same h)) [
+          | inl was ↦ inl (subst (λ (n : ℕ). Contains (begun_at lists n) b) (sym same) was)
           | inr goes ↦ inr (subst (λ (k : Game). k.tree.shape ≡ shape) is on, goes)
         ]
     | inr ne ↦ inl (subst (λ (bs : List Begun). Contains bs b) (others g ne) h)

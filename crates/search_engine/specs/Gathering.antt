@@ -49,12 +49,12 @@ GoOnIn query tree begun = (changes : Deltas) (placements : List Placement) →
 -- ---- the lists of a block's games
 
 -- the list of the game at a place
-abbrev pub begun_of : List (List Begun) → ℕ → List Begun
-begun_of lists g = slice_index_or lists g []
+abbrev pub begun_at : List (List Begun) → ℕ → List Begun
+begun_at lists g = slice_index_or lists g []
 
 -- the occurrences in it
 abbrev pub gathered_of : List (List Begun) → ℕ → List Occurrence
-gathered_of lists g = occurrences_of (begun_of lists g)
+gathered_of lists g = occurrences_of (begun_at lists g)
 
 -- the list of each game has exactly its occurrences, if the filter accepts it and its board's shape
 -- is among these, and none else
@@ -102,12 +102,12 @@ abbrev pub IsOnPlanes : Query → List Shape → ℕ → List PlaneGames → ℕ
 IsOnPlanes query shapes asked planes k g tree changes o = (j : ℕ) × (p : PlaneGames) × (j < k)
     × (slice_index_or planes j p ≡ p) × IsOnShape query shapes asked p.shape g tree changes o
 
--- ---- how far they go on to hold
+-- ---- how far what is gathered goes on to hold
 
 -- what the list of each game has goes on to hold there, as far as is known
 abbrev pub AllGoOn : Query → List Game → List (List Begun) → Type 0
 AllGoOn query games lists = (g : ℕ) (game : Game) → slice_get games g ≡ Some game →
-    GoOnIn query game.tree (begun_of lists g)
+    GoOnIn query game.tree (begun_at lists g)
 
 -- what the list of a game gains is of a game on a board of the shape, and goes on to hold there, as
 -- far as is known
@@ -115,5 +115,5 @@ abbrev pub MoreGoOn : List Game → Shape → List Placement → List (List Begu
     Type 0
 MoreGoOn games shape placements old new = (g : ℕ) (game : Game) → slice_get games g ≡ Some game →
     (changes : Deltas) → AreNodeChanges game.tree changes → (b : Begun) →
-    Contains (begun_of new g) b → Contains (begun_of old g) b
+    Contains (begun_at new g) b → Contains (begun_at old g) b
     ⊎ ((game.tree.shape ≡ shape) × GoesOnToHold changes placements b)

@@ -83,8 +83,8 @@ fn looks_at(query: &Query, tree: &GameTree, node: u32) -> bool
     query.from_move <= moves && moves <= query.to_move
 }
 
-// The hit of what occurs in the game with this number and these changes. It is known how far the
-// placement goes on to hold, and the changes of the nodes before that needn't be asked.
+// The hit of what occurs in the game with this number and these changes. `known_to` tells how far the
+// placement goes on to hold, so the changes of the nodes before that needn't be asked.
 fn hit_of(
     number: u32,
     game: &FinishedGame,
@@ -116,8 +116,8 @@ fn hit_of(
     }
 }
 
-// A number of a node up to before which the placement goes on to hold. Where it holds in several
-// stretches none is known with it, and the runs tell.
+// The number of a node, or the number of nodes: up to before it the placement goes on to hold. Where
+// nothing is known with the occurrence, the runs tell.
 fn known_to(game: &FinishedGame, deltas: &NodeDeltas, matcher: &RunMatcher, begun: Begun) -> u32
     requires changes { AreNodeChanges game.now.tree deltas.now }
     requires shape { matcher.now.images.now.shape ≡ game.now.tree.shape }

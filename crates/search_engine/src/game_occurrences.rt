@@ -30,7 +30,7 @@ ghost use Rattle.search_engine.specs.Gathering.{
   IsOfCandidate,
   IsOfCandidates,
   MoreGoOn,
-  begun_of,
+  begun_at,
   gathered_of,
 };
 
@@ -149,10 +149,10 @@ impl GameOccurrences {
             ↔ (Contains (gathered_of self.old at) o ⊎ IsOccurrenceOf changes
             sought.now.images.now.placements sought.now.number o)) }
         ensures known { OnOk result ((changes : Deltas) → AreNodeChanges game.now.tree changes →
-            (b : Begun) → Contains (begun_of self.new at) b → Contains (begun_of self.old at) b
+            (b : Begun) → Contains (begun_at self.new at) b → Contains (begun_at self.old at) b
             ⊎ GoesOnToHold changes sought.now.images.now.placements b) }
         ensures others { OnOk result ((g : ℕ) → g ≢ at →
-            begun_of self.new g ≡ begun_of self.old g) }
+            begun_at self.new g ≡ begun_at self.old g) }
     {
         let _changes = game.deltas();
         self.lists[at].add(game.runs(), sought, buffers)?;
@@ -176,9 +176,9 @@ impl GameOccurrences {
             ↔ Contains (occurrences_in changes placements) o) →
             occurrences_of found.items ≡ occurrences_in changes placements) }
         ensures from { IfOk result (λ found. (b : Begun) → Contains found.items b →
-            Contains (begun_of self.old at) b) }
+            Contains (begun_at self.old at) b) }
         ensures others { OnOk result ((g : ℕ) → g ≢ at →
-            begun_of self.new g ≡ begun_of self.old g) }
+            begun_at self.new g ≡ begun_at self.old g) }
     {
         Ok(self.lists[at].sorted(alloc)?)
     }

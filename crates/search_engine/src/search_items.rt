@@ -11,7 +11,7 @@ ghost use Rattle.search_engine.specs.Gathering.{
   GoOnIn,
   HasOccurrences,
   HaveOccurrences,
-  begun_of,
+  begun_at,
   gathered_of,
 };
 ghost use Rattle.search_engine.specs.Hits.{AreGameHits, AreHitsFrom};
@@ -137,14 +137,14 @@ fn add_one(
         HasOccurrences matchers.now.query _filter.now matchers.now.shapes game.tree
         (gathered_of gathered.old at) }
     requires known { (game : Game) → slice_get item.now.block.now at ≡ Some game →
-        GoOnIn matchers.now.query game.tree (begun_of gathered.old at) }
+        GoOnIn matchers.now.query game.tree (begun_at gathered.old at) }
     ensures hits { OnOk result ((game : Game) → slice_get item.now.block.now at ≡ Some game →
         IsCovered matchers.now.query matchers.now.shapes game.tree.shape →
         AreHitsAdded
         (AreGameHits matchers.now.query _filter.now (item.now.first + at) game.tree)
         hits.old.items hits.new.items) }
     ensures others { OnOk result ((g : ℕ) → g ≢ at →
-        begun_of gathered.new g ≡ begun_of gathered.old g) }
+        begun_at gathered.new g ≡ begun_at gathered.old g) }
 {
     let _count = item.block.len();
     let game = item.block.get(at);

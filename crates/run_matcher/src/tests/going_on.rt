@@ -1,5 +1,5 @@
-// How far placements go on to hold in small games, worked out by hand: by the runs from a node on, and
-// as it is known with an occurrence.
+// How far placements go on to hold in small games, worked out by hand: by the runs from a node on,
+// and as it is known with an occurrence.
 ghost use Rattle.std.specs.Prelude.{◌≡◌, ◌<◌};
 
 use super::games::{Row, game_of};
@@ -122,9 +122,9 @@ fn placements_hold_until_a_wanted_point_changes(rt: HostRuntime) -> Result<(), F
     Ok(())
 }
 
-// A game, a pattern and the point at which it is looked for, and for each node at which it begins to
-// hold there the node and the one up to before which it is known to go on. Where it holds in several
-// stretches of nodes that is 0.
+// A game, a pattern and the point at which it is looked for, and for each node at which it begins
+// to hold there the node and what is known: the node up to before which it goes on. Where it holds
+// in several stretches of nodes that is 0.
 type Known = (
     &'static [Row],
     (u8, u8, &'static str),
@@ -145,7 +145,8 @@ const KNOWN: [Known; 8] = [
     (VARIATIONS, BLACK, (0, 1), ""),
 ];
 
-// What occurs of the only placement of a search, in a game on a board of 3 by 3.
+// The nodes of the occurrences of the only placement of a search, in a game on a board of 3 by 3,
+// each with what is known.
 fn known_counted<L: Ledger>(
     rt: &impl Abort,
     alloc: Global,
@@ -161,12 +162,22 @@ fn known_counted<L: Ledger>(
     let mut steps = Steps::<L>::new(blank);
     let deltas = game_of(rt, alloc, shape, rows, &mut steps)?;
     let query = query_of(rt, alloc, asked)?;
-    assert_eq!(rt; deltas.shape(), shape);
-    let images = images(alloc, &query, shape)?;
-    known_in(rt, alloc, &deltas, &images)
+    known_in(rt, alloc, &deltas, shape, &query)
 }
 
 fn known_in(
+    rt: &impl Abort,
+    alloc: Global,
+    deltas: &NodeDeltas,
+    shape: Shape,
+    query: &Query,
+) -> Result<String, Fail> {
+    assert_eq!(rt; deltas.shape(), shape);
+    let images = images(alloc, query, shape)?;
+    known_by_runs(rt, alloc, deltas, &images)
+}
+
+fn known_by_runs(
     rt: &impl Abort,
     alloc: Global,
     deltas: &NodeDeltas,

@@ -4,7 +4,7 @@ use Rattle.node_position.specs.Games.{Game}
 use Rattle.pattern_images.specs.ImageList.{ImageList}
 use Rattle.run_matcher.specs.GoingOn.{GoesOnToHold, occurrences_of}
 use Rattle.run_matcher.specs.PlacementOccurrences.{IsOccurrenceOf}
-use Rattle.search_engine.specs.Gathering.{begun_of, gathered_of}
+use Rattle.search_engine.specs.Gathering.{begun_at, gathered_of}
 use Rattle.search_engine.proofs.GamesSearched.{same_game}
 use Rattle.search_engine.proofs.GatheredLists.{of_candidate-all, of_candidate-more, of_candidate-start}
 use Rattle.search_engine.proofs.GoingOn.{more-at, more-none, more-then}
@@ -47,7 +47,7 @@ loop-at-preserved c =
       known =
           more-then block images.shape images.placements c.args.self.now lists new c.loop-at.invariant.known
           (more-at block images.shape images.placements at lists new c.get.result.now c.get.ensures (ap (λ (g : Game). g.tree.shape) same ∙ shape)
-          (λ changes of b h. subst (λ (i : ImageList). Contains (begun_of lists at) b ⊎ GoesOnToHold changes i.placements b) c.sought-sought.ensures.images (c.in_ok-add_at.ensures.known changes of b h))
+          (λ changes of b h. subst (λ (i : ImageList). Contains (begun_at lists at) b ⊎ GoesOnToHold changes i.placements b) c.sought-sought.ensures.images (c.in_ok-add_at.ensures.known changes of b h))
           c.in_ok-add_at.ensures.others);
     }
 

@@ -1,7 +1,7 @@
 use Rattle.std.proofs.Common.{◌<◌, ◌∙◌, ap, arith, length}
 use Rattle.run_matcher.specs.GoingOn.{GoesOnToHold}
 use Rattle.run_matcher.specs.PlacementOccurrences.{IsOccurrenceOf}
-use Rattle.search_engine.specs.Gathering.{begun_of}
+use Rattle.search_engine.specs.Gathering.{begun_at}
 use Rattle.search_engine.proofs.GatheredLists.{begun-set_other, gains, gains-only}
 use Rattle.search_engine.proofs.game_occurrences.GameOccurrences.add_at.Goals as goal
 
@@ -21,4 +21,4 @@ returns-clause-known c = λ changes of.
 
 pub returns-clause-others : goal.returns-clause-others
 returns-clause-others c = λ g other.
-    begun-set_other c.self.inside.lists.items c.args.at c.add.new.self g other ∙ ap (λ ls. begun_of ls g) c.self.view_is
+    begun-set_other c.self.inside.lists.items c.args.at c.add.new.self g other ∙ ap (λ ls. begun_at ls g) c.self.view_is

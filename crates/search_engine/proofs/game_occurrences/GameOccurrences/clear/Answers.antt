@@ -2,7 +2,7 @@ use Rattle.std.proofs.Common.{slice_set, arith, length-set, [], inl, inr, ◌∙
 use Rattle.std.proofs.lemmas.Bool.{cases_eq, cases_lt}
 use Rattle.std.proofs.lemmas.List.{get_or-set_other, get_or-set_same, get_or_past}
 use Rattle.run_matcher.specs.GoingOn.{occurrences_of}
-use Rattle.search_engine.specs.Gathering.{begun_of}
+use Rattle.search_engine.specs.Gathering.{begun_at}
 use Rattle.search_engine.proofs.game_occurrences.GameOccurrences.clear.Goals as goal
 
 pub loop-at-preserved : goal.loop-at-preserved
@@ -11,7 +11,7 @@ loop-at-preserved c =
     let at = c.loop-at.at in record {
       count = omega (arith, c.loop-at.invariant.count, length-set lists at c.clear.new.self);
       none = λ g lt. elim (cases_eq g at) [
-        | inl same ↦ ap (begun_of (slice_set lists at c.clear.new.self)) same ∙ get_or-set_same lists at c.clear.new.self [] (omega (arith, c.loop-at-test.true, c.loop-at.invariant.count)) ∙ c.clear.ensures
+        | inl same ↦ ap (begun_at (slice_set lists at c.clear.new.self)) same ∙ get_or-set_same lists at c.clear.new.self [] (omega (arith, c.loop-at-test.true, c.loop-at.invariant.count)) ∙ c.clear.ensures
         | inr other ↦ get_or-set_other lists at g c.clear.new.self [] other ∙ c.loop-at.invariant.none g (omega (arith, lt, other))
       ];
     }
