@@ -49,8 +49,7 @@ impl ShapeList {
     pub(crate) fn new(alloc: Global) -> Result<ShapeList, NoMemory>
         ensures { IfOk result (λ shapes. shapes ≡ []) }
     {
-        // Copied from an array of zeros, which takes fewer instructions than pushing 2,704 of them.
-        let places = Vec::from_slice(alloc, &[0; SHAPES])?;
+        let places = vec![in alloc; 0; SHAPES]?;
         Ok(ShapeList {
             shapes: Vec::new(alloc),
             places,
