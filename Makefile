@@ -3,19 +3,18 @@
 PROGRAM := build/gobase
 SCRIPT := scripts/joseki.script
 
-# What the trial run looks at, since it is slow: three files, and one search.
-TRIAL := import games\nwait\nsearch main *OX*/OX.X/*OX*\n
-TRIAL_GAMES := games/capture-5x5.sgf games/club-evening-9x9.sgf games/fight-9x9.sgf
+# The folder that the script imports, file by file, for the trial run.
+GAMES := $(wildcard games/*.sgf)
 
 .PHONY: run build test
 
-# Answers a script over the sample games by the native program where it is there, else a short script over
-# some of them by a run without a proof, which works on copies of the games.
+# Answers the script over the sample games, by the native program where it is there, else by a run without
+# a proof, which works on copies of the games and tells on standard error how it ended.
 run:
 	@if [ -x $(PROGRAM) ]; then \
 	    $(PROGRAM) < $(SCRIPT); \
 	else \
-	    printf '$(TRIAL)' | (cd crates/gobase && rt try $(foreach game,$(TRIAL_GAMES),--data $(game)=../../$(game))); \
+	    (cd crates/gobase && rt try $(foreach game,$(GAMES),--data $(game)=../../$(game))) < $(SCRIPT); \
 	fi
 
 # Proves what isn't proved yet, and leaves the native program.
