@@ -1,4 +1,5 @@
-# The three commands of the README. They want the toolchain's command `rt`, and bash.
+# The three commands of the README, and `edits`, which edits/README.md describes. They want the
+# toolchain's command `rt`, and bash.
 
 PROGRAM := build/gobase
 SCRIPT := scripts/joseki.script
@@ -7,7 +8,7 @@ SCRIPT := scripts/joseki.script
 TRIAL := import games\nwait\nsearch main *OX*/OX.X/*OX*\n
 TRIAL_GAMES := games/capture-5x5.sgf games/club-evening-9x9.sgf games/fight-9x9.sgf
 
-.PHONY: run build test
+.PHONY: run build test edits
 
 # Answers a script over the sample games by the native program where it is there, else a short script over
 # some of them by a run without a proof, which works on copies of the games.
@@ -27,3 +28,7 @@ build:
 # The gate: every proof, every test, every edit that must be refused, and the stored run of the program.
 test:
 	@bash .ci/run
+
+# The edits that the gate leaves out: of all crates, or of those that CRATES names.
+edits:
+	@bash tools/try_edits.sh $(CRATES)
