@@ -1,4 +1,5 @@
-# The three commands of the README. They want the toolchain's command `rt`, and bash.
+# The three commands of the README, and `edits`, which edits/README.md describes. They want the
+# toolchain's command `rt`, and bash.
 
 PROGRAM := build/gobase
 SCRIPT := scripts/joseki.script
@@ -6,7 +7,7 @@ SCRIPT := scripts/joseki.script
 # The folder that the script imports, file by file, for the trial run.
 GAMES := $(wildcard games/*.sgf)
 
-.PHONY: run build test
+.PHONY: run build test edits
 
 # Answers the script over the sample games, by the native program where it is there, else by a run without
 # a proof, which works on copies of the games and tells on standard error how it ended.
@@ -26,3 +27,7 @@ build:
 # The gate: every proof, every test, every edit that must be refused, and the stored run of the program.
 test:
 	@bash .ci/run
+
+# The edits that the gate leaves out: of all crates, or of those that CRATES names.
+edits:
+	@bash tools/try_edits.sh $(CRATES)

@@ -25,6 +25,3 @@ pub use laws::{
 pub use nodes::{candidates_under, node_candidates};
 pub use placement_rows::PlacementRows;
 pub use sieve::passes;
-
-#[cfg(test)]
-mod tests;

@@ -18,8 +18,6 @@ mod captures;
 mod groups;
 mod point_set;
 mod rects;
-#[cfg(test)]
-mod tests;
 
 // The room that each board has: the points of the greatest board.
 pub(crate) const ROOM: usize = MAX_POINTS as usize;

@@ -12,8 +12,6 @@ use std::marker::Model;
 
 mod changed_points;
 mod room;
-#[cfg(test)]
-mod tests;
 
 /// The net changes of a position since the list was last cleared, by point ascending. It has room
 /// for the changes of one node of a game.

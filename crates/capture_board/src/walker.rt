@@ -9,9 +9,6 @@ use kb_geometry::Cell;
 use std::marker::Model;
 use std::sync::ledger::Ledger;
 
-#[cfg(test)]
-mod tests;
-
 /// A place in a game: a node, or above the root, where the board is empty. It shows the position
 /// there.
 ///

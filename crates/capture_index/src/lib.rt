@@ -19,8 +19,6 @@ mod packed_runs;
 mod run;
 mod run_index;
 mod stretch;
-#[cfg(test)]
-mod tests;
 mod time;
 mod wanted;
 mod wants;

@@ -24,6 +24,3 @@ pub use places::number_of_place;
 pub use table::{Row, Table};
 pub use tally::Tally;
 pub use way_down::next_below;
-
-#[cfg(test)]
-mod tests;

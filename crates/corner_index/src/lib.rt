@@ -15,6 +15,3 @@ mod numbers;
 pub use corner_index::CornerIndex;
 pub use corner_keys::CornerKeys;
 pub use laws::{a_corner_is_known_by_its_number, a_corner_number_has_at_most_36_digits};
-
-#[cfg(test)]
-mod tests;

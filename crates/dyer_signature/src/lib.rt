@@ -22,6 +22,3 @@ pub use laws::{
 };
 pub use main_line::signature;
 pub use matching::matches;
-
-#[cfg(test)]
-mod tests;

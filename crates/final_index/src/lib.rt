@@ -11,6 +11,3 @@ mod planes;
 
 pub use ever_sets::EverSets;
 pub use planes::Planes;
-
-#[cfg(test)]
-mod tests;

@@ -7,9 +7,6 @@ use kb_geometry::{NoMemory, Shape};
 use std::alloc::Global;
 use std::marker::Model;
 
-#[cfg(test)]
-pub(crate) mod tests;
-
 // Takes the nodes of a game in order of the text, each with its setups and then its parent and its
 // move.
 //

@@ -103,6 +103,3 @@ pub fn build(
     let flat = FlatCollection::of(alloc, collection)?;
     build_flat(alloc, text, &flat)
 }
-
-#[cfg(test)]
-mod tests;

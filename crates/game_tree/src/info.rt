@@ -44,21 +44,6 @@ impl Info {
     ghost use Rattle.game_tree.specs.Line.{told_result};
     ghost use Rattle.game_tree.specs.StoredInfo.{shown_info, AreTextEnds};
 
-    // The information of a game of which nothing is told.
-    #[cfg(test)]
-    pub(crate) fn empty(alloc: Global) -> Self
-        ensures { result ≡ no_information }
-    {
-        let ends = TextEnds {
-            black: 0,
-            white: 0,
-            event: 0,
-            place: 0,
-            date: 0,
-        };
-        Info::new(Vec::new(alloc), ends)
-    }
-
     // The information of a game of which this text of its result alone is told.
     pub(crate) fn of_result(alloc: Global, text: &[u8]) -> Result<Self, NoMemory>
         ensures { IfOk result (λ info. info ≡ told_result text.now) }
@@ -159,65 +144,5 @@ fn class_of(text: &[u8]) -> Outcome
         Outcome::Unknown
     } else {
         Outcome::Other
-    }
-}
-
-#[cfg(test)]
-mod tests {
-    use super::*;
-    use std::test::Fail;
-
-    const RESULTS: [(&str, Outcome); 14] = [
-        ("B+R", Outcome::Black),
-        ("B+", Outcome::Black),
-        ("W+0.5", Outcome::White),
-        ("0", Outcome::Draw),
-        ("Draw", Outcome::Draw),
-        ("Void", Outcome::Void),
-        ("?", Outcome::Unknown),
-        ("", Outcome::Other),
-        ("B", Outcome::Other),
-        ("b+R", Outcome::Other),
-        ("00", Outcome::Other),
-        ("draw", Outcome::Other),
-        ("Voided", Outcome::Other),
-        ("??", Outcome::Other),
-    ];
-
-    #[test]
-    fn classes_of_results(rt: HostRuntime) {
-        for (text, class) in RESULTS {
-            assert_eq!(rt; class_of(text.as_bytes()), class, "{text}");
-        }
-    }
-
-    fn ten_game_match(alloc: Global) -> Result<Info, NoMemory> {
-        let texts = b"Go SeigenKitaniJubangoKamakura1939-09-28B+2".as_slice();
-        let ends = TextEnds {
-            black: 9,
-            white: 15,
-            event: 22,
-            place: 30,
-            date: 40,
-        };
-        Ok(Info::new(texts.to_vec(alloc)?, ends))
-    }
-
-    #[test]
-    fn an_information_is_copied(rt: HostRuntime) -> Result<(), Fail> {
-        let info = ten_game_match(rt.alloc())?.copy(rt.alloc())?;
-        let texts = [
-            (info.black(), "Go Seigen"),
-            (info.white(), "Kitani"),
-            (info.event(), "Jubango"),
-            (info.place(), "Kamakura"),
-            (info.date(), "1939-09-28"),
-            (info.result(), "B+2"),
-        ];
-        for (shown, text) in texts {
-            assert_eq!(rt; shown, text.as_bytes());
-        }
-        assert_eq!(rt; info.outcome(), Outcome::Black);
-        Ok(())
     }
 }

@@ -36,6 +36,3 @@ pub use laws::{
 pub use line::tree_of_moves;
 pub use node::{Move, Setup};
 pub use tree::GameTree;
-
-#[cfg(test)]
-mod tests;

@@ -125,6 +125,3 @@ impl Identifier {
         a == self.first && b == self.second
     }
 }
-
-#[cfg(test)]
-mod tests;

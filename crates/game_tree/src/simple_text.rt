@@ -123,6 +123,3 @@ fn behind_partner(text: &[u8], partner: u8) -> &[u8]
     }
     text
 }
-
-#[cfg(test)]
-mod tests;

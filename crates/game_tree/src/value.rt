@@ -287,6 +287,3 @@ pub(crate) fn setup_of(shape: Shape, value: &[u8]) -> Option<Option<Rect>>
     }
     Some(Some(rect_at(shape, text)?))
 }
-
-#[cfg(test)]
-mod tests;

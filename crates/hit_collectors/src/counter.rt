@@ -76,13 +76,3 @@ pub(crate) fn one_more(number: u64) -> u64
 {
     number.saturating_add(1)
 }
-
-// A counter of the kind Total that has so many hits.
-#[cfg(test)]
-pub(crate) fn filled(name: String, hits: u64) -> Counter {
-    Counter {
-        name,
-        kind: Kind::Total,
-        numbers: [hits; ROOM],
-    }
-}

@@ -22,6 +22,3 @@ pub use laws::{
     a_hit_raises_one_number, a_name_is_retired_in_one_way, hits_add_up_to_their_counts,
 };
 pub use retiring::{NoSuchName, retire};
-
-#[cfg(test)]
-mod tests;

@@ -16,6 +16,3 @@ mod taking;
 pub use publish::publish_import;
 pub use receipts::{OpenName, Receipts};
 pub use taking::take_segments;
-
-#[cfg(test)]
-mod tests;

@@ -36,6 +36,3 @@ pub use one_file::import_one;
 pub use outcome::{Counts, FileOutcome, MAX_BASE_NODES};
 pub use report::{Report, ReportBody};
 pub use source::Source;
-
-#[cfg(test)]
-mod tests;

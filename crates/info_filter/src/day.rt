@@ -203,6 +203,3 @@ fn digit_of(b: u8) -> Option<u8>
     let digit = b.checked_sub(b'0')?;
     if digit <= 9 { Some(digit) } else { None }
 }
-
-#[cfg(test)]
-mod tests;

@@ -24,6 +24,3 @@ pub use laws::{
     a_text_has_one_day_or_none,
 };
 pub use players::{PlayerRow, PlayerRows, Players};
-
-#[cfg(test)]
-mod tests;

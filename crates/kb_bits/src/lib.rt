@@ -8,6 +8,3 @@
 mod bit_board;
 
 pub use bit_board::{BOUND, BitBoard, members_ascend, same_members_are_equal, the_bound_is_2704};
-
-#[cfg(test)]
-mod tests;

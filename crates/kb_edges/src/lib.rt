@@ -32,6 +32,3 @@ pub use real_folder::RealFolder;
 pub use real_sink::RealSink;
 pub use real_source::RealSource;
 pub use traits::{Folder, MAX_LIMIT, Sink, Source};
-
-#[cfg(test)]
-mod tests;

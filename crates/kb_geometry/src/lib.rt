@@ -27,6 +27,3 @@ pub use stone::{Cell, Change, Colour, Outcome};
 pub use symmetry::{LABELS, Label, Symmetry};
 pub use symmetry_maps::{apply, apply_rect, apply_within, inverse, turned};
 pub use text::Text;
-
-#[cfg(test)]
-mod tests;

@@ -23,6 +23,3 @@ pub use laws::{
 pub use matcher::Matcher;
 pub use occurrence::Occurrence;
 pub use walk::{match_along, match_game, match_with};
-
-#[cfg(test)]
-mod tests;

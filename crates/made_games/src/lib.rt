@@ -8,6 +8,3 @@ mod moves;
 mod tree;
 
 pub use tree::{MADE_NODES, made_tree};
-
-#[cfg(test)]
-mod tests;

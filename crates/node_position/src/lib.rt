@@ -6,8 +6,6 @@
 
 mod building;
 mod laws;
-#[cfg(test)]
-mod tests;
 
 pub use building::{deltas, deltas_with};
 pub use laws::{

@@ -26,6 +26,3 @@ pub use laws::a_query_has_one_list_of_placements;
 pub use making::images;
 pub use pattern::Pattern;
 pub use query::Query;
-
-#[cfg(test)]
-mod tests;

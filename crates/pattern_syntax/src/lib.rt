@@ -20,6 +20,3 @@ pub use laws::{
 };
 pub use print::print_pattern;
 pub use read::read_pattern;
-
-#[cfg(test)]
-mod tests;

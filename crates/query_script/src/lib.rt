@@ -42,6 +42,3 @@ pub use print::{
 pub use script::read_script;
 pub use search_text::print_hits;
 pub use statement::{MAX_SCRIPT, Placed, PlacedSearch, ScriptError, SearchList, Statement};
-
-#[cfg(test)]
-mod tests;

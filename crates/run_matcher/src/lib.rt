@@ -13,8 +13,6 @@ mod keys;
 mod matching;
 mod run_matcher;
 mod sought;
-#[cfg(test)]
-mod tests;
 
 pub use begun::Begun;
 pub use buffers::Buffers;

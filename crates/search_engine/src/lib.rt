@@ -36,6 +36,3 @@ pub use laws::{
 };
 pub use searches::{search, search_segment};
 pub use version_games::{find_game, game_count, games};
-
-#[cfg(test)]
-mod tests;

@@ -20,6 +20,3 @@ pub use base::Base;
 pub use import_segments::{OpenName, Receipts, publish_import};
 pub use serial_run::{Status, run_serial};
 pub use top_call::run;
-
-#[cfg(test)]
-mod tests;

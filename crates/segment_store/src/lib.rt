@@ -25,6 +25,3 @@ pub use builder::SegmentBuilder;
 pub use finished::FinishedGame;
 pub use laws::a_base_has_at_most_400_000_games;
 pub use segment::{MAX_BASE_GAMES, Segment, merge};
-
-#[cfg(test)]
-mod tests;

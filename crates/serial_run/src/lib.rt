@@ -36,6 +36,3 @@ pub use statement_text::version_text;
 pub use statements::{Stopped, run_statements};
 pub use status::Status;
 pub use write::write_all;
-
-#[cfg(test)]
-mod tests;

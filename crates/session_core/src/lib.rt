@@ -17,6 +17,3 @@ mod session;
 
 pub use laws::a_statement_has_one_answer;
 pub use session::Session;
-
-#[cfg(test)]
-mod tests;

@@ -30,8 +30,3 @@ pub use laws::{
 };
 pub use limits::{MAX_FILE, MAX_GAMES, MAX_NODES, MAX_OPEN};
 pub use reader::{read, read_flat};
-
-#[cfg(test)]
-mod recogniser_tests;
-#[cfg(test)]
-mod tests;

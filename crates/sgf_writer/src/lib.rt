@@ -13,6 +13,3 @@ mod writer;
 
 pub use laws::{a_tree_has_one_text, each_tree_has_a_text};
 pub use writer::write;
-
-#[cfg(test)]
-mod tests;

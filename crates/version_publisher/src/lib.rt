@@ -17,8 +17,6 @@ mod receipt;
 mod replica;
 mod searcher;
 mod state;
-#[cfg(test)]
-mod tests;
 mod version;
 
 pub use opening::{OpenError, open};

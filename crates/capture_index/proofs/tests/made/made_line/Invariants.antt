@@ -1,7 +1,0 @@
-use Rattle.std.proofs.Common.{◌≡◌}
-use Rattle.capture_board.specs.Deltas.{node_count}
-use Rattle.capture_board.specs.Walking.{StandsIn, node_before}
-use Rattle.capture_index.proofs.tests.made.made_line.Given as goal
-
-abbrev pub invariant-loop-n : goal.invariant-loop-n
-invariant-loop-n g l = StandsIn l.deltas l.walker × (l.walker.here ≡ node_before (node_count l.deltas))

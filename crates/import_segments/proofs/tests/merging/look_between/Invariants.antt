@@ -1,4 +1,0 @@
-use Rattle.import_segments.proofs.tests.merging.look_between.Given as goal
-
-abbrev pub ghosts-import_files : goal.ghosts-import_files
-ghosts-import_files g a = record { opening = a.publisher.now.opening }

@@ -1,4 +1,0 @@
-use Rattle.line_matcher.proofs.tests.made_games.the_greatest_board.Given as goal
-
-abbrev pub ghosts-expect_game : goal.ghosts-expect_game
-ghosts-expect_game g a = record { name = a.blank.name; parts = a.blank.parts }

@@ -1,4 +1,0 @@
-use Rattle.serial_run.proofs.tests.occurrences.occurrences.Given as goal
-
-abbrev pub ghosts-found_counted : goal.ghosts-found_counted
-ghosts-found_counted a = record { name = a.blank.name; parts = a.blank.parts }

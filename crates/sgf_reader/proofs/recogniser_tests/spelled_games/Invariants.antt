@@ -1,5 +1,0 @@
-use Rattle.std.proofs.Common.{◌≤◌}
-use Rattle.sgf_reader.proofs.recogniser_tests.spelled_games.Given as goal
-
-abbrev pub invariant-loop : goal.invariant-loop
-invariant-loop l = l.games ≤ l.counter
