@@ -7,7 +7,10 @@ SCRIPT := scripts/joseki.script
 # The folder that the script imports, file by file, for the trial run.
 GAMES := $(wildcard games/*.sgf)
 
-.PHONY: run build test edits
+# The programs that answer worked examples, or those of them that are named.
+CASES := $(notdir $(wildcard crates/*_cases))
+
+.PHONY: run build test cases edits
 
 # Answers the script over the sample games, by the native program where it is there, else by a run without
 # a proof, which works on copies of the games and tells on standard error how it ended.
@@ -18,15 +21,24 @@ run:
 	    (cd crates/gobase && rt try $(foreach game,$(GAMES),--data $(game)=../../$(game))) < $(SCRIPT); \
 	fi
 
-# Proves what isn't proved yet, and leaves the native program.
+# Proves what isn't proved yet, as many crates side by side as there are processors and memory allows, and
+# leaves the native program.
 build:
+	rt all check --jobs $(shell nproc)
 	cd crates/gobase && rt run </dev/null
 	mkdir -p build
 	cp crates/gobase/out/gobase $(PROGRAM)
 
-# The gate: every proof, every test, every edit that must be refused, and the stored run of the program.
+# The gate: every proof, every worked example and test, every edit of must-fail/, and the stored run of the
+# program.
 test:
 	@bash .ci/run
+
+# The worked examples, by programs that aren't proved.
+cases:
+	@for program in $(CASES); do \
+	    (cd crates/$$program && rt try $$(sed 's,.*,--data &=data/&,' args) -- $$(cat args)) || exit 1; \
+	done
 
 # The edits that the gate leaves out: of all crates, or of those that CRATES names.
 edits:

@@ -48,16 +48,12 @@ impl Collector for Shown {
     }
 }
 
-// A run over one game with three boxes, of which the second is shown and has so much room: its status,
-// what it wrote, and how many hits the second box took.
-fn run_boxes<R: Threads + Wait + Abort + Clone + Drop + Send + Sync + 'static>(
-    rt: &R,
+// Three boxes, of which the second is shown and has so much room. It counts what it takes in `taken`.
+pub(crate) fn three_boxes(
     alloc: Global,
-    words: &str,
-    script: &str,
+    taken: &Rc<Cell<u64>>,
     room: u64,
-) -> Result<(Status, Vec<u8>, u64), Fail> {
-    let taken = Rc::new(alloc, Cell::new(0))?;
+) -> Result<Vec<Box<dyn Collector>>, Fail> {
     let shown = Shown {
         counter: Counter::new(String::from_str(alloc, "shown")?, Kind::Nexts)?,
         taken: taken.clone()?,
@@ -69,6 +65,20 @@ fn run_boxes<R: Threads + Wait + Abort + Clone + Drop + Send + Sync + 'static>(
     boxes.push(Box::new(alloc, all)?)?;
     boxes.push(Box::new(alloc, shown)?)?;
     boxes.push(Box::new(alloc, labels)?)?;
+    Ok(boxes)
+}
+
+// A run over one game with three boxes, of which the second is shown and has so much room: its status,
+// what it wrote, and how many hits the second box took.
+fn run_boxes<R: Threads + Wait + Abort + Clone + Drop + Send + Sync + 'static>(
+    rt: &R,
+    alloc: Global,
+    words: &str,
+    script: &str,
+    room: u64,
+) -> Result<(Status, Vec<u8>, u64), Fail> {
+    let taken = Rc::new(alloc, Cell::new(0))?;
+    let boxes = three_boxes(alloc, &taken, room)?;
     let mut source = MemorySource::new(script.as_bytes().to_vec(alloc)?, Vec::new(alloc));
     let mut sink = MemorySink::new(Vec::new(alloc), Vec::new(alloc));
     let words = words_in(alloc, words)?;
@@ -146,6 +156,7 @@ fn collectors_are_fed_refuse_and_are_retired(rt: HostRuntime) -> Result<(), Fail
         ("--batch 1 --serial", FED, 9, Status::Done, RETIRED, 6),
         ("--batch 1", FED, 0, no_room, BEFORE_THE_REPORT, 0),
         ("--batch 1 --serial", FED, 0, no_room, BEFORE_THE_REPORT, 0),
+        ("--batch 1", FED, 2, no_room, BEFORE_THE_REPORT, 2),
         ("--batch 1", AMID_AN_IMPORT, 0, no_room, UNTIL_ONE, 0),
     ];
     for (words, script, room, status, written, fed) in cases {

@@ -4,7 +4,7 @@ use std::alloc::Global;
 use std::test::Fail;
 
 // Three moves on five by five points, of which Black makes the first and the last.
-const GAME: &[u8] = b"(;GM[1]FF[4]SZ[5];B[cc];W[bc];B[cb])";
+pub(crate) const GAME: &[u8] = b"(;GM[1]FF[4]SZ[5];B[cc];W[bc];B[cb])";
 
 // A folder d with so many files of one game each.
 pub(crate) fn folder_of(alloc: Global, count: u32) -> Result<MemoryFolder, Fail> {

@@ -1,5 +1,5 @@
 //! Tests of what no file of cases can say: statements between two versions of an import that a gate
-//! holds, searchers beside a publisher, collectors and a folder of the tests' own.
+//! holds, searchers beside a publisher, and collectors of the tests' own.
 //!
 //! Stands on all libraries below the program. There is nothing in this crate but tests, so that each
 //! library is proved once.
@@ -14,6 +14,6 @@ mod files;
 #[cfg(test)]
 mod looks;
 #[cfg(test)]
-mod many_names;
-#[cfg(test)]
 mod publishing;
+#[cfg(test)]
+mod refused;

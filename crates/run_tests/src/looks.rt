@@ -25,14 +25,14 @@ fn sizes(version: &Version<Segment>) -> Sizes {
     (version.number(), version.parts().len(), digits)
 }
 
-// Publishes an import of the folder, file by file.
+// Publishes an import of the folder, file by file, and gives the number of the receipt of the eighth.
 fn import_files<J: OpenName + Send + Sync, R: Threads + Wait + Sync, G: Gate>(
     rt: &R,
     alloc: Global,
     folder: MemoryFolder,
     publisher: &mut Publisher<Segment>,
     gate: &G,
-) -> Result<(), Fail>
+) -> Result<Option<u64>, Fail>
     requires opening { publisher.old.opening ≡ J.opening }
     requires empty { publisher.old.log ≡ [] }
     requires idle { IsIdle publisher.old }
@@ -52,7 +52,8 @@ fn import_files<J: OpenName + Send + Sync, R: Threads + Wait + Sync, G: Gate>(
         &receipts,
         1,
     )?;
-    Ok(())
+    let receipt = receipts.await_number(rt, 8);
+    Ok(receipt.map(|receipt| receipt.number()))
 }
 
 // What a searcher saw when the gate was asked, and the numbers that it was asked with.
@@ -84,11 +85,12 @@ impl<R: Wait + Drop> Gate for LookingGate<R> {
     }
 }
 
-// Imports eight single games, and answers what is held of the looks between their versions.
+// Imports eight single games, and answers the number of the last receipt and what is held of the looks
+// between their versions.
 fn look_between<R: Threads + Wait + Clone + Drop + Sync>(
     rt: &R,
     alloc: Global,
-) -> Result<Vec<(u64, Sizes)>, Fail> {
+) -> Result<(Option<u64>, Vec<(u64, Sizes)>), Fail> {
     let folder = folder_of(alloc, 8)?;
     let seen = Vec::with_capacity(alloc, 8)?;
     let own_rt = rt.clone()?;
@@ -109,18 +111,19 @@ fn look_between<R: Threads + Wait + Clone + Drop + Sync>(
         &gate,
     );
     publisher.close(rt);
-    imported?;
+    let receipt = imported?;
     let mut found = Vec::new(alloc);
     for (number, version) in &gate.looks.lock(rt).seen {
         found.push((*number, sizes(version)))?;
     }
-    Ok(found)
+    Ok((receipt, found))
 }
 
 // The gate isn't asked for a merge, and what was seen of a version stays.
 #[test]
 fn looks_between_versions(rt: HostRuntime) -> Result<(), Fail> {
-    let found = look_between(&rt, rt.alloc())?;
+    let (receipt, found) = look_between(&rt, rt.alloc())?;
+    assert_eq!(rt; receipt, Some(8));
     let expected = [
         (1, (0, 0, 0)),
         (2, (1, 1, 1)),

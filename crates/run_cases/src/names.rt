@@ -1,16 +1,18 @@
-// An import of as many names as one may have.
-use crate::files::folder_of;
+// Imports of very many names.
+use crate::files::{number, push_numbered, text_of};
+use crate::status::{Ended, append_whole};
+use case_files::{Case, CaseError};
 use hit_collectors::Collector;
 use kb_edges::{Folder, FolderError, MemoryFolder, MemorySink, MemorySource};
-use serial_run::{Status, run_serial};
+use serial_run::run_serial;
 use std::alloc::Global;
-use std::test::Fail;
+use std::thread::Threads;
 
 // The text of each file: a game without a move.
 const GAME: &[u8; 3] = b"(;)";
 
 // The names of a folder in memory, and one game under each of them. It tells nothing of its files,
-// so no read looks for a name.
+// so no read looks for a name: a folder in memory looks through all its files at each read.
 #[derive(Drop)]
 struct OneGameUnderEachName {
     names: MemoryFolder,
@@ -47,21 +49,33 @@ impl Folder for OneGameUnderEachName {
     }
 }
 
-#[test]
-fn as_many_names_as_an_import_may_have(rt: HostRuntime) -> Result<(), Fail> {
-    let alloc = rt.alloc();
+/// The kind `names`: the import of so many files of one game without a move, as one line.
+pub(crate) fn answer_names(
+    rt: &(impl Threads + Sync),
+    alloc: Global,
+    case: &Case<'_>,
+    out: &mut Vec<u8>,
+) -> Result<(), CaseError> {
+    let mut files = Vec::new(alloc);
+    push_numbered(
+        alloc,
+        number(text_of(case.text())?)?,
+        "d",
+        "#.sgf",
+        b"",
+        &mut files,
+    )?;
     let folder = OneGameUnderEachName {
-        names: folder_of(alloc, 100_000)?,
+        names: MemoryFolder::new(files, Vec::new(alloc)),
     };
-    let script = b"import d\nwait\n".to_vec(alloc)?;
-    let mut source = MemorySource::new(script, Vec::new(alloc));
+    let mut source = MemorySource::new(b"import d\nwait\n".to_vec(alloc)?, Vec::new(alloc));
     let mut sink = MemorySink::new(Vec::new(alloc), Vec::new(alloc));
     let boards: Vec<Box<dyn Collector>> = Vec::new(alloc);
-    let (status, _folder) = run_serial(&rt, alloc, &[], folder, &mut source, &mut sink, boards);
-    let written = "1 import d\n\
-         1 imported files 100000 accepted 100000 refused 0 full 0 unread 0 games 100000 version 1563\n\
-         2 wait version 1563\n";
-    assert_eq!(rt; status, Status::Done);
-    assert_eq!(rt; sink.written(), written.as_bytes());
-    Ok(())
+    let (status, _folder) = run_serial(rt, alloc, &[], folder, &mut source, &mut sink, boards);
+    let ended = Ended {
+        status,
+        left: source.left().len(),
+        output: sink.written().to_vec(alloc)?,
+    };
+    append_whole(out, &ended)
 }

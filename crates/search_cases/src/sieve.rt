@@ -1,0 +1,205 @@
+// Which games and nodes a search looks at.
+use crate::asked::{query_of, value_of};
+use crate::texts::{end_list, put, put_number, put_numbers, put_point, separate};
+use crate::versions::version_of_one;
+use candidate_sieve::{
+    AskedPoints, Candidate, PlacementRows, add_candidates, candidates_under, node_candidates,
+    passes,
+};
+use capture_index::{Want, Wants};
+use case_files::CaseError;
+use final_index::Planes;
+use pattern_images::{Images, Query, images};
+use search_engine::kept;
+use segment_store::{FinishedGame, Segment};
+use std::alloc::Global;
+
+/// `kept`: the games that are kept for a query. Their count is compared with the engine's.
+pub(crate) fn kept_games(
+    alloc: Global,
+    asked: &str,
+    part: &Segment,
+    out: &mut Vec<u8>,
+) -> Result<(), CaseError> {
+    let query = query_of(alloc, asked)?;
+    let mut numbers = Vec::new(alloc);
+    for g in 0..part.game_count() {
+        if is_kept(alloc, &query, part.finished(g))? {
+            numbers.push(g)?;
+        }
+    }
+    put_numbers(out, &numbers)?;
+    let version = version_of_one(alloc, part)?;
+    let count = kept(alloc, &version, &query)?;
+    if count as usize != numbers.len() {
+        put(out, "; but the engine keeps ")?;
+        put_number(out, count)?;
+    }
+    Ok(())
+}
+
+fn is_kept(alloc: Global, query: &Query, game: &FinishedGame) -> Result<bool, CaseError> {
+    let shape = game.tree().shape();
+    let images = images(alloc, query, shape)?;
+    Ok(query.is_for(shape) && passes(game.ever(), game.corners(), shape, &images))
+}
+
+/// `nodes`: at which a placement may begin to hold.
+pub(crate) fn nodes(
+    alloc: Global,
+    asked: &str,
+    game: &FinishedGame,
+    out: &mut Vec<u8>,
+) -> Result<(), CaseError> {
+    let query = query_of(alloc, asked)?;
+    let runs = game.runs();
+    let images = images(alloc, &query, runs.shape())?;
+    let nodes = node_candidates(alloc, runs, &images)?;
+    put_numbers(out, &nodes)?;
+    let under = candidates_under(alloc, runs, &images, &AskedPoints::of(&images))?;
+    if nodes.as_slice() != under.as_slice() {
+        put(out, "; but under the asked points ")?;
+        put_numbers(out, &under)?;
+    }
+    Ok(())
+}
+
+/// `candidates`: for each placement the games of the first block that may have it, of all or of
+/// those of `games=NUMBERS`, on boards for which the query is.
+pub(crate) fn candidates(
+    alloc: Global,
+    asked: &str,
+    part: &Segment,
+    out: &mut Vec<u8>,
+) -> Result<(), CaseError> {
+    let query = query_of(alloc, asked)?;
+    let games = games_of(asked);
+    let start = out.len();
+    for numbered in part.blocks().iter().take(1) {
+        for planes in numbered.block.planes() {
+            if query.is_for(planes.shape()) {
+                put_candidates(alloc, &query, planes, games, out, start)?;
+            }
+        }
+    }
+    end_list(out, start)
+}
+
+// A bit for each game that is asked for, by digits.
+fn games_of(asked: &str) -> u64 {
+    let Some(digits) = value_of(asked, "games") else {
+        return u64::MAX;
+    };
+    let mut games = 0;
+    for digit in digits.as_bytes() {
+        games |= 1 << (digit & 7);
+    }
+    games
+}
+
+fn put_candidates(
+    alloc: Global,
+    query: &Query,
+    planes: &Planes,
+    games: u64,
+    out: &mut Vec<u8>,
+    start: usize,
+) -> Result<(), CaseError> {
+    let images = images(alloc, query, planes.shape())?;
+    for (placement, games) in candidates_in(alloc, planes, &images, games)? {
+        separate(out, start, ", ")?;
+        put_candidate(out, &images, placement as usize, games)?;
+    }
+    Ok(())
+}
+
+// The candidates by the numbers of their placements.
+fn candidates_in(
+    alloc: Global,
+    planes: &Planes,
+    images: &Images,
+    games: u64,
+) -> Result<Vec<(u32, u64)>, CaseError> {
+    let rows = PlacementRows::of(alloc, images)?;
+    let wants = Wants::of(alloc, images)?;
+    let mut found = Vec::new(alloc);
+    if images.shape() != planes.shape() {
+        return Err(CaseError::Bad("images of another board"));
+    }
+    add_candidates(
+        planes,
+        &rows,
+        &wants,
+        games,
+        &mut Vec::new(alloc),
+        &mut found,
+    )?;
+    let mut sorted = Vec::new(alloc);
+    for Candidate { placement, games } in &found {
+        sorted.push((*placement, *games))?;
+    }
+    sorted.sort_unstable();
+    Ok(sorted)
+}
+
+fn put_candidate(
+    out: &mut Vec<u8>,
+    images: &Images,
+    placement: usize,
+    games: u64,
+) -> Result<(), CaseError> {
+    if placement >= images.len() {
+        return Err(CaseError::Bad("no such placement"));
+    }
+    let place = images.place(placement);
+    put_point(out, place.x, place.y)?;
+    put(out, " ")?;
+    put_number(out, u32::from(place.cols))?;
+    put(out, ":")?;
+    put_number(out, u32::from(place.rows))?;
+    put(out, " of")?;
+    put_bits(out, games)
+}
+
+/// Appends the numbers of the bits of a word, each behind a space.
+pub(crate) fn put_bits(out: &mut Vec<u8>, word: u64) -> Result<(), CaseError> {
+    for bit in 0..64u32 {
+        if word >> bit & 1 == 1 {
+            put(out, " ")?;
+            put_number(out, bit)?;
+        }
+    }
+    Ok(())
+}
+
+/// `wants`: what each class of the images asks of points on the game's board.
+pub(crate) fn wants(
+    alloc: Global,
+    asked: &str,
+    game: &FinishedGame,
+    out: &mut Vec<u8>,
+) -> Result<(), CaseError> {
+    let query = query_of(alloc, asked)?;
+    let images = images(alloc, &query, game.tree().shape())?;
+    let wants = Wants::of(alloc, &images)?;
+    for class in 0..images.class_count() {
+        if class > 0 {
+            put(out, " and ")?;
+        }
+        let start = out.len();
+        for want in wants.of_class(class).wants {
+            separate(out, start, ", ")?;
+            put_want(out, *want)?;
+        }
+        end_list(out, start)?;
+    }
+    Ok(())
+}
+
+fn put_want(out: &mut Vec<u8>, want: Want) -> Result<(), CaseError> {
+    put_number(out, u32::from(want.offset))?;
+    put(out, " ")?;
+    put(out, if want.empty { "." } else { "" })?;
+    put(out, if want.black { "X" } else { "" })?;
+    put(out, if want.white { "O" } else { "" })
+}
