@@ -81,12 +81,21 @@ fn push(planes: &mut Planes, deltas: &NodeDeltas) -> Result<(), CaseError> {
     Ok(())
 }
 
+// Whether the planes are for boards of this shape.
+fn are_for(planes: &Planes, shape: Shape) -> bool
+    ensures { IsTrue result ↔ (planes.now.shape ≡ shape) }
+{
+    planes.shape() == shape
+}
+
 fn joined(alloc: Global, a: &Planes, b: &Planes) -> Result<Planes, CaseError> {
-    if a.shape() == b.shape() && a.len() + b.len() <= 64 {
-        Ok(Planes::join(alloc, a, b)?)
-    } else {
-        Err(CaseError::Bad("more than 64 games"))
+    if !are_for(a, b.shape()) {
+        return Err(CaseError::Bad("boards of another shape"));
     }
+    if a.len() + b.len() > 64 {
+        return Err(CaseError::Bad("more than 64 games"));
+    }
+    Ok(Planes::join(alloc, a, b)?)
 }
 
 fn tell(

@@ -4,7 +4,9 @@ ghost use Rattle.std.specs.Bool.{OnFalse, OnTrue};
 ghost use Rattle.std.specs.Arc.{arc_value};
 ghost use Rattle.version_publisher.specs.Contents.{items_in};
 
-use crate::numbers::{MOST_NUMBERS, Numbers, append_part, append_version, merged, part_of};
+use crate::numbers::{
+    MOST_NUMBERS, Numbers, append_part, append_version, count_of, merged, part_of,
+};
 use crate::readers::{Readers, append_refusal};
 use case_files::CaseError;
 use kb_geometry::append;
@@ -47,7 +49,7 @@ impl Desk {
     // Appends a part of these numbers.
     fn append(&mut self, alloc: Global, text: &str, out: &mut Vec<u8>) -> Result<(), CaseError> {
         let part = part_of(alloc, text)?;
-        let count = part.count();
+        let count = count_of(&part);
         let Some(room) = MOST_NUMBERS.checked_sub(self.numbers) else {
             return Err(CaseError::Bad("too many numbers"));
         };

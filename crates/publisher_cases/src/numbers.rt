@@ -49,6 +49,13 @@ pub fn part_of(alloc: Global, text: &str) -> Result<Arc<Numbers>, CaseError> {
     Ok(Arc::new(alloc, Numbers { all })?)
 }
 
+/// How many numbers a part has.
+pub fn count_of(part: &Arc<Numbers>) -> u32
+    ensures { result ≡ length (arc_value part.now).all.items }
+{
+    part.count()
+}
+
 /// The part with the numbers of both.
 pub fn merged(alloc: Global, one: &Numbers, other: &Numbers) -> Result<Arc<Numbers>, CaseError>
     requires { length one.now.all.items + length other.now.all.items ≤ 1000 }

@@ -11,8 +11,8 @@ invariant_of-self-2 c =
     let part = (arc_value c.in_ok-part.part).all.items in
     let grown : c.append_to.new.publisher.log ++ c.append_to.new.publisher.pending ≡ whole ++ part ∷ [] = c.if-not-append_to.ensures.log in
     let parts : length (whole ++ part ∷ []) ≤ desk.parts + 1 = omega (arith, length-append whole (part ∷ []), desk.few_parts) in
-    let fits : length (items_in whole) + length part ≤ desk.numbers + c.count-count.result = omega (arith, desk.few_numbers, c.count-count.ensures) in record {
+    let fits : length (items_in whole) + length part ≤ desk.numbers + c.count_of-count.result = omega (arith, desk.few_numbers, c.count_of-count.ensures) in record {
       opened = desk.opened ∙ sym c.append_to.ensures.opening;
       few_parts = subst (λ l. length l ≤ desk.parts + 1) (sym grown) parts;
-      few_numbers = subst (λ l. length (items_in l) ≤ desk.numbers + c.count-count.result) (sym grown) (joined_append_fits (desk.numbers + c.count-count.result) whole part fits);
+      few_numbers = subst (λ l. length (items_in l) ≤ desk.numbers + c.count_of-count.result) (sym grown) (joined_append_fits (desk.numbers + c.count_of-count.result) whole part fits);
     }
