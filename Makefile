@@ -37,7 +37,7 @@ test:
 # The worked examples, by programs that aren't proved.
 cases:
 	@for program in $(CASES); do \
-	    (cd crates/$$program && rt try $$(sed 's,.*,--data &=data/&,' args) -- $$(cat args)) || exit 1; \
+	    (cd crates/$$program && rt try --seconds 900 $$(sed 's,.*,--data &=data/&,' args) -- $$(cat args)) || exit 1; \
 	done
 
 # The edits that the gate leaves out: of all crates, or of those that CRATES names.
