@@ -1,11 +1,10 @@
 //! Answers worked examples of runs: a script, files, and calls that fail become a status and the
 //! printed answers. The files of cases and their form are told in the README.
 //!
-//! Stands on search_run, serial_run, import_segments, import_work, node_position, game_tree, sgf_reader,
+//! Stands on serial_run, import_segments, import_work, node_position, game_tree, sgf_reader,
 //! hit_collectors, kb_edges and kb_geometry, and on case_files, which reads the cases.
 #![tactic(auto)]
 
-mod beside;
 mod changes;
 mod files;
 mod import;
@@ -27,7 +26,7 @@ struct RunKinds<'a, R> {
     rt: &'a R,
 }
 
-impl<R: Threads + Wait + Clone + Drop + Send + Sync + 'static> Kinds for RunKinds<'_, R> {
+impl<R: Threads + Wait + Sync> Kinds for RunKinds<'_, R> {
     fn answer(&self, alloc: Global, case: &Case<'_>, out: &mut Vec<u8>) -> Result<(), CaseError> {
         match case.kind {
             "run" => run::answer_run(self.rt, alloc, case, out),
@@ -35,9 +34,6 @@ impl<R: Threads + Wait + Clone + Drop + Send + Sync + 'static> Kinds for RunKind
             "script" => run::answer_script(self.rt, alloc, case, out),
             "words" => run::answer_words(self.rt, alloc, case, out),
             "over" => run::answer_over(self.rt, alloc, case, out),
-            "beside" => beside::answer_beside(self.rt, alloc, case, out),
-            "both" => beside::answer_both(self.rt, alloc, case, out),
-            "stops" => beside::answer_stops(self.rt, alloc, case, out),
             "names" => names::answer_names(self.rt, alloc, case, out),
             "outcome" => outcome::answer_outcome(alloc, case, out),
             "beginnings" => outcome::answer_beginnings(alloc, case, out),

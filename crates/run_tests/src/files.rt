@@ -8,6 +8,11 @@ pub(crate) const GAME: &[u8] = b"(;GM[1]FF[4]SZ[5];B[cc];W[bc];B[cb])";
 
 // A folder d with so many files of one game each.
 pub(crate) fn folder_of(alloc: Global, count: u32) -> Result<MemoryFolder, Fail> {
+    Ok(MemoryFolder::new(entries_of(alloc, count)?, Vec::new(alloc)))
+}
+
+// So many files of one game each.
+pub(crate) fn entries_of(alloc: Global, count: u32) -> Result<Vec<FileEntry>, Fail> {
     let mut files = Vec::new(alloc);
     for number in 0..count {
         files.push(FileEntry {
@@ -16,7 +21,7 @@ pub(crate) fn folder_of(alloc: Global, count: u32) -> Result<MemoryFolder, Fail>
             bytes: GAME.to_vec(alloc)?,
         })?;
     }
-    Ok(MemoryFolder::new(files, Vec::new(alloc)))
+    Ok(files)
 }
 
 // The words of a command line that are parted by single spaces.
