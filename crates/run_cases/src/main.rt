@@ -15,37 +15,79 @@ mod run;
 mod status;
 
 use case_files::{Case, CaseError, Kinds};
+use kb_geometry::append;
 use std::alloc::Global;
 use std::io;
+use std::rt::{Env, Files};
 use std::sync::Wait;
 use std::thread::Threads;
 
-// The kinds of cases, which are answered on this runtime.
-#[derive(Clone, Copy)]
-struct RunKinds<'a, R> {
-    rt: &'a R,
+// What answers cases, and says whether there was memory. It is a closure that holds the runtime, since a
+// bound `Sync` says nothing in the `impl` of a trait.
+#[derive(Drop)]
+struct RunKinds<F: Fn(Global, &Case<'_>, &mut Vec<u8>) -> bool> {
+    answer: F,
+    ghost callable: { F.IsAlwaysCallable answer },
 }
 
-impl<R: Threads + Wait + Sync> Kinds for RunKinds<'_, R> {
+impl<F: Fn(Global, &Case<'_>, &mut Vec<u8>) -> bool> Kinds for RunKinds<F> {
     fn answer(&self, alloc: Global, case: &Case<'_>, out: &mut Vec<u8>) -> Result<(), CaseError> {
-        match case.kind {
-            "run" => run::answer_run(self.rt, alloc, case, out),
-            "last" => run::answer_last(self.rt, alloc, case, out),
-            "script" => run::answer_script(self.rt, alloc, case, out),
-            "words" => run::answer_words(self.rt, alloc, case, out),
-            "over" => run::answer_over(self.rt, alloc, case, out),
-            "names" => names::answer_names(self.rt, alloc, case, out),
-            "outcome" => outcome::answer_outcome(alloc, case, out),
-            "beginnings" => outcome::answer_beginnings(alloc, case, out),
-            "import" => import::answer_import(self.rt, alloc, case, out),
-            "made" => import::answer_made(self.rt, alloc, case, out),
-            "parts" => parts::answer_parts(self.rt, alloc, case, out),
-            "changes" => changes::answer_changes(alloc, case, out),
-            _ => Err(CaseError::Bad("unknown kind")),
+        if (self.answer)(alloc, case, out) {
+            Ok(())
+        } else {
+            Err(CaseError::NoMemory)
         }
     }
 }
 
+// Answers a case, where it isn't in the form of its kind with what is wrong.
+fn answer_or_tell<R: Threads + Wait + Sync>(
+    rt: &R,
+    alloc: Global,
+    case: &Case<'_>,
+    out: &mut Vec<u8>,
+) -> bool {
+    match answer(rt, alloc, case, out) {
+        Ok(()) => true,
+        Err(CaseError::Bad(why)) => append(out, why.as_bytes()).is_ok(),
+        Err(CaseError::NoMemory) => false,
+    }
+}
+
+fn answer<R: Threads + Wait + Sync>(
+    rt: &R,
+    alloc: Global,
+    case: &Case<'_>,
+    out: &mut Vec<u8>,
+) -> Result<(), CaseError> {
+    match case.kind {
+        "run" => run::answer_run(rt, alloc, case, out),
+        "last" => run::answer_last(rt, alloc, case, out),
+        "script" => run::answer_script(rt, alloc, case, out),
+        "words" => run::answer_words(rt, alloc, case, out),
+        "over" => run::answer_over(rt, alloc, case, out),
+        "names" => names::answer_names(rt, alloc, case, out),
+        "outcome" => outcome::answer_outcome(alloc, case, out),
+        "beginnings" => outcome::answer_beginnings(alloc, case, out),
+        "import" => import::answer_import(rt, alloc, case, out),
+        "made" => import::answer_made(rt, alloc, case, out),
+        "parts" => parts::answer_parts(rt, alloc, case, out),
+        "changes" => changes::answer_changes(alloc, case, out),
+        _ => Err(CaseError::Bad("unknown kind")),
+    }
+}
+
+// Answers the cases of the files that the command line names.
+fn run_all<R: Files + Env + Print + AllocGlobal + Threads + Wait + Sync>(rt: &R) -> io::Result<()> {
+    let kinds = RunKinds {
+        answer: |alloc: Global, case: &Case<'_>, out: &mut Vec<u8>| {
+            answer_or_tell(rt, alloc, case, out)
+        },
+    };
+    case_files::run_files(rt, &kinds)?;
+    Ok(())
+}
+
 fn main(rt: HostRuntime) -> io::Result<()> {
-    case_files::run_files(&rt, &RunKinds { rt: &rt }).map(|_| ())
+    run_all(&rt)
 }
