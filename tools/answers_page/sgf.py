@@ -1,0 +1,86 @@
+"""Reads the games that gobase printed: their information, and the move number of each node.
+
+gobase prints a game in one line: information at the root, then setup stones, moves and variations. The
+page's own script replays the moves; here they are only counted.
+"""
+from __future__ import annotations
+
+import re
+from dataclasses import dataclass
+
+# A value with its brackets, an identifier, or one of ( ) ; between them. Every other byte is skipped.
+TOKEN = re.compile(r"\[((?:[^\]\\]|\\.)*)\]|([A-Z]+)|([();])", re.S)
+DAY = re.compile(r" *(\d{4})(?:-(\d\d))?(?:-(\d\d))?(?![\d-])")
+SIZE = re.compile(r"(\d{1,2})(?::(\d{1,2}))?$")
+
+
+@dataclass
+class GameRecord:
+    sgf: str
+    columns: int = 19
+    rows: int = 19
+    black: str = ""
+    white: str = ""
+    event: str = ""
+    place: str = ""
+    date: str = ""
+    result: str = ""
+    # The move number of each node, in order of the text.
+    moves: tuple[int, ...] = ()
+
+    def move_of(self, node: int) -> int | None:
+        return self.moves[node] if node < len(self.moves) else None
+
+
+FIELDS = {"PB": "black", "PW": "white", "EV": "event", "PC": "place", "DT": "date", "RE": "result"}
+
+
+def unescape(value: str) -> str:
+    return re.sub(r"\\(.)", r"\1", value, flags=re.S)
+
+
+def read_size(value: str) -> tuple[int, int] | None:
+    match = SIZE.match(value)
+    if match is None:
+        return None
+    columns = int(match[1])
+    rows = int(match[2] or columns)
+    return (columns, rows) if 1 <= columns <= 52 and 1 <= rows <= 52 else None
+
+
+def read_game(sgf: str) -> GameRecord:
+    game = GameRecord(sgf)
+    moves: list[int] = []
+    # The move numbers to go back to where a variation ends.
+    branches: list[int] = []
+    current, name = 0, ""
+    for match in TOKEN.finditer(sgf):
+        value, identifier, mark = match.groups()
+        if identifier:
+            name = identifier
+            if name in ("B", "W") and moves:
+                current += 1
+                moves[-1] = current
+        elif mark == "(":
+            branches.append(current)
+        elif mark == ")":
+            if branches:
+                current = branches.pop()
+        elif mark == ";":
+            moves.append(current)
+        elif len(moves) == 1 and value is not None:
+            if name in FIELDS:
+                setattr(game, FIELDS[name], unescape(value))
+            elif name == "SZ" and (size := read_size(value)):
+                game.columns, game.rows = size
+    game.moves = tuple(moves)
+    return game
+
+
+def day_of(date: str) -> int:
+    """The day by which games are put in order, as 20030412; 0 where the date tells none."""
+    match = DAY.match(date)
+    if match is None:
+        return 0
+    year, month, day = (int(part or 1) for part in match.groups())
+    return year * 10000 + month * 100 + day if 1 <= month <= 12 and 1 <= day <= 31 else 0
