@@ -8,6 +8,8 @@ from .script import Question
 from .words import often, times
 
 CELL = 28
+# A point of a small pattern is drawn as large as this, one of a large pattern as small.
+LARGEST, SMALLEST, USUAL_WIDTH = 42, 24, 300
 
 
 @dataclass(frozen=True)
@@ -124,7 +126,9 @@ def pattern_svg(question: Question, letters: list[Lettered], size: tuple[int, in
     parts.append(letters_on([one for one in letters if one.x < question.width and one.y < question.height],
                             question.rows))
     label = "The pattern, row by row: " + ", ".join(question.rows)
-    return (f'<svg class="board pattern" viewBox="0 0 {width} {height}" width="{width}" height="{height}" '
+    shown = min(LARGEST, max(SMALLEST, USUAL_WIDTH // question.width))
+    return (f'<svg class="board pattern" viewBox="0 0 {width} {height}" width="{question.width * shown}" '
+            f'height="{question.height * shown}" '
             f'role="img" aria-label="{escape(label)}">{"".join(parts)}</svg>')
 
 

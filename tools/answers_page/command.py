@@ -47,5 +47,5 @@ def main(words: list[str]) -> int:
     except OSError as error:
         print(f"page.py: {error.filename}: {error.strerror}", file=sys.stderr)
         return 2
-    sys.stdout.buffer.write(made.encode("utf-8"))
+    sys.stdout.buffer.write(made.encode("utf-8", "replace"))
     return 0

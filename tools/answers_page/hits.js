@@ -164,9 +164,11 @@ class Hits {
   }
 
   select(index) {
+    const before = this.order.indexOf(this.selected), at = this.order.indexOf(index);
     this.selected = index;
-    if (index >= 0) this.list.reveal(this.order.indexOf(index));
-    this.list.draw();
+    if (at >= 0) this.list.reveal(at);
+    this.list.renew(before);
+    this.list.renew(at);
   }
 
   pick(letter) {

@@ -27,6 +27,8 @@ class LongList {
     this.makeRow = makeRow;
     this.rowHeight = rowHeight;
     this.count = 0;
+    // The rows that stand in the box, by their numbers.
+    this.rows = new Map();
     this.space = element("div", "rows");
     this.box = element("div", "long-list", this.space);
     this.box.tabIndex = -1;
@@ -43,7 +45,10 @@ class LongList {
     this.layOut();
   }
 
+  // Makes all rows anew.
   layOut() {
+    this.space.replaceChildren();
+    this.rows.clear();
     this.box.classList.remove("printed");
     this.height = this.rowHeight(this.box.clientWidth);
     this.whole = this.count * this.height;
@@ -64,14 +69,28 @@ class LongList {
     const top = this.top(), first = Math.max(0, Math.floor(top / this.height) - 4);
     const last = Math.min(this.count, Math.ceil((top + this.box.clientHeight) / this.height) + 4);
     const shift = this.box.scrollTop - top;
-    const rows = [];
+    for (const [i, row] of this.rows)
+      if (i < first || i >= last) {
+        row.remove();
+        this.rows.delete(i);
+      }
     for (let i = first; i < last; i++) {
-      const row = this.makeRow(i);
+      if (!this.rows.has(i)) {
+        this.rows.set(i, this.makeRow(i));
+        this.space.append(this.rows.get(i));
+      }
+      const row = this.rows.get(i);
       row.style.top = `${i * this.height + shift}px`;
       row.style.height = `${this.height}px`;
-      rows.push(row);
     }
-    this.space.replaceChildren(...rows);
+  }
+
+  // Makes one row anew, where it stands in the box.
+  renew(i) {
+    if (!this.rows.has(i)) return;
+    this.rows.get(i).remove();
+    this.rows.delete(i);
+    this.draw();
   }
 
   reveal(index) {
@@ -86,6 +105,7 @@ class LongList {
   print() {
     this.box.classList.add("printed");
     this.box.style.height = this.space.style.height = "";
+    this.rows.clear();
     const rows = [];
     for (let i = 0; i < Math.min(this.count, PRINTED); i++) {
       const row = this.makeRow(i);

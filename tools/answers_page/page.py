@@ -17,6 +17,7 @@ from .program import Games, Run
 from .record import Record, where_it_ended
 from .script import Script
 from .sections import Context, is_told, lines_as_they_are, own_words, section, text
+from .sgf import replayable
 from .words import shown
 
 HERE = Path(__file__).parent
@@ -99,7 +100,7 @@ def body(made: Made) -> str:
 def page(made: Made) -> str:
     style, script = (HERE / "page.css").read_text(), page_script()
     policy = f"default-src 'none'; script-src {own_hash(script)}; style-src {own_hash(style)}; base-uri 'none'; form-action 'none'"
-    games = {number: game.record.sgf for number, game in made.games.shown.items()}
+    games = {number: replayable(game.record.sgf) for number, game in made.games.shown.items()}
     title = made.script.heading.partition("\n\n")[0] or f"Answers to {made.name}"
     return f"""<!DOCTYPE html>
 <html lang="en">

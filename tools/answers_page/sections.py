@@ -99,7 +99,7 @@ def continuation_table(question: Question, letters: list[Continuation]) -> str:
     more = (f'<button type="button" class="all-rows">Show {times(hidden, "more continuation")}</button>'
             if hidden > 0 else "")
     return ('<div class="scroll"><table class="continuations"><thead><tr><th></th><th>Move</th><th>How often</th>'
-            "<th>Won by the pattern’s</th></tr></thead>"
+            "<th>Results of the pattern’s colours</th></tr></thead>"
             f"<tbody>{rows}</tbody></table></div>{more}")
 
 
@@ -214,7 +214,7 @@ def signature(answer: kinds.Signature, context: Context) -> str:
     words = signature_words(asked) if len(asked) == 12 else text(asked)
     rows = [[*game_row(context, number), f"<code>{escape(found)}</code>"]
             for number, found in answer.found[:MOST_LINES]]
-    listed = table([*GAME_HEAD, "Signature, as turned least"], rows, "games") if rows else ""
+    listed = table([*GAME_HEAD, "Signature in canonical form"], rows, "games") if rows else ""
     return (f'<p class="asked">Asked for, as the game stands or turned or mirrored: {escape(words)}.</p>'
             f"<p class=\"totals\">Found {times(len(answer.found), 'game')} of {answer.games:,}.</p>{listed}"
             f"{cut_note(len(answer.found))}")
@@ -241,7 +241,7 @@ def game(answer: kinds.Game, context: Context) -> str:
              ("Date", record.date), ("Result", record.result),
              ("File", f"{known.file}, game {known.place + 1}"),
              ("Board", f"{record.columns} by {record.rows}"),
-             ("Moves", f"{max(record.moves, default=0):,}")]
+             ("Moves", f"{record.length:,}")]
     listed = "".join(f"<dt>{name}</dt><dd>{isolated(value)}</dd>" for name, value in facts if value)
     return (f'<div class="one-game"><div class="small-board" data-board="{answer.number}"></div>'
             f"<div><dl>{listed}</dl>"

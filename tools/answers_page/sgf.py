@@ -27,16 +27,26 @@ class GameRecord:
     result: str = ""
     # The move number of each node, in order of the text.
     moves: tuple[int, ...] = ()
+    # The number of moves of the main line.
+    length: int = 0
 
     def move_of(self, node: int) -> int | None:
         return self.moves[node] if node < len(self.moves) else None
 
+
+# What only informs: the page has it elsewhere, cut to a length.
+INFORMATION = re.compile(r"(?:GM|FF|PB|PW|EV|PC|DT|RE)\[(?:[^\]\\]|\\.)*\]", re.S)
 
 FIELDS = {"PB": "black", "PW": "white", "EV": "event", "PC": "place", "DT": "date", "RE": "result"}
 
 
 def unescape(value: str) -> str:
     return re.sub(r"\\(.)", r"\1", value, flags=re.S)
+
+
+def replayable(sgf: str) -> str:
+    """The text without its information: size, stones and moves."""
+    return INFORMATION.sub("", sgf).encode("ascii", "replace").decode()
 
 
 def read_size(value: str) -> tuple[int, int] | None:
@@ -64,6 +74,8 @@ def read_game(sgf: str) -> GameRecord:
         elif mark == "(":
             branches.append(current)
         elif mark == ")":
+            # The main line stands first, and ends with the first bracket.
+            game.length = game.length or current
             if branches:
                 current = branches.pop()
         elif mark == ";":

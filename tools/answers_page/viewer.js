@@ -87,6 +87,7 @@ const viewer = {
     const {game, node, hit} = this, {move} = game.nodes[node];
     const view = new View(game, hit && this.turned ? hit.label : 0);
     const last = move ? move.point : null;
+    Object.assign(part("viewer-board").dataset, {game: this.number, node});
     part("viewer-board").replaceChildren(boardSvg(view, game.position(node),
       {placement: this.placement(), last, marks: this.marks()}));
     this.drawWords();

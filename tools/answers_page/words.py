@@ -99,7 +99,9 @@ def place_words(question: Question) -> str:
     if question.at is None:
         return "anywhere on the board"
     x0, y0, x1, y1 = question.at
-    if question.at == (0, 0, 0, 0):
+    if question.width == question.height == 1 and (x0, y0) == (x1, y1):
+        return f"on the {x0 + 1}-{y0 + 1} point" + ("" if question.fixed else " of a corner")
+    if in_corner(question):
         return "in the upper left corner" if question.fixed else "in a corner"
     if y0 == y1 == 0 and x1 > x0:
         return "along the upper edge" if question.fixed else "along an edge"
@@ -134,7 +136,10 @@ def question_words(question: Question) -> str:
     """What is asked, in one sentence."""
     ways = ["as drawn only" if question.fixed else "also turned and mirrored",
             "colours as drawn" if question.same else "also with colours exchanged"]
-    parts = [f"{question.width} by {question.height} points {place_words(question)}", *ways]
+    points = times(question.width * question.height, "point")
+    if question.width > 1 and question.height > 1:
+        points = f"{question.width} by {question.height} points"
+    parts = [f"{points} {place_words(question)}", *ways]
     if question.main:
         parts.append("on main lines alone")
     if question.board:
@@ -157,5 +162,7 @@ def search_words(answer: Search) -> str:
     text = f"Found {often(answer.expected)}, in {with_hits:,} of {times(answer.games, 'game')}"
     if total is None:
         return text + "."
-    return (f"{text}: play went on inside the pattern at once {often(total.now)}, later {often(total.later)}; "
-            f"the pattern’s black won {total.black:,}, its white {total.white:,}, neither {total.other:,}.")
+    when = [f"{name} {often(count)}" for name, count in (("at once", total.now), ("later", total.later)) if count]
+    went_on = f"play went on inside the pattern {' and '.join(when)}" if when else "play never went on inside the pattern"
+    return (f"{text}: {went_on}; the pattern’s black won {total.black:,}, its white {total.white:,}, "
+            f"neither {total.other:,}.")
