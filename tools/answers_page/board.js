@@ -1,6 +1,8 @@
 // Boards as SVG.
 
 const CELL = 28, MARGIN = 24;
+// How much larger a small board is drawn where there is room.
+const LARGEST = 1.5;
 
 function svg(name, attributes, ...children) {
   const made = document.createElementNS("http://www.w3.org/2000/svg", name);
@@ -89,7 +91,8 @@ function markOf(view, {x, y, width, height}) {
 function boardSvg(view, stones, {placement = null, last = null, marks = []}) {
   const width = view.columns * CELL + MARGIN + 8, height = view.rows * CELL + MARGIN + 8;
   const {columns} = view.game;
-  const board = svg("svg", {class: "board", viewBox: `0 0 ${width} ${height}`, role: "img", "aria-label": "Board"});
+  const board = svg("svg", {class: "board", viewBox: `0 0 ${width} ${height}`, width: LARGEST * width,
+    role: "img", "aria-label": "Board"});
   board.append(svg("rect", {class: "wood", width, height, rx: 4}), boardLines(view));
   if (placement) board.append(markOf(view, placement));
   stones.forEach((stone, point) => {

@@ -112,6 +112,7 @@ def letters_on(letters: list[Lettered], rows: tuple[str, ...]) -> str:
         for i, one in enumerate(here):
             tx = cx + (i - (len(here) - 1) / 2) * CELL * 0.48
             name = "by-black" if one.colour == "B" else "by-white"
+            name += " on-black" if rows[y][x] == "X" else ""
             parts.append(f'<text class="letter {name}{small}" x="{tx:.1f}" y="{cy}">{escape(one.text)}</text>')
     return "".join(parts)
 
@@ -157,7 +158,7 @@ def phases_chart(counts: tuple[int, ...]) -> str:
     last = max((i for i, count in enumerate(counts) if count), default=0)
     used = counts[:min(max(last + 1, 6), len(counts))]
     greatest = max(used, default=0) or 1
-    step, height, foot, head = 44, 110, 24, 20
+    step, height, foot, head = 44 if len(used) <= 20 else 34, 110, 24, 20
     width = step * len(used)
     parts = []
     every = 1 if len(used) <= 14 else 5

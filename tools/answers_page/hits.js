@@ -38,7 +38,7 @@ class Hits {
     this.count = this.numbers.length / WORDS;
     this.selected = -1;
     this.makeControls(place);
-    this.list = new LongList(place, width => (width < 680 ? 68 : 38), i => this.row(this.order[i]));
+    this.list = new LongList(place, width => (width < 800 ? 68 : 38), i => this.row(this.order[i]));
     this.refresh();
   }
 

@@ -20,6 +20,8 @@ function counted(count, what) {
 const TALLEST = 8000000;
 // So many rows are shown without a scroll bar of their own, and so many are printed.
 const SHORT = 15, PRINTED = 300;
+// No screen shows more rows than this; a box without an upper bound of its height would want all of them.
+const MOST_DRAWN = 400;
 
 class LongList {
   // `rowHeight` tells the height of a row for a width, and `makeRow` makes the row of a number.
@@ -34,9 +36,14 @@ class LongList {
     this.box.tabIndex = -1;
     place.append(this.box);
     this.box.addEventListener("scroll", () => this.draw(), {passive: true});
-    new ResizeObserver(() => this.layOut()).observe(this.box);
+    // A sheet of paper has another width too, but there the rows are all made already.
+    this.printing = false;
+    new ResizeObserver(() => this.printing || this.layOut()).observe(this.box);
     addEventListener("beforeprint", () => this.print());
-    addEventListener("afterprint", () => this.layOut());
+    addEventListener("afterprint", () => {
+      this.printing = false;
+      this.layOut();
+    });
   }
 
   show(count) {
@@ -49,7 +56,6 @@ class LongList {
   layOut() {
     this.space.replaceChildren();
     this.rows.clear();
-    this.box.classList.remove("printed");
     this.height = this.rowHeight(this.box.clientWidth);
     this.whole = this.count * this.height;
     const tall = Math.min(this.whole, TALLEST);
@@ -67,7 +73,8 @@ class LongList {
 
   draw() {
     const top = this.top(), first = Math.max(0, Math.floor(top / this.height) - 4);
-    const last = Math.min(this.count, Math.ceil((top + this.box.clientHeight) / this.height) + 4);
+    const end = Math.ceil((top + this.box.clientHeight) / this.height) + 4;
+    const last = Math.min(this.count, end, first + MOST_DRAWN);
     const shift = this.box.scrollTop - top;
     for (const [i, row] of this.rows)
       if (i < first || i >= last) {
@@ -103,7 +110,7 @@ class LongList {
   }
 
   print() {
-    this.box.classList.add("printed");
+    this.printing = true;
     this.box.style.height = this.space.style.height = "";
     this.rows.clear();
     const rows = [];

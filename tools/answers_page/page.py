@@ -18,7 +18,7 @@ from .record import Record, where_it_ended
 from .script import Script
 from .sections import Context, is_told, lines_as_they_are, own_words, section, text
 from .sgf import replayable
-from .words import shown
+from .words import shown, times
 
 HERE = Path(__file__).parent
 SCRIPTS = ("game.js", "board.js", "list.js", "hits.js", "viewer.js", "start.js")
@@ -73,7 +73,7 @@ def contents(made: Made) -> str:
     if len(searches) < 4:
         return ""
     links = "".join(f'<li><a href="#line-{a.statement.line}">line {a.statement.line}</a>: '
-                    f"{text(a.statement.lead or a.statement.text)}, {len(a.hits):,}</li>" for a in searches)
+                    f"{text(a.statement.lead or a.statement.text)} ({times(a.expected, 'hit')})</li>" for a in searches)
     return f"<nav><ol>{links}</ol></nav>"
 
 

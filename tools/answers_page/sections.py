@@ -16,7 +16,7 @@ from .words import (COLOURS, FAULTS, label_words, letter, often, point_words, qu
                     shown, times)
 
 # So many continuations stand in the table at once, and so many have their letters on the board.
-FIRST_ROWS, MOST_LETTERS = 8, 52
+FIRST_ROWS, MOST_LETTERS = 8, 26
 # A list that no script of the page makes shorter is cut behind so many lines.
 MOST_LINES = 2_000
 
@@ -114,7 +114,8 @@ def legend(question: Question, letters: list[Continuation]) -> str:
     if "*" in cells:
         parts.append("veiled point: anything")
     if letters:
-        parts.append("letters: how it went on, black for Black’s moves and white for White’s")
+        most = f"the {MOST_LETTERS} that came most often, " if len(letters) > MOST_LETTERS else ""
+        parts.append(f"letters: how it went on, {most}black for Black’s moves and white for White’s")
     return f'<figcaption>{"; ".join(parts)}.</figcaption>' if parts else ""
 
 
