@@ -7,6 +7,7 @@ from __future__ import annotations
 
 import base64
 import hashlib
+import re
 from dataclasses import dataclass
 from html import escape
 from pathlib import Path
@@ -55,13 +56,21 @@ def headings(made: Made) -> str:
     return f"<h1>{text(first)}</h1>{paragraphs}"
 
 
+def bad_line(made: Made) -> str:
+    """The text of the line that the program calls no statement."""
+    match = re.search(r"line (\d+) of the script", made.run.errors if made.run else "")
+    statement = made.script.at_line(int(match[1])) if match else None
+    return f": {statement.text}" if statement else ""
+
+
 def how_it_ended(made: Made) -> str:
     """The lines that tell of a run that failed and of a record that isn't whole."""
     lines = []
-    run = made.run
+    run, record = made.run, made.record
     if run is not None and run.code != 0:
-        lines.append(f"The program ended with code {run.code}: {run.errors.strip()}")
-    if ended := where_it_ended(made.record):
+        lines.append(f"The program ended with code {run.code}: {run.errors.strip()}{bad_line(made)}")
+    # A run that printed nothing has told why.
+    if (run is None or run.code == 0 or record.lines) and (ended := where_it_ended(record)):
         lines.append(ended)
     lines += made.games.notes
     return "".join(f'<p class="warning">{text(line)}</p>' for line in lines)

@@ -56,7 +56,7 @@ const viewer = {
 
   placement() {
     const {hit} = this;
-    if (!hit) return null;
+    if (!hit || hit.list.width === 0) return null;
     const across = hit.label % 8 >= 4;
     return {x: hit.x, y: hit.y, width: across ? hit.list.height : hit.list.width,
       height: across ? hit.list.width : hit.list.height};
@@ -66,7 +66,7 @@ const viewer = {
   marks() {
     const {hit, game, node} = this;
     if (this.signature) return this.signatureMarks();
-    if (!hit || hit.follows < 0 || node !== hit.node) return [];
+    if (!hit || hit.follows < 0 || node !== hit.node || hit.list.width === 0) return [];
     const [text, colour, x, y] = hit.list.letters[hit.follows >> 1];
     const [dx, dy] = hit.list.turnedCell(x, y, hit.label % 8);
     const stone = (colour === "B") !== (hit.label >= 8) ? BLACK : WHITE;

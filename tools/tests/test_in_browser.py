@@ -161,6 +161,49 @@ class InBrowser(unittest.TestCase):
                          "f.value = 'spring'; f.dispatchEvent(new Event('input')); })()")
         self.assertEqual(self.browser.run("document.querySelector('[data-search=\"12\"] .told').textContent"), "2 of 14 hits")
 
+    def test_a_hundred_thousand_hits(self) -> None:
+        """Rows are made as they are looked at, so that neither opening nor scrolling waits for all."""
+        hits = [f"hit {game} {node} {node % 18} {game % 18} {node % 16} {'BW'[node % 2]} {node % 2} 0 now"
+                for game in range(2_000) for node in range(1, 51)]
+        (self.folder / "big").write_text("\n".join(
+            ["1 search version 1 games 2000 hits 100000", *hits, "total 100000 100000 0 0 0 100000"]) + "\n")
+        (self.folder / "big.script").write_text("search XO\n")
+        moves = "".join(f";{'BW'[i % 2]}[{chr(97 + i % 19)}{chr(97 + i // 19)}]" for i in range(200))
+        games = "".join(f"{game + 2} game {game} version 1 place 0 file a.sgf\n(;GM[1]FF[4]SZ[19]PB[P {game % 7}]DT[{1950 + game % 70}]{moves})\n"
+                        for game in range(2_000))
+        program = program_that_tells(self.folder / "big-program", "1 wait version 1\n" + games)
+        page_of(self.folder / "big.script", self.folder / "big.html", "--output", str(self.folder / "big"),
+                asked=program, folder=self.folder)
+        self.browser.open(self.folder / "big.html")
+        opened = self.browser.run("performance.getEntriesByType('navigation')[0].domContentLoadedEventEnd")
+        waits = self.browser.run("""(() => {
+            const box = document.querySelector(".long-list"), waits = [];
+            for (let i = 0; i < 50; i++) {
+                const before = performance.now();
+                box.scrollTop = (box.scrollHeight - box.clientHeight) * (i * 37 % 50) / 49;
+                box.dispatchEvent(new Event("scroll"));
+                box.getBoundingClientRect();
+                waits.push(performance.now() - before);
+            }
+            return waits.sort((a, b) => a - b);
+        })()""")
+        print(f"100,000 hits: opened in {opened:.0f} ms, a scroll takes {waits[25]:.1f} ms, the longest {waits[-1]:.1f} ms")
+        self.assertLess(self.browser.run("document.querySelectorAll('.rows .row').length"), 60)
+        # Generous bounds, for machines that do other things too.
+        self.assertLess(opened, 5_000)
+        self.assertLess(waits[25], 200)
+        last = self.browser.run("(() => { const box = document.querySelector('.long-list'); box.scrollTop = box.scrollHeight; "
+                                "box.dispatchEvent(new Event('scroll')); return Math.max(...[...document.querySelectorAll("
+                                "'.rows .row')].map(row => row.getBoundingClientRect().bottom)) <= box.getBoundingClientRect().bottom + 2; })()")
+        self.assertTrue(last, "the last row isn't at the lower end")
+
+    def test_a_letter_picks_its_hits(self) -> None:
+        page = self.folder / "letters.html"
+        page_of(ROOT / "scripts" / "joseki.script", page)
+        self.browser.open(page)
+        self.browser.run("document.querySelector('#line-12 .pick').click()")
+        self.assertEqual(self.browser.run("document.querySelector('[data-search=\"12\"] .told').textContent"), "11 of 14 hits")
+
     def test_variations_are_stepped_through(self) -> None:
         (self.folder / "v.script").write_text("game 0\n")
         program = program_that_tells(

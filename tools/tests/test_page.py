@@ -94,7 +94,8 @@ class Pages(unittest.TestCase):
     def test_a_program_that_ends_with_a_code(self) -> None:
         program = program_that_tells(self.folder / "program", "", 1, "gobase: line 2 of the script is not a statement\n")
         text = self.page("wait\nserch <X>\n", asked=program)
-        self.assertIn("The program ended with code 1: gobase: line 2 of the script is not a statement", text)
+        self.assertIn("The program ended with code 1: gobase: line 2 of the script is not a statement: serch &lt;X&gt;", text)
+        self.assertNotIn("no output of gobase", text)
 
     def test_a_record_that_is_cut_off(self) -> None:
         (self.folder / "record").write_text("1 search version 1 games 15 hits 3\nhit 11 9 9 0 1 B 7 2 later\nhit 11 40 0 0 1")
