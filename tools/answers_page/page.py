@@ -108,7 +108,8 @@ def body(made: Made) -> str:
 
 def page(made: Made) -> str:
     style, script = (HERE / "page.css").read_text(), page_script()
-    policy = f"default-src 'none'; script-src {own_hash(script)}; style-src {own_hash(style)}; base-uri 'none'; form-action 'none'"
+    policy = (f"default-src 'none'; script-src {own_hash(script)}; style-src {own_hash(style)}; "
+              "base-uri 'none'; form-action 'none'")
     games = {number: replayable(game.record.sgf) for number, game in made.games.shown.items()}
     title = made.script.heading.partition("\n\n")[0] or f"Answers to {made.name}"
     return f"""<!DOCTYPE html>

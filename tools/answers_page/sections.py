@@ -12,8 +12,8 @@ from .continuations import Continuation, continuations
 from .program import ShownGame
 from .record import Record
 from .script import Question
-from .words import (COLOURS, FAULTS, label_words, letter, often, point_words, question_words, search_words,
-                    shown, times)
+from .words import (COLOURS, FAULTS, label_words, often, point_words, question_words, search_words, shown,
+                    times)
 
 # So many continuations stand in the table at once, and so many have their letters on the board.
 FIRST_ROWS, MOST_LETTERS = 8, 26
@@ -326,11 +326,13 @@ NEXTS = ["by the next move", "later", "not at all"]
 def collector(one: Collector) -> str:
     count = len(one.numbers)
     if one.word == "total" and count == 1:
-        return f"<div><h3>Hits of all searches so far</h3><p class=\"big\">{one.numbers[0]:,}</p></div>"
+        return f'<div><h3>Hits of all searches so far</h3><p class="big">{one.numbers[0]:,}</p></div>'
     if one.word == "labels" and count == 16:
-        return f"<div class=\"broad\"><h3>How the pattern lay</h3>{words_chart([label_words(i) for i in range(16)], one.numbers)}</div>"
+        chart = words_chart([label_words(label) for label in range(16)], one.numbers)
+        return f'<div class="broad"><h3>How the pattern lay</h3>{chart}</div>'
     if one.word == "phases" and count == 31:
-        return f"<div class=\"broad\"><h3>Hits by tens of moves</h3><div class=\"scroll\">{phases_chart(one.numbers)}</div></div>"
+        return (f'<div class="broad"><h3>Hits by tens of moves</h3>'
+                f'<div class="scroll">{phases_chart(one.numbers)}</div></div>')
     if one.word == "outcomes" and count == 6:
         return f"<div><h3>Results of the games</h3>{words_chart(OUTCOMES, one.numbers)}</div>"
     if one.word == "nexts" and count == 3:

@@ -7,7 +7,7 @@ function makePlayers(place) {
   const head = element("div", "row head player");
   const columns = [["Player", (a, b) => collator.compare(a[3], b[3])], ["Games", (a, b) => b[0] - a[0]],
     ["Won", (a, b) => b[1] - a[1]], ["Lost", (a, b) => b[2] - a[2]],
-    ["Won, neither and lost", (a, b) => b[1] / b[0] - a[1] / a[0]]];
+    ["Results", (a, b) => b[1] / b[0] - a[1] / a[0]]];
   const makeRow = i => {
     const [count, wins, losses, name] = players[order[i]];
     const bar = svg("svg", {class: "results", viewBox: "0 0 100 10", preserveAspectRatio: "none", "aria-hidden": "true"},

@@ -76,13 +76,6 @@ def letter(index: int) -> str:
     return text
 
 
-def column_name(column: int) -> str:
-    """Columns of a board are lettered from A, without I; behind Z come AA, AB and so on."""
-    letters = "ABCDEFGHJKLMNOPQRSTUVWXYZ"
-    text = letters[column % 25]
-    return text if column < 25 else letters[column // 25 - 1] + text
-
-
 def in_corner(question: Question) -> bool:
     return question.at == (0, 0, 0, 0)
 

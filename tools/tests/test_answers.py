@@ -132,7 +132,8 @@ collector nexts nexts 0 0 2
 3 retire labels none
 """)
         report, gone, none = record.answers
-        self.assertEqual(report.collectors, [kinds.Collector("hits", "total", (2,)), kinds.Collector("nexts", "nexts", (0, 0, 2))])
+        self.assertEqual(report.collectors, [kinds.Collector("hits", "total", (2,)),
+                                             kinds.Collector("nexts", "nexts", (0, 0, 2))])
         self.assertEqual((gone.gone, none.gone), (True, False))
 
     def test_reports_of_imports(self) -> None:
@@ -162,10 +163,11 @@ total 0 0 0 0 0 0
         self.assertEqual([type(a) for a in record.answers], [kinds.Import, kinds.Search, kinds.Imported])
 
     def test_a_statement_that_is_not_known(self) -> None:
-        tree = self_answer = read("tree 12\nwait", "1 tree version 1 nodes 2\nbranch a\nbranch b\n2 wait version 0\n").answers
-        self.assertIsInstance(tree[0], kinds.Plain)
-        self.assertEqual(self_answer[0].extra, ["branch a", "branch b"])
-        self.assertIsInstance(tree[1], kinds.Wait)
+        record = read("tree 12\nwait", "1 tree version 1 nodes 2\nbranch a\nbranch b\n2 wait version 0\n")
+        tree, wait = record.answers
+        self.assertIsInstance(tree, kinds.Plain)
+        self.assertEqual(tree.extra, ["branch a", "branch b"])
+        self.assertIsInstance(wait, kinds.Wait)
 
 
 class CutOff(unittest.TestCase):

@@ -6,6 +6,7 @@ table of docs/SCRIPT.md.
 """
 from __future__ import annotations
 
+import subprocess
 import tempfile
 import unittest
 from pathlib import Path
@@ -16,7 +17,7 @@ from answers_page.record import read_record
 from answers_page.script import Question, read_script
 
 from .browser import Browser, find_browser
-from .samples import ROOT, page_of, program_that_tells, scripts
+from .samples import ROOT, page_of, program, program_that_tells, scripts
 from .test_page import hostile_page
 
 # Opens a hit by its address, and tells the stones of the board at its node, with the pattern turned back,
@@ -115,9 +116,6 @@ class InBrowser(unittest.TestCase):
 
     def searches(self, script: Path, page: Path) -> list[Search]:
         """The searches of a script, as the program answers it."""
-        import subprocess
-
-        from .samples import program
         output = subprocess.run([program()], input=script.read_bytes(), cwd=ROOT, capture_output=True, check=True).stdout
         record = read_record(output.decode(), read_script(script.read_text()))
         return [answer for answer in record.answers if isinstance(answer, Search)]
@@ -169,11 +167,11 @@ class InBrowser(unittest.TestCase):
             ["1 search version 1 games 2000 hits 100000", *hits, "total 100000 100000 0 0 0 100000"]) + "\n")
         (self.folder / "big.script").write_text("search XO\n")
         moves = "".join(f";{'BW'[i % 2]}[{chr(97 + i % 19)}{chr(97 + i // 19)}]" for i in range(200))
-        games = "".join(f"{game + 2} game {game} version 1 place 0 file a.sgf\n(;GM[1]FF[4]SZ[19]PB[P {game % 7}]DT[{1950 + game % 70}]{moves})\n"
-                        for game in range(2_000))
-        program = program_that_tells(self.folder / "big-program", "1 wait version 1\n" + games)
+        games = "".join(f"{game + 2} game {game} version 1 place 0 file a.sgf\n"
+                        f"(;GM[1]FF[4]SZ[19]PB[P {game % 7}]DT[{1950 + game % 70}]{moves})\n" for game in range(2_000))
+        told = program_that_tells(self.folder / "big-program", "1 wait version 1\n" + games)
         page_of(self.folder / "big.script", self.folder / "big.html", "--output", str(self.folder / "big"),
-                asked=program, folder=self.folder)
+                asked=told, folder=self.folder)
         self.browser.open(self.folder / "big.html")
         opened = self.browser.run("performance.getEntriesByType('navigation')[0].domContentLoadedEventEnd")
         waits = self.browser.run("""(() => {
@@ -192,10 +190,14 @@ class InBrowser(unittest.TestCase):
         # Generous bounds, for machines that do other things too.
         self.assertLess(opened, 5_000)
         self.assertLess(waits[25], 200)
-        last = self.browser.run("(() => { const box = document.querySelector('.long-list'); box.scrollTop = box.scrollHeight; "
-                                "box.dispatchEvent(new Event('scroll')); return Math.max(...[...document.querySelectorAll("
-                                "'.rows .row')].map(row => row.getBoundingClientRect().bottom)) <= box.getBoundingClientRect().bottom + 2; })()")
-        self.assertTrue(last, "the last row isn't at the lower end")
+        below = self.browser.run("""(() => {
+            const box = document.querySelector(".long-list");
+            box.scrollTop = box.scrollHeight;
+            box.dispatchEvent(new Event("scroll"));
+            const ends = [...document.querySelectorAll(".rows .row")].map(row => row.getBoundingClientRect().bottom);
+            return Math.max(...ends) - box.getBoundingClientRect().bottom;
+        })()""")
+        self.assertLess(abs(below), 4, "the last row isn't at the lower end")
 
     def test_a_letter_picks_its_hits(self) -> None:
         page = self.folder / "letters.html"
@@ -206,9 +208,9 @@ class InBrowser(unittest.TestCase):
 
     def test_variations_are_stepped_through(self) -> None:
         (self.folder / "v.script").write_text("game 0\n")
-        program = program_that_tells(
+        told = program_that_tells(
             self.folder / "v", "1 game 0 version 1 place 0 file a.sgf\n(;GM[1]FF[4]SZ[3];B[bb](;W[ba];B[ab])(;W[aa];AE[bb]))\n")
-        page_of(self.folder / "v.script", self.folder / "v.html", asked=program, folder=self.folder)
+        page_of(self.folder / "v.script", self.folder / "v.html", asked=told, folder=self.folder)
         self.browser.open(self.folder / "v.html")
         self.browser.run("document.querySelector('.open').click(); document.getElementById('step-on').click()")
         chips = self.browser.run("[...document.querySelectorAll('#viewer-variations button')].map(b => b.textContent)")

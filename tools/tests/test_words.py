@@ -39,10 +39,6 @@ class Labels(unittest.TestCase):
         self.assertEqual([words.letter(i) for i in (0, 1, 25, 26, 27, 51, 52, 701, 702)],
                          ["A", "B", "Z", "AA", "AB", "AZ", "BA", "ZZ", "AAA"])
 
-    def test_columns(self) -> None:
-        self.assertEqual([words.column_name(i) for i in (0, 7, 8, 18, 24, 25, 51)],
-                         ["A", "H", "J", "T", "Z", "AA", "BB"])
-
 
 class Questions(unittest.TestCase):
     def test_places(self) -> None:
@@ -88,7 +84,8 @@ class Pictures(unittest.TestCase):
 
 class Games(unittest.TestCase):
     def test_information_and_moves(self) -> None:
-        game = read_game("(;GM[1]FF[4]SZ[9:13]PB[A \\] B]PW[<b>]DT[2003-04-12,13]RE[B+2];B[cc](;AW[dd];W[](;B[ab])(;W[aa]))(;W[bb]))")
+        game = read_game("(;GM[1]FF[4]SZ[9:13]PB[A \\] B]PW[<b>]DT[2003-04-12,13]RE[B+2]"
+                         ";B[cc](;AW[dd];W[](;B[ab])(;W[aa]))(;W[bb]))")
         self.assertEqual((game.columns, game.rows, game.black, game.white, game.result), (9, 13, "A ] B", "<b>", "B+2"))
         self.assertEqual(game.moves, (0, 1, 1, 2, 3, 3, 2))
         self.assertEqual(game.length, 3)
