@@ -50,7 +50,7 @@ class Hits {
     this.filter.setAttribute("aria-label", "Show hits with this text");
     this.filter.addEventListener("input", again);
     this.sort = select(Object.entries(SORTS), "Order", again);
-    const follows = [["", "however it went on"],
+    const follows = [["", "all hits"],
       ...this.letters.map(([letter, colour], i) => [i, `${letter}: ${colour === "B" ? "Black" : "White"}`]),
       ["-1", "didn’t go on inside"]];
     this.follows = select(follows, "How it went on", again);
