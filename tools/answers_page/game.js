@@ -25,11 +25,11 @@ function columnName(x) {
 }
 
 class Game {
-  // `text` is a game as gobase prints it.
+  // `text` is a game as gobase prints it, where `~abcdefgh` may stand for `;B[ab];W[cd];B[ef];W[gh]`.
   constructor(text) {
     this.columns = this.rows = 19;
     this.nodes = [];
-    this.read(text);
+    this.read(text.replace(/~((?:[A-Za-z]{4})+)/g, (_, points) => points.replace(/(..)(..)/g, ";B[$1];W[$2]")));
     if (this.nodes.length === 0) this.addNode(-1);
   }
 

@@ -100,18 +100,11 @@ class Hits {
   ranks(sort) {
     const text = {players: playersOf, event: told => told[EVENT], result: told => told[RESULT]}[sort];
     const day = told => (sort === "newest" ? -told[DAY] : told[DAY] || 99999999);
-    const ranks = new Map(), entries = Object.entries(data.games);
-    if (!text) {
-      for (const [number, told] of entries) ranks.set(Number(number), day(told));
-      return ranks;
-    }
-    entries.sort((a, b) => collator.compare(text(a[1]), text(b[1])));
-    let rank = 0;
-    entries.forEach(([number, told], i) => {
-      if (i > 0 && text(told) !== text(entries[i - 1][1])) rank = i;
-      ranks.set(Number(number), rank);
-    });
-    return ranks;
+    const entries = Object.entries(data.games);
+    if (!text) return new Map(entries.map(([number, told]) => [Number(number), day(told)]));
+    const texts = entries.map(([number, told]) => [Number(number), text(told)]);
+    const places = new Map([...new Set(texts.map(one => one[1]))].sort(collator.compare).map((one, i) => [one, i]));
+    return new Map(texts.map(([number, one]) => [number, places.get(one)]));
   }
 
   keys() {

@@ -8,8 +8,11 @@ from __future__ import annotations
 import re
 from dataclasses import dataclass
 
-# A value with its brackets, an identifier, or one of ( ) ; between them. Every other byte is skipped.
-TOKEN = re.compile(r"\[((?:[^\]\\]|\\.)*)\]|([A-Z]+)|([();])", re.S)
+# A bracket of the tree, or a node with its properties. Every other byte is skipped.
+PART = re.compile(r"([()])|;((?:[^\[\]();]+|\[(?:[^\]\\]|\\.)*\])*)", re.S)
+PROPERTY = re.compile(r"([A-Z]*)\s*\[((?:[^\]\\]|\\.)*)\]", re.S)
+# Behind the root there are points alone, so that no text can look like a move.
+MOVE = re.compile(r"(?:^|[\]\s])[BW]\[")
 DAY = re.compile(r" *(\d{4})(?:-(\d\d))?(?:-(\d\d))?(?![\d-])")
 SIZE = re.compile(r"(\d{1,2})(?::(\d{1,2}))?$")
 
@@ -37,6 +40,9 @@ class GameRecord:
 # What only informs: the page has it elsewhere, cut to a length.
 INFORMATION = re.compile(r"(?:GM|FF|PB|PW|EV|PC|DT|RE)\[(?:[^\]\\]|\\.)*\]", re.S)
 
+POINT = re.compile(r"\[(..)\]")
+PAIRS = re.compile(r"(?:;B\[[A-Za-z]{2}\];W\[[A-Za-z]{2}\])+")
+
 FIELDS = {"PB": "black", "PW": "white", "EV": "event", "PC": "place", "DT": "date", "RE": "result"}
 
 
@@ -45,8 +51,12 @@ def unescape(value: str) -> str:
 
 
 def replayable(sgf: str) -> str:
-    """The text without its information: size, stones and moves."""
-    return INFORMATION.sub("", sgf).encode("ascii", "replace").decode()
+    """Size, stones and moves of a game, for the page's script, as SGF that is packed a little.
+
+    `;B[ab];W[cd];B[ef];W[gh]` is written `~abcdefgh`.
+    """
+    bare = INFORMATION.sub("", sgf).encode("ascii", "replace").decode()
+    return PAIRS.sub(lambda pairs: "~" + "".join(POINT.findall(pairs[0])), bare)
 
 
 def read_size(value: str) -> tuple[int, int] | None:
@@ -58,33 +68,36 @@ def read_size(value: str) -> tuple[int, int] | None:
     return (columns, rows) if 1 <= columns <= 52 and 1 <= rows <= 52 else None
 
 
+def read_root(game: GameRecord, properties: str) -> bool:
+    """Takes the information of the root, and tells whether it has a move."""
+    moves = False
+    for name, value in PROPERTY.findall(properties):
+        moves = moves or name in ("B", "W")
+        if name in FIELDS:
+            setattr(game, FIELDS[name], unescape(value))
+        elif name == "SZ" and (size := read_size(value)):
+            game.columns, game.rows = size
+    return moves
+
+
 def read_game(sgf: str) -> GameRecord:
     game = GameRecord(sgf)
     moves: list[int] = []
     # The move numbers to go back to where a variation ends.
     branches: list[int] = []
-    current, name = 0, ""
-    for match in TOKEN.finditer(sgf):
-        value, identifier, mark = match.groups()
-        if identifier:
-            name = identifier
-            if name in ("B", "W") and moves:
-                current += 1
-                moves[-1] = current
-        elif mark == "(":
+    current = 0
+    for mark, properties in PART.findall(sgf):
+        if mark == "(":
             branches.append(current)
         elif mark == ")":
             # The main line stands first, and ends with the first bracket.
             game.length = game.length or current
-            if branches:
-                current = branches.pop()
-        elif mark == ";":
+            current = branches.pop() if branches else current
+        elif read_root(game, properties) if not moves else MOVE.search(properties):
+            current += 1
             moves.append(current)
-        elif len(moves) == 1 and value is not None:
-            if name in FIELDS:
-                setattr(game, FIELDS[name], unescape(value))
-            elif name == "SZ" and (size := read_size(value)):
-                game.columns, game.rows = size
+        else:
+            moves.append(current)
     game.moves = tuple(moves)
     return game
 
