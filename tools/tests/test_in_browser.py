@@ -6,6 +6,7 @@ table of docs/SCRIPT.md.
 """
 from __future__ import annotations
 
+import random
 import subprocess
 import tempfile
 import unittest
@@ -17,8 +18,8 @@ from answers_page.record import read_record
 from answers_page.script import Question, read_script
 
 from .browser import Browser, find_browser
-from .samples import ROOT, page_of, program, program_that_tells, scripts
-from .test_page import hostile_page
+from .samples import NATIVE, ROOT, page_of, program, program_that_tells, scripts
+from .test_page import ENDING, MARKUP, hostile_page
 
 # Opens a hit by its address, and tells the stones of the board at its node, with the pattern turned back,
 # and at the node before.
@@ -69,6 +70,24 @@ def holds(cells: dict[tuple[int, int], str], stones: dict[str, str]) -> bool:
     return all(stones.get(f"{x},{y}") in allowed[cell] for (x, y), cell in cells.items())
 
 
+def game_at_random(numbers: random.Random, columns: int, rows: int) -> str:
+    """A game with setup stones and variations, in which points are played again and again."""
+    def point() -> str:
+        return f"[{chr(97 + numbers.randrange(columns))}{chr(97 + numbers.randrange(rows))}]"
+
+    def line(moves: int, colour: int) -> str:
+        text = ""
+        for i in range(moves):
+            text += f";{'BW'[(colour + i) % 2]}{point()}"
+            if numbers.random() < 0.06:
+                text += f";AE{point()}"
+            if i > 4 and numbers.random() < 0.12:
+                return text + "".join(f"({line(moves - i - 1, colour + i + 1)})" for _ in range(2) if moves - i > 1)
+        return text
+
+    return f"(;SZ[{columns}:{rows}]AB{point()};AW{point()}{line(26, 0)})"
+
+
 @unittest.skipUnless(find_browser(), "tools/install_browser.sh installs the browser")
 class InBrowser(unittest.TestCase):
     browser: Browser
@@ -96,27 +115,45 @@ class InBrowser(unittest.TestCase):
         corner = Hit(0, 0, round(left - 24 / 28), round(top - 24 / 28), 0, None, False)
         self.assertTrue(holds(cells_of(question, corner), told["turned"]), "turned back, it isn't as drawn")
 
+    def check_hits_of(self, script: Path, folder: Path) -> int:
+        """Checks each hit of each search of a script, and tells how many they were."""
+        page, checked = self.folder / f"{script.stem}.html", 0
+        page_of(script, page, folder=folder)
+        self.browser.open(page)
+        for search in self.searches(script, folder):
+            shown = self.browser.run(f"document.querySelector('[data-search=\"{search.statement.line}\"] .told')"
+                                     "?.textContent ?? '0 hits'")
+            self.assertEqual(shown.split()[0], f"{len(search.hits):,}")
+            for number, hit in enumerate(search.hits, start=1):
+                with self.subTest(script=script.name, line=search.statement.line, hit=number):
+                    told = self.browser.run(f"({LOOK})({search.statement.line}, {number})")
+                    self.check_hit(search.statement.question, hit, told)
+                    checked += 1
+        self.assertEqual(self.browser.complaints(), [])
+        return checked
+
     def test_each_hit_of_the_sample_scripts(self) -> None:
-        checked = 0
-        for script in scripts():
-            page = self.folder / f"{script.stem}.html"
-            page_of(script, page)
-            self.browser.open(page)
-            for search in self.searches(script, page):
-                shown = self.browser.run(f"document.querySelector('[data-search=\"{search.statement.line}\"] .told')"
-                                         "?.textContent ?? '0 hits'")
-                self.assertEqual(shown.split()[0], str(len(search.hits)))
-                for number, hit in enumerate(search.hits, start=1):
-                    with self.subTest(script=script.name, line=search.statement.line, hit=number):
-                        told = self.browser.run(f"({LOOK})({search.statement.line}, {number})")
-                        self.check_hit(search.statement.question, hit, told)
-                        checked += 1
-            self.assertEqual(self.browser.complaints(), [])
+        checked = sum(self.check_hits_of(script, ROOT) for script in scripts())
+        print(f"{checked} hits of the sample scripts were looked at")
         self.assertGreater(checked, 100)
 
-    def searches(self, script: Path, page: Path) -> list[Search]:
+    @unittest.skipUnless(NATIVE.exists(), "wants the native program")
+    def test_hits_in_games_at_random(self) -> None:
+        """Boards that aren't square, variations, setup stones, captures, and patterns in all labels."""
+        numbers = random.Random(7)
+        (self.folder / "random").mkdir()
+        for number, size in enumerate([(4, 6), (5, 5), (6, 4), (7, 7), (3, 8), (5, 5)]):
+            (self.folder / "random" / f"{number}.sgf").write_text(game_at_random(numbers, *size))
+        searches = ["search at 0 0 .x/oX", "search XO./oX.", "search at 1 0 to 4 0 .X./*O*", "search OX/XO/..", "search at 0 1 X/O/."]
+        script = self.folder / "random.script"
+        script.write_text("\n".join(["import random", "wait", *searches]) + "\n")
+        checked = self.check_hits_of(script, self.folder)
+        print(f"{checked} hits in games at random were looked at")
+        self.assertGreater(checked, 50)
+
+    def searches(self, script: Path, folder: Path) -> list[Search]:
         """The searches of a script, as the program answers it."""
-        output = subprocess.run([program()], input=script.read_bytes(), cwd=ROOT, capture_output=True, check=True).stdout
+        output = subprocess.run([program()], input=script.read_bytes(), cwd=folder, capture_output=True, check=True).stdout
         record = read_record(output.decode(), read_script(script.read_text()))
         return [answer for answer in record.answers if isinstance(answer, Search)]
 
@@ -134,6 +171,27 @@ class InBrowser(unittest.TestCase):
             wide = self.browser.run("document.documentElement.scrollWidth")
             self.assertLessEqual(wide, width, "a text makes the page wider than the screen")
         self.browser.size(1280, 900)
+        self.assertEqual(self.browser.complaints(), [])
+
+    @unittest.skipUnless(NATIVE.exists(), "wants the native program")
+    def test_a_hostile_game(self) -> None:
+        """The same through the program: a file whose name and texts are markup, bytes that are no UTF-8, and long."""
+        (self.folder / "hostile").mkdir()
+        game = (b"(;SZ[5]PB[" + MARKUP.encode() + b"]PW[" + ENDING.encode() + b"]EV[\xff\xfe caf\xe9]PC[" + b"W" * 10_000
+                + b"]DT[2020-01-01\"'<]RE[B+<b>R]C[" + MARKUP.encode() + b"];B[cc];W[bc]C[" + ENDING.encode() + b"])")
+        (self.folder / "hostile" / "<b>a&quot;\n2 wait version 9.sgf").write_bytes(game)
+        (self.folder / "hostile" / "<i>broken.sgf").write_bytes(b"(;B[")
+        script = self.folder / "hostile.script"
+        script.write_text("import hostile\n\nwait\nsearch X\nplayers\ngame 0\n")
+        page = self.folder / "hostile.html"
+        page_of(script, page, folder=self.folder)
+        self.browser.open(page)
+        self.browser.run("document.querySelector('.hits .rows .row').click()")
+        self.assertNotEqual(self.browser.run("document.title"), "ran")
+        self.assertEqual(self.browser.run("document.querySelectorAll('img, main script, b, i').length"), 0)
+        self.assertIn("<img src=x", self.browser.run("document.getElementById('viewer-players').textContent"))
+        self.assertIn("<i>broken.sgf", self.browser.run("document.querySelector('.faults').textContent"))
+        self.assertLessEqual(self.browser.run("document.documentElement.scrollWidth"), 1280)
         self.assertEqual(self.browser.complaints(), [])
 
     def test_the_policy_stops_a_script_that_slipped_in(self) -> None:
