@@ -155,7 +155,7 @@ def search_words(answer: Search) -> str:
     text = f"Found {often(answer.expected)}, in {with_hits:,} of {times(answer.games, 'game')}"
     if total is None:
         return text + "."
-    when = [f"{name} {often(count)}" for name, count in (("at once", total.now), ("later", total.later)) if count]
+    when = [f"{name} in {times(count, 'hit')}" for name, count in (("at once", total.now), ("later", total.later)) if count]
     went_on = f"play went on inside the pattern {' and '.join(when)}" if when else "play never went on inside the pattern"
     return (f"{text}: {went_on}; the pattern’s black won {total.black:,}, its white {total.white:,}, "
             f"neither {total.other:,}.")

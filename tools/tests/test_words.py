@@ -5,7 +5,8 @@ import unittest
 
 from answers_page import words
 from answers_page.boards import Edges, edges_of, phases_chart, pattern_svg, results_bar
-from answers_page.script import read_question, split_words
+from answers_page.record import read_record
+from answers_page.script import read_question, read_script, split_words
 from answers_page.sections import signature_words
 from answers_page.sgf import day_of, read_game
 
@@ -57,6 +58,13 @@ class Questions(unittest.TestCase):
         self.assertEqual(words.question_words(asked),
                          "2 by 2 points in a corner, also turned and mirrored, colours as drawn, on main lines alone, "
                          "on boards of 19 by 19, at moves 1 to 45. Only games with Black called “Tom” and a draw as result.")
+
+    def test_totals(self) -> None:
+        record = read_record("1 search version 1 games 15 hits 2\nhit 4 1 0 0 0 B 0 0 now\nhit 4 9 0 0 0 -\n"
+                             "row B 0 0 1 1 0 0 1 0\ntotal 2 1 0 0 1 1\n", read_script("search X"))
+        self.assertEqual(words.search_words(record.answers[0]),
+                         "Found twice, in 1 of 15 games: play went on inside the pattern at once in 1 hit; "
+                         "the pattern’s black won 0, its white 1, neither 1.")
 
     def test_signature(self) -> None:
         self.assertEqual(signature_words("dfhb********"), "move 20: column 4, row 6; move 40: column 8, row 2")
