@@ -1,5 +1,5 @@
-# The three commands of the README, and `edits`, which edits/README.md describes. They want the
-# toolchain's command `rt`, and bash.
+# The three commands of the README, `page`, which docs/TOUR.md shows, and `edits`, which edits/README.md
+# describes. They want the toolchain's command `rt`, and bash; `page` wants python3.
 
 PROGRAM := build/gobase
 SCRIPT := scripts/joseki.script
@@ -10,7 +10,7 @@ GAMES := $(wildcard games/*.sgf)
 # The programs that answer worked examples, or those of them that are named.
 CASES := $(notdir $(wildcard crates/*_cases))
 
-.PHONY: run build test cases edits
+.PHONY: run build page test cases edits
 
 # Answers the script over the sample games, by the native program where it is there, else by a run without
 # a proof, which works on copies of the games and tells on standard error how it ended.
@@ -28,6 +28,14 @@ build:
 	cd crates/gobase && rt run </dev/null
 	mkdir -p build
 	cp crates/gobase/out/gobase $(PROGRAM)
+
+# A page of HTML for each sample script, in build/pages/: its answers as boards to look at.
+page:
+	@[ -x $(PROGRAM) ] || { echo "make page wants $(PROGRAM): make build makes it" >&2; exit 2; }
+	@mkdir -p build/pages
+	@for script in scripts/*.script; do \
+	    python3 tools/page.py --program $(PROGRAM) $$script > build/pages/$$(basename $$script .script).html || exit 1; \
+	done
 
 # The gate: every proof, every worked example and test, every edit of must-fail/, and the stored run of the
 # program.
