@@ -18,19 +18,18 @@ use case_files::{Case, CaseError, Kinds};
 use kb_geometry::append;
 use std::alloc::Global;
 use std::io;
-use std::rt::{Env, Files};
 use std::sync::Wait;
 use std::thread::Threads;
 
 // What answers cases, and says whether there was memory. It is a closure that holds the runtime, since a
 // bound `Sync` says nothing in the `impl` of a trait.
 #[derive(Drop)]
-struct RunKinds<F: Fn(Global, &Case<'_>, &mut Vec<u8>) -> bool> {
-    answer: F,
-    ghost callable: { F.IsAlwaysCallable answer },
+struct RunKinds {
+    answer: Box<dyn Fn(Global, &Case<'_>, &mut Vec<u8>) -> bool + Drop>,
+    ghost callable: { IsAlwaysCallable answer },
 }
 
-impl<F: Fn(Global, &Case<'_>, &mut Vec<u8>) -> bool> Kinds for RunKinds<F> {
+impl Kinds for RunKinds {
     fn answer(&self, alloc: Global, case: &Case<'_>, out: &mut Vec<u8>) -> Result<(), CaseError> {
         if (self.answer)(alloc, case, out) {
             Ok(())
@@ -77,17 +76,14 @@ fn answer<R: Threads + Wait + Sync>(
     }
 }
 
-// Answers the cases of the files that the command line names.
-fn run_all<R: Files + Env + Print + AllocGlobal + Threads + Wait + Sync>(rt: &R) -> io::Result<()> {
-    let kinds = RunKinds {
-        answer: |alloc: Global, case: &Case<'_>, out: &mut Vec<u8>| {
-            answer_or_tell(rt, alloc, case, out)
-        },
-    };
-    case_files::run_files(rt, &kinds)?;
-    Ok(())
-}
-
 fn main(rt: HostRuntime) -> io::Result<()> {
-    run_all(&rt)
+    let own = rt.clone()?;
+    let answer_one = move |alloc: Global, case: &Case<'_>, out: &mut Vec<u8>| -> bool {
+        answer_or_tell(&own, alloc, case, out)
+    };
+    let kinds = RunKinds {
+        answer: Box::new(rt.alloc(), answer_one)?,
+    };
+    case_files::run_files(&rt, &kinds)?;
+    Ok(())
 }
