@@ -1,5 +1,5 @@
 // How a game goes on at a node where a placement holds.
-ghost use Rattle.std.specs.Prelude.{◌<◌, length};
+ghost use Rattle.std.specs.Prelude.{◌≡◌};
 
 use crate::asked::{number_or, query_of, value_of};
 use crate::texts::{colour_name, point_of, put, put_point};
@@ -24,9 +24,6 @@ pub(crate) fn answer(
     let node = number_or(asked, "node", 0)?;
     let images = images(alloc, &query, game.tree().shape())?;
     let i = placement_at(&images, point, label)?;
-    if node >= game.tree().node_count() {
-        return Err(CaseError::Bad("no such node"));
-    }
     put_next(out, next_at(game, &images, i, node)?)
 }
 
@@ -36,10 +33,15 @@ pub(crate) fn next_at(
     images: &Images,
     i: usize,
     node: u32,
-) -> Result<Option<Next>, CaseError> {
+) -> Result<Option<Next>, CaseError>
+    requires { images.now.shape ≡ game.now.tree.shape }
+{
     let tree = game.tree();
-    if images.shape() != tree.shape() || i >= images.len() || node >= tree.node_count() {
-        return Err(CaseError::Bad("no such placement or node"));
+    if i >= images.len() {
+        return Err(CaseError::Bad("no such placement"));
+    }
+    if node >= tree.node_count() {
+        return Err(CaseError::Bad("no such node"));
     }
     let place = images.place(i);
     Ok(next_of(tree, game.deltas(), images, &Found { node, place }))

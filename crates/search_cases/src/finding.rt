@@ -3,7 +3,7 @@ ghost use Rattle.std.specs.Prelude.{◌≡◌, ◌<◌, ◌+◌, ◌≤◌, leng
 
 use crate::asked::{has_word, query_of, value_of};
 use crate::plain::Held;
-use crate::texts::{end_list, number_of, put, put_number, put_point, separate};
+use crate::texts::{end_list, number_of, put, put_count, put_number, put_point, separate};
 use crate::walks::{
     Expected, compare, compare_at_candidates, compare_runs, compare_walks, found_at,
 };
@@ -61,7 +61,7 @@ fn put_told(
     out: &mut Vec<u8>,
 ) -> Result<(), CaseError> {
     if has_word(asked, "count") {
-        return put_number(out, found.len() as u32);
+        return put_count(out, found.len());
     }
     if has_word(asked, "numbers") {
         return put_placements(out, images, found);
@@ -77,7 +77,7 @@ fn put_placements(out: &mut Vec<u8>, images: &Images, found: &[Found]) -> Result
         put_number(out, *node)?;
         put(out, " ")?;
         let number = continuation_table::number_of_place(images, *place);
-        put_number(out, number as u32)?;
+        put_count(out, number)?;
     }
     end_list(out, start)
 }

@@ -5,19 +5,19 @@ use crate::asked::{Given, given_of, has_word, query_of, value_of};
 use crate::continuations::{next_at, put_next};
 use crate::games::{merged_all, segments_of, segments_to};
 use crate::tables::put_table;
-use crate::texts::{end_list, outcome_name, put, put_number, put_point, separate};
+use crate::texts::{end_list, outcome_name, put, put_count, put_number, put_point, separate};
 use crate::versions::{merged_version, version_of};
-use capture_board::Steps;
+use crate::walks::segment_hits;
 use case_files::{Case, CaseError};
 use continuation_table::number_of_place;
 use game_tree::Bytes;
 use info_filter::{Condition, ConditionList, Filter};
 use pattern_images::{Hit, Query, images};
-use search_engine::{Answer, find_game, search, search_segment};
+use search_engine::{Answer, find_game, search};
 use segment_store::Segment;
 use std::alloc::Global;
 use std::marker::Brand;
-use std::sync::ledger::{Blank, Ledger};
+use std::sync::ledger::Blank;
 use std::thread::Threads;
 use version_publisher::Version;
 
@@ -72,7 +72,7 @@ fn compare_segment(
     out: &mut Vec<u8>,
 ) -> Result<(), CaseError> {
     let all = merged_all(alloc, parts)?;
-    let found = hits_from::<Brand>(alloc, asked, &all, 7, Blank::new(1))?;
+    let found = hits_from_seven(alloc, asked, &all)?;
     let mut moved = Vec::new(alloc);
     for hit in hits {
         let game = hit.game.saturating_add(7);
@@ -84,24 +84,12 @@ fn compare_segment(
     Ok(())
 }
 
-fn hits_from<L: Ledger>(
-    alloc: Global,
-    asked: &str,
-    part: &Segment,
-    first: u32,
-    blank: Blank,
-) -> Result<Vec<Hit>, CaseError>
-    requires name { blank.name ≡ L.name }
-    requires parts { blank.parts ≡ L.parts }
-    requires some { 0 < blank.parts }
-{
-    if u64::from(first) + u64::from(part.game_count()) > 400_000 {
-        return Err(CaseError::Bad("too many games"));
-    }
+// The hits in the segment of all games, numbered from 7 on.
+fn hits_from_seven(alloc: Global, asked: &str, part: &Segment) -> Result<Vec<Hit>, CaseError> {
     let query = query_of(alloc, asked)?;
     let filter = filter_of(alloc, asked)?;
-    let mut steps = Steps::<L>::new(blank);
-    Ok(search_segment(alloc, part, first, &query, &filter, &mut steps)?)
+    let hits = segment_hits::<Brand>(alloc, part, &query, &filter, Blank::new(1))?;
+    Ok(hits)
 }
 
 // Compares the continuation of each hit.
@@ -172,7 +160,7 @@ fn put_hit(out: &mut Vec<u8>, hit: &Hit) -> Result<(), CaseError> {
 // Appends the numbers of the games of hits: the first, the second and the last one, where all
 // are equally far apart.
 fn put_games(out: &mut Vec<u8>, hits: &[Hit]) -> Result<(), CaseError> {
-    put_number(out, hits.len() as u32)?;
+    put_count(out, hits.len())?;
     put(out, " at")?;
     let apart = match hits {
         [first, second, ..] => second.game.wrapping_sub(first.game),

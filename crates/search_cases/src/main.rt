@@ -20,28 +20,59 @@ mod versions;
 mod walks;
 
 use case_files::{Case, CaseError, Kinds};
+use kb_geometry::append;
 use segment_store::FinishedGame;
 use std::alloc::Global;
 use std::io;
 use std::thread::Threads;
 
-// The kinds of cases. A search over many games asks for threads.
-#[derive(Clone, Copy)]
-struct SearchKinds<'a, R> {
-    rt: &'a R,
+// What answers cases, and says whether there was memory. It is a closure that holds the runtime, since a
+// bound `Sync` says nothing in the `impl` of a trait.
+#[derive(Drop)]
+struct SearchKinds {
+    answer: Box<dyn Fn(Global, &Case<'_>, &mut Vec<u8>) -> bool + Drop>,
+    ghost callable: { IsAlwaysCallable answer },
 }
 
-impl<'a, R: Threads + Sync> Kinds for SearchKinds<'a, R> {
+impl Kinds for SearchKinds {
     fn answer(&self, alloc: Global, case: &Case<'_>, out: &mut Vec<u8>) -> Result<(), CaseError> {
-        match case.kind {
-            "blocks" => stored::blocks(alloc, case, out)?,
-            "table" => tables::answer(alloc, case, out)?,
-            "stored" => stored::games(alloc, case, out)?,
-            "hits" => hits::answer(self.rt, alloc, case, out)?,
-            _ => of_games(alloc, case, out)?,
+        if (self.answer)(alloc, case, out) {
+            Ok(())
+        } else {
+            Err(CaseError::NoMemory)
         }
-        Ok(out.push(b'\n')?)
     }
+}
+
+// Answers a case, where it isn't in the form of its kind with what is wrong.
+fn answer_or_tell<R: Threads + Sync>(
+    rt: &R,
+    alloc: Global,
+    case: &Case<'_>,
+    out: &mut Vec<u8>,
+) -> bool {
+    match answer(rt, alloc, case, out) {
+        Ok(()) => true,
+        Err(CaseError::Bad(why)) => append(out, why.as_bytes()).is_ok(),
+        Err(CaseError::NoMemory) => false,
+    }
+}
+
+// A search over many games asks for threads.
+fn answer<R: Threads + Sync>(
+    rt: &R,
+    alloc: Global,
+    case: &Case<'_>,
+    out: &mut Vec<u8>,
+) -> Result<(), CaseError> {
+    match case.kind {
+        "blocks" => stored::blocks(alloc, case, out)?,
+        "table" => tables::answer(alloc, case, out)?,
+        "stored" => stored::games(alloc, case, out)?,
+        "hits" => hits::answer(rt, alloc, case, out)?,
+        _ => of_games(alloc, case, out)?,
+    }
+    Ok(out.push(b'\n')?)
 }
 
 // The kinds that ask something of the games of one segment.
@@ -89,5 +120,13 @@ fn of_a_game(
 }
 
 fn main(rt: HostRuntime) -> io::Result<()> {
-    case_files::run_files(&rt, &SearchKinds { rt: &rt }).map(|_| ())
+    let own = rt.clone()?;
+    let answer_one = move |alloc: Global, case: &Case<'_>, out: &mut Vec<u8>| -> bool {
+        answer_or_tell(&own, alloc, case, out)
+    };
+    let kinds = SearchKinds {
+        answer: Box::new(rt.alloc(), answer_one)?,
+    };
+    case_files::run_files(&rt, &kinds)?;
+    Ok(())
 }

@@ -1,6 +1,6 @@
 // Which games and nodes a search looks at.
 use crate::asked::{query_of, value_of};
-use crate::texts::{end_list, put, put_number, put_numbers, put_point, separate};
+use crate::texts::{end_list, is_same, put, put_number, put_numbers, put_point, separate};
 use crate::versions::version_of_one;
 use candidate_sieve::{
     AskedPoints, Candidate, PlacementRows, add_candidates, candidates_under, node_candidates,
@@ -123,7 +123,7 @@ fn candidates_in(
     let rows = PlacementRows::of(alloc, images)?;
     let wants = Wants::of(alloc, images)?;
     let mut found = Vec::new(alloc);
-    if images.shape() != planes.shape() {
+    if !is_same(images.shape(), planes.shape()) {
         return Err(CaseError::Bad("images of another board"));
     }
     add_candidates(

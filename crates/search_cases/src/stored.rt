@@ -5,8 +5,8 @@ use crate::asked::given_of;
 use crate::games::{merged_all, segment_of, trees_of};
 use crate::sieve::put_bits;
 use crate::texts::{
-    end_list, number_of, outcome_name, point_number, put, put_number, put_numbers, put_point,
-    separate,
+    end_list, number_of, outcome_name, point_number, put, put_count, put_number, put_numbers,
+    put_point, separate,
 };
 use case_files::{Case, CaseError};
 use final_index::{EverSets, Planes};
@@ -108,7 +108,7 @@ pub(crate) fn sets(ever: &EverSets, shape: Shape, out: &mut Vec<u8>) -> Result<(
     put(out, "; white ")?;
     put_set(&ever.white, shape, out)?;
     put(out, "; empty ")?;
-    put_number(out, ever.empty.len() as u32)
+    put_number(out, u32::from(ever.empty.len()))
 }
 
 fn put_set(set: &BitBoard, shape: Shape, out: &mut Vec<u8>) -> Result<(), CaseError> {
@@ -169,7 +169,7 @@ fn put_planes(asked: &str, planes: &Planes, out: &mut Vec<u8>) -> Result<(), Cas
     put(out, ":")?;
     put_number(out, u32::from(shape.rows()))?;
     put(out, " of ")?;
-    put_number(out, planes.len() as u32)?;
+    put_count(out, planes.len())?;
     put(out, ", empty")?;
     put_bits(out, planes.word(point, Cell::Empty))?;
     put(out, ", black")?;
@@ -192,7 +192,7 @@ pub(crate) fn blocks(alloc: Global, case: &Case<'_>, out: &mut Vec<u8>) -> Resul
         put(out, ", ")?;
         put_number(out, numbered.first)?;
         put(out, "+")?;
-        put_number(out, numbered.block.len() as u32)?;
+        put_count(out, numbered.block.len())?;
     }
     compare_places(&all, out)
 }

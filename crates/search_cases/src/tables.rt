@@ -1,8 +1,8 @@
 // Tables of hits.
-use crate::texts::{colour_name, number_of, point_of, put, put_number, put_point};
+use crate::texts::{colour_name, number_of, point_of, put, put_point};
 use case_files::{Case, CaseError};
 use continuation_table::{Row, Table, Tally};
-use kb_geometry::{Colour, Label, Outcome};
+use kb_geometry::{Colour, Label, Outcome, append_decimal};
 use pattern_images::{Hit, Next, Place};
 use std::alloc::Global;
 
@@ -113,7 +113,7 @@ fn put_tally(out: &mut Vec<u8>, tally: Tally) -> Result<(), CaseError> {
         (" white, ", tally.other),
     ] {
         put(out, name)?;
-        put_number(out, number as u32)?;
+        append_decimal(out, number)?;
     }
     put(out, " other")
 }

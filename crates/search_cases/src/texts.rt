@@ -1,4 +1,7 @@
 // Points, cells and numbers as cases write them.
+ghost use Rattle.std.specs.Prelude.{◌≡◌, ◌<◌, IfOk, IsTrue};
+ghost use Rattle.kb_geometry.specs.Board.{point_count};
+
 use case_files::CaseError;
 use kb_geometry::{Cell, Colour, Outcome, Point, Shape, append, append_decimal};
 
@@ -10,6 +13,18 @@ pub(crate) fn put(out: &mut Vec<u8>, text: &str) -> Result<(), CaseError> {
 /// Appends a number.
 pub(crate) fn put_number(out: &mut Vec<u8>, number: u32) -> Result<(), CaseError> {
     Ok(append_decimal(out, u64::from(number))?)
+}
+
+/// Appends how many there are.
+pub(crate) fn put_count(out: &mut Vec<u8>, count: usize) -> Result<(), CaseError> {
+    Ok(append_decimal(out, count as u64)?)
+}
+
+/// Whether two boards have as many columns and rows.
+pub(crate) fn is_same(a: Shape, b: Shape) -> bool
+    ensures { IsTrue result → (a ≡ b) }
+{
+    a == b
 }
 
 /// Appends what stands between the entries of a list, if there is one since `start`.
@@ -72,7 +87,9 @@ fn side_of(letter: u8) -> Option<u8> {
 }
 
 /// The number of a point of the board that is told by two letters.
-pub(crate) fn point_number(shape: Shape, text: &str) -> Result<u16, CaseError> {
+pub(crate) fn point_number(shape: Shape, text: &str) -> Result<u16, CaseError>
+    ensures { IfOk result (λ number. number < point_count shape) }
+{
     let point = point_of(text)?;
     if point.x >= shape.cols() || point.y >= shape.rows() {
         return Err(CaseError::Bad("a point off the board"));

@@ -3,15 +3,17 @@ ghost use Rattle.std.specs.Prelude.{◌≡◌, ◌<◌, IsTrue};
 ghost use Rattle.std.specs.List.Sorted.{IsStrictlyIncreasing};
 
 use crate::finding::put_found;
-use crate::texts::put;
+use crate::texts::{is_same, put};
 use candidate_sieve::node_candidates;
 use capture_board::{Steps, Walker};
 use capture_index::RunIndex;
 use case_files::CaseError;
+use info_filter::Filter;
 use line_matcher::{Matcher, Occurrence, match_along, match_at, match_game, match_with};
-use pattern_images::{Found, Images};
+use pattern_images::{Found, Hit, Images, Query};
 use run_matcher::{Buffers, Gathered, RunMatcher, match_runs};
-use segment_store::FinishedGame;
+use search_engine::search_segment;
+use segment_store::{FinishedGame, Segment};
 use std::alloc::Global;
 use std::sync::ledger::{Blank, Ledger};
 
@@ -75,7 +77,7 @@ pub(crate) fn compare_walks<L: Ledger>(
         found,
     } = expected;
     let deltas = game.deltas();
-    if images.shape() != deltas.shape() {
+    if !is_same(images.shape(), deltas.shape()) {
         return Err(OTHER_BOARD);
     }
     let mut steps = Steps::<L>::new(blank);
@@ -108,12 +110,16 @@ pub(crate) fn compare_at_candidates<L: Ledger>(
         found,
     } = expected;
     let runs = game.runs();
-    if images.shape() != game.deltas().shape() || images.shape() != runs.shape() {
+    let deltas = game.deltas();
+    if !is_same(images.shape(), deltas.shape()) {
+        return Err(OTHER_BOARD);
+    }
+    if !is_same(images.shape(), runs.shape()) {
         return Err(OTHER_BOARD);
     }
     let mut steps = Steps::<L>::new(blank);
     let nodes = node_candidates(alloc, runs, images)?;
-    let at = match_at(alloc, game.deltas(), images, &nodes, &mut steps)?;
+    let at = match_at(alloc, deltas, images, &nodes, &mut steps)?;
     compare("match_at at the candidates", found, &at, out)
 }
 
@@ -130,7 +136,7 @@ pub(crate) fn found_at<L: Ledger>(
     requires some { 0 < blank.parts }
 {
     let deltas = game.deltas();
-    if images.shape() != deltas.shape() {
+    if !is_same(images.shape(), deltas.shape()) {
         return Err(OTHER_BOARD);
     }
     if !ascend(nodes) {
@@ -138,6 +144,25 @@ pub(crate) fn found_at<L: Ledger>(
     }
     let mut steps = Steps::<L>::new(blank);
     Ok(match_at(alloc, deltas, images, nodes, &mut steps)?)
+}
+
+/// The hits in a segment, whose games are numbered from 7 on.
+pub(crate) fn segment_hits<L: Ledger>(
+    alloc: Global,
+    part: &Segment,
+    query: &Query,
+    filter: &Filter,
+    blank: Blank,
+) -> Result<Vec<Hit>, CaseError>
+    requires name { blank.name ≡ L.name }
+    requires parts { blank.parts ≡ L.parts }
+    requires some { 0 < blank.parts }
+{
+    if part.game_count() > 300_000 {
+        return Err(CaseError::Bad("too many games"));
+    }
+    let mut steps = Steps::<L>::new(blank);
+    Ok(search_segment(alloc, part, 7, query, filter, &mut steps)?)
 }
 
 // Whether the numbers ascend, each once.
@@ -164,7 +189,7 @@ pub(crate) fn compare_runs(
         found,
     } = expected;
     let runs = game.runs();
-    if images.shape() != runs.shape() {
+    if !is_same(images.shape(), runs.shape()) {
         return Err(OTHER_BOARD);
     }
     let matcher = RunMatcher::new(alloc, images)?;
