@@ -20,19 +20,21 @@ use Rattle.import_work.specs.Course.{ImportCourse}
 use Rattle.import_work.specs.Log.{Segment, games_in, segments_of}
 use Rattle.import_work.specs.declared.source.Source.{Source}
 use Rattle.search_run.specs.Beside.{GoesOnBeside, HasAnswered, HasAnsweredAll, PrintsBeside, Reaches, block_at}
-use Rattle.serial_run.specs.Lawful.{AreSearched, HasPrinted, IsNamed, IsPassed, Rules, State, after_import, last_of, one_more, view_at, waiting_text, with_boxes, with_floor}
+use Rattle.session_core.specs.Lawful.{AreSearched, HasPrinted, IsNamed, IsPassed, Rules, State, after_import, last_of, one_more, view_at, waiting_text, with_session, with_floor}
+use Rattle.session_core.specs.SessionState.{SessionState}
 use Rattle.search_run.specs.Run.{beside_rules}
 use Rattle.search_run.specs.Seen.{HaveSeenOf, IsLookedAt, IsVersionOf}
 use Rattle.serial_run.specs.Steps.{AreAnsweredFrom, IsKept, IsTextByKept, IsTextTo, LeavesBase, import_at, kept_at}
-use Rattle.serial_run.specs.Texts.{opening_text}
+use Rattle.session_core.specs.ImportTexts.{import_line_text}
 use Rattle.import_segments.proofs.PushedSegments.{items_in-games_in}
-use Rattle.serial_run.proofs.StatementLemmas.{AreAnsweredFrom-searched, AreNamed, floor-joined, greatest_of, opens-passed}
+use Rattle.serial_run.proofs.StatementLemmas.{AreAnsweredFrom-searched, AreNamed, greatest_of}
+use Rattle.session_core.proofs.StateLemmas.{floor-joined, opens-passed}
 
 -- ---- a state with a longer log
 
 -- a state as it was seen: with this log, and without a report
 abbrev as_seen : State → List Segment → State
-as_seen s seen = record { log = seen; floor = s.floor; waiting = None; boxes = s.boxes }
+as_seen s seen = record { log = seen; floor = s.floor; waiting = None; session = s.session }
 
 module _ (files : List File) (rules : Rules) (beside : ¬ IsTrue rules.serial) (s : State) (seen : List Segment) (longer : IsPrefix seen s.log) where
   few : length seen ≤ length s.log
@@ -46,46 +48,46 @@ module _ (files : List File) (rules : Rules) (beside : ¬ IsTrue rules.serial) (
       let same : take n seen ≡ take n s.log = sym (take-append-le n seen longer.0 le) ∙ ap (take n) longer.1 in
       ap (λ (log : List Segment). record { version = n; games = games_in log }) same
 
-  searched-longer : (searches : List PlacedSearch) (boxes after : List BoxTally) (greatest : ℕ) (text : List ℕ) → AreSearched rules (as_seen s seen) searches boxes greatest text after → AreSearched rules s searches boxes greatest text after
-  searched-longer [] boxes after greatest text h = h
-  searched-longer (p ∷ ps) boxes after greatest text h = (
+  searched-longer : (searches : List PlacedSearch) (session after : SessionState) (greatest : ℕ) (text : List ℕ) → AreSearched rules (as_seen s seen) searches session greatest text after → AreSearched rules s searches session greatest text after
+  searched-longer [] session after greatest text h = h
+  searched-longer (p ∷ ps) session after greatest text h = (
     h.0,
     h.1,
     h.2,
     h.3,
     h.4,
     named-longer h.0 h.5,
-    subst (λ (v : View). IsSearched p.line v p.query p.filter boxes h.1 h.2) (view-longer h.0 h.5.to) h.6,
+    subst (λ (v : View). IsSearched p.line v p.query p.filter session h.1 h.2) (view-longer h.0 h.5.to) h.6,
     searched-longer ps h.2 after h.3 h.4 h.7,
     h.8,
     h.9,
   )
 
-  greatest-seen : (searches : List PlacedSearch) (boxes after : List BoxTally) (greatest : ℕ) (text : List ℕ) → AreSearched rules (as_seen s seen) searches boxes greatest text after → greatest ≤ length seen
-  greatest-seen [] boxes after greatest text h = omega (arith, h.0)
-  greatest-seen (p ∷ ps) boxes after greatest text h = rw h.8 (max-le h.5.to (greatest-seen ps h.2 after h.3 h.4 h.7))
+  greatest-seen : (searches : List PlacedSearch) (session after : SessionState) (greatest : ℕ) (text : List ℕ) → AreSearched rules (as_seen s seen) searches session greatest text after → greatest ≤ length seen
+  greatest-seen [] session after greatest text h = omega (arith, h.0)
+  greatest-seen (p ∷ ps) session after greatest text h = rw h.8 (max-le h.5.to (greatest-seen ps h.2 after h.3 h.4 h.7))
 
-  -- the statement is passed with this text in the state itself, and the boxes tell this behind it
-  pub record IsPassedOn (line : ℕ) (own : Statement) (text : List ℕ) (told : List BoxTally) : Type 0 where
+  -- the statement is passed with this text in the state itself, and the session tell this behind it
+  pub record IsPassedOn (line : ℕ) (own : Statement) (text : List ℕ) (told : SessionState) : Type 0 where
     pub next : State
     pub passed : IsPassed files rules s line own [] text next
     pub log_is : next.log ≡ s.log
     pub waiting_is : next.waiting ≡ s.waiting
     pub floor_at_most : s.floor ≤ length seen → next.floor ≤ length seen
-    pub boxes_are : next.boxes ≡ told
+    pub session_is : next.session ≡ told
 
   -- one that names a version
-  answered-longer : (line : ℕ) (own : Statement) (text : List ℕ) (told : List BoxTally) (used : List ImportCourse) (next : State) → ((n : ℕ) (after : List BoxTally) → IsNamed rules s n → IsAnswer line (view_at s n) s.boxes own text after → IsPassed files rules s line own [] text (with_boxes (with_floor s n) after)) → (n : ℕ) (after : List BoxTally) → IsNamed rules (as_seen s seen) n → IsAnswer line (view_at (as_seen s seen) n) s.boxes own text after → next ≡ with_boxes (with_floor (as_seen s seen) n) after → next.boxes ≡ told → IsPassedOn line own text told
+  answered-longer : (line : ℕ) (own : Statement) (text : List ℕ) (told : SessionState) (used : List ImportCourse) (next : State) → ((n : ℕ) (after : SessionState) → IsNamed rules s n → IsAnswer line (view_at s n) s.session own text after → IsPassed files rules s line own [] text (with_session (with_floor s n) after)) → (n : ℕ) (after : SessionState) → IsNamed rules (as_seen s seen) n → IsAnswer line (view_at (as_seen s seen) n) s.session own text after → next ≡ with_session (with_floor (as_seen s seen) n) after → next.session ≡ told → IsPassedOn line own text told
   answered-longer line own text told used next passes n after named answer same tells = record {
-    next = with_boxes (with_floor s n) after;
-    passed = passes n after (named-longer n named) (subst (λ (v : View). IsAnswer line v s.boxes own text after) (view-longer n named.to) answer);
+    next = with_session (with_floor s n) after;
+    passed = passes n after (named-longer n named) (subst (λ (v : View). IsAnswer line v s.session own text after) (view-longer n named.to) answer);
     log_is = refl;
     waiting_is = refl;
     floor_at_most = λ le. max-le le named.to;
-    boxes_are = ap (λ (t : State). t.boxes) (sym same) ∙ tells;
+    session_is = ap (λ (t : State). t.session) (sym same) ∙ tells;
   }
 
-  pub passed-longer : (line : ℕ) (own : Statement) (text : List ℕ) (told : List BoxTally) → LeavesBase own → Reaches own (length seen) → IsTextTo files rules (as_seen s seen) line own text told → IsPassedOn line own text told
+  pub passed-longer : (line : ℕ) (own : Statement) (text : List ℕ) (told : SessionState) → LeavesBase own → Reaches own (length seen) → IsTextTo files rules (as_seen s seen) line own text told → IsPassedOn line own text told
   passed-longer line (statement.Import path) text told leaves reaches of = absurd leaves
   passed-longer line (statement.Make games start) text told leaves reaches of = absurd leaves
   passed-longer line statement.Wait text told leaves reaches of = absurd leaves
@@ -95,19 +97,19 @@ module _ (files : List File) (rules : Rules) (beside : ¬ IsTrue rules.serial) (
     log_is = refl;
     waiting_is = refl;
     floor_at_most = λ le. max-le le of.1.named.to;
-    boxes_are = ap (λ (t : State). t.boxes) (sym of.4) ∙ tells;
+    session_is = ap (λ (t : State). t.session) (sym of.4) ∙ tells;
   }
     where
       reached : (n : ℕ) → (number ≤ n) ⊎ (n ≡ length seen) → number ≤ n
       reached n (inl le) = le
       reached n (inr last) = omega (arith, last, reaches)
   passed-longer line (statement.Together searches) text told leaves reaches (used, next, of, tells) = record {
-    next = with_boxes (with_floor s of.0) of.1;
-    passed = (of.0, of.1, searched-longer searches s.boxes of.1 of.0 text of.2, refl, refl);
+    next = with_session (with_floor s of.0) of.1;
+    passed = (of.0, of.1, searched-longer searches s.session of.1 of.0 text of.2, refl, refl);
     log_is = refl;
     waiting_is = refl;
-    floor_at_most = λ le. max-le le (greatest-seen searches s.boxes of.1 of.0 text of.2);
-    boxes_are = ap (λ (t : State). t.boxes) (sym of.4) ∙ tells;
+    floor_at_most = λ le. max-le le (greatest-seen searches s.session of.1 of.0 text of.2);
+    session_is = ap (λ (t : State). t.session) (sym of.4) ∙ tells;
   }
   passed-longer line (statement.Search query filter) text told leaves reaches (used, next, of, tells) =
       answered-longer line (statement.Search query filter) text told used next (λ n after named answer. (n, after, named, answer, refl, refl)) of.0 of.1 of.2 of.3 of.5 tells
@@ -127,46 +129,46 @@ module _ (files : List File) (rules : Rules) (beside : ¬ IsTrue rules.serial) (
     log_is = refl;
     waiting_is = refl;
     floor_at_most = λ le. le;
-    boxes_are = ap (λ (t : State). t.boxes) (sym of.2) ∙ tells;
+    session_is = ap (λ (t : State). t.session) (sym of.2) ∙ tells;
   }
   passed-longer line (statement.Retire name) text told leaves reaches (used, next, of, tells) = record {
-    next = with_boxes s of.0;
+    next = with_session s of.0;
     passed = (of.0, of.1, refl, refl);
     log_is = refl;
     waiting_is = refl;
     floor_at_most = λ le. le;
-    boxes_are = ap (λ (t : State). t.boxes) (sym of.3) ∙ tells;
+    session_is = ap (λ (t : State). t.session) (sym of.3) ∙ tells;
   }
 
 -- ---- beside an import
 
 -- an import's statement is printed, and it is under way
-pub prints-first : (files : List File) (rules : Rules) (start : List BoxTally) (course : List ImportCourse) (placed : List Placed) (began : State) (printed : List ℕ) → HasPrinted files rules start course placed began printed → began.floor ≤ last_of began → (floor : ℕ) → last_of began ≤ floor → (line : ℕ) (from : Source) (IsSeen : List Segment → Type 0) (boxes : List BoxTally) → began.boxes ≡ boxes → (text : List ℕ) → text ≡ waiting_text began ++ opening_text line from →
-    PrintsBeside files rules start began line from course IsSeen floor boxes (placed ++ import_at line from ∷ []) (printed ++ text)
-prints-first files rules start course placed began printed so_far low floor last line from IsSeen boxes told text text_is = λ entry finding imported seen. record {
+pub prints-first : (files : List File) (rules : Rules) (start : List BoxTally) (course : List ImportCourse) (placed : List Placed) (began : State) (printed : List ℕ) → HasPrinted files rules start course placed began printed → began.floor ≤ last_of began → (floor : ℕ) → last_of began ≤ floor → (line : ℕ) (from : Source) (IsSeen : List Segment → Type 0) (session : SessionState) → began.session ≡ session → (text : List ℕ) → text ≡ waiting_text began ++ import_line_text line from →
+    PrintsBeside files rules start began line from course IsSeen floor session (placed ++ import_at line from ∷ []) (printed ++ text)
+prints-first files rules start course placed began printed so_far low floor last line from IsSeen session told text text_is = λ entry finding imported seen. record {
   state = after_import rules began line finding;
   printed = one_more (entry ∷ []) (import_at line from) (after_import rules began line finding) text so_far
       (opens-passed files rules began line from (entry ∷ []) text (after_import rules began line finding) (entry, finding, refl, imported, text_is, refl));
   log_is = refl;
   waiting_is = refl;
   floor_at_most = omega (arith, floor-joined began.waiting began.floor (length began.log) low, last);
-  boxes_are = told;
+  session_is = told;
 }
 
 -- a statement is answered from a version
-module _ (batch : ℕ) (WasSeen IsSeen : List Segment → Type 0) (floor : ℕ) (boxes told : List BoxTally) (p : Placed) (text : List ℕ) (version : VersionState Game) (seen : List Segment) where
-  pub goes-on : ((log : List Segment) → IsSeen log → WasSeen log) → ((log : List Segment) → IsSeen log → IsPrefix seen log) → IsVersionOf version seen → floor ≤ length seen → LeavesBase p.statement → Reaches p.statement (length seen) → ((rules : Rules) (waiting : Option (List ℕ)) → IsTextByKept rules (kept_at version waiting) boxes p.line p.statement text told) →
-      GoesOnBeside (beside_rules batch) WasSeen floor boxes (p ∷ []) text IsSeen version.number told
+module _ (batch : ℕ) (WasSeen IsSeen : List Segment → Type 0) (floor : ℕ) (session told : SessionState) (p : Placed) (text : List ℕ) (version : VersionState Game) (seen : List Segment) where
+  pub goes-on : ((log : List Segment) → IsSeen log → WasSeen log) → ((log : List Segment) → IsSeen log → IsPrefix seen log) → IsVersionOf version seen → floor ≤ length seen → LeavesBase p.statement → Reaches p.statement (length seen) → ((rules : Rules) (waiting : Option (List ℕ)) → IsTextByKept rules (kept_at version waiting) session p.line p.statement text told) →
+      GoesOnBeside (beside_rules batch) WasSeen floor session (p ∷ []) text IsSeen version.number told
   goes-on weaker seen_prefix of floor_seen leaves reaches text_is = λ files start began line from course placed printed h. λ entry finding imported is_seen.
       let log : List Segment = began.log ++ segments_of batch finding in
       let r = h entry finding imported (weaker log is_seen) in
       let s = r.state in
-      let kept : IsKept (as_seen s seen) (kept_at version None) boxes = record {
+      let kept : IsKept (as_seen s seen) (kept_at version None) session = record {
         version = of.number;
         games = of.games ∙ items_in-games_in seen;
         waiting = refl;
         floor = omega (arith, r.floor_at_most, floor_seen);
-        tallies = r.boxes_are;
+        session_is = r.session_is;
       } in
       let on = passed-longer files (beside_rules batch) (λ same. absurd (cc same)) s seen (subst (IsPrefix seen) (sym r.log_is) (seen_prefix log is_seen)) p.line p.statement text told leaves reaches (text_is (beside_rules batch) None files (as_seen s seen) kept) in record {
         state = on.next;
@@ -174,7 +176,7 @@ module _ (batch : ℕ) (WasSeen IsSeen : List Segment → Type 0) (floor : ℕ) 
         log_is = on.log_is ∙ r.log_is;
         waiting_is = on.waiting_is ∙ r.waiting_is;
         floor_at_most = omega (arith, on.floor_at_most (omega (arith, r.floor_at_most, floor_seen)), of.number);
-        boxes_are = on.boxes_are;
+        session_is = on.session_is;
       }
 
 -- ---- a block
@@ -223,9 +225,9 @@ module _ (rules : Rules) (beside : ¬ IsTrue rules.serial) (s : State) (seen : L
   greatest-within (v ∷ vs) all = max-le (number-within v (All-head (IsBetween floor seen) v vs all)) (greatest-within vs (All-tail (IsBetween floor seen) v vs all))
 
 -- a block is answered, each search from a version of its own
-module _ (batch : ℕ) (WasSeen IsSeen : List Segment → Type 0) (floor : ℕ) (boxes told : List BoxTally) (line : ℕ) (searches : List PlacedSearch) (text : List ℕ) (version : VersionState Game) (seen : List Segment) where
-  pub block-goes-on : ((log : List Segment) → IsSeen log → WasSeen log) → ((log : List Segment) → IsSeen log → IsPrefix seen log) → IsVersionOf version seen → floor ≤ length seen → (versions : List (VersionState Game)) → All (IsBetween floor seen) versions → AreAnsweredFrom (map seen_in versions) searches boxes text told →
-      GoesOnBeside (beside_rules batch) WasSeen floor boxes (block_at line searches ∷ []) text IsSeen version.number told
+module _ (batch : ℕ) (WasSeen IsSeen : List Segment → Type 0) (floor : ℕ) (session told : SessionState) (line : ℕ) (searches : List PlacedSearch) (text : List ℕ) (version : VersionState Game) (seen : List Segment) where
+  pub block-goes-on : ((log : List Segment) → IsSeen log → WasSeen log) → ((log : List Segment) → IsSeen log → IsPrefix seen log) → IsVersionOf version seen → floor ≤ length seen → (versions : List (VersionState Game)) → All (IsBetween floor seen) versions → AreAnsweredFrom (map seen_in versions) searches session text told →
+      GoesOnBeside (beside_rules batch) WasSeen floor session (block_at line searches ∷ []) text IsSeen version.number told
   block-goes-on weaker seen_prefix of floor_seen versions all answers = λ files start began at from course placed printed h. λ entry finding imported is_seen.
       let log : List Segment = began.log ++ segments_of batch finding in
       let r = h entry finding imported (weaker log is_seen) in
@@ -234,8 +236,8 @@ module _ (batch : ℕ) (WasSeen IsSeen : List Segment → Type 0) (floor : ℕ) 
       let views = map seen_in versions in
       let named = all-named (beside_rules batch) (λ same. absurd (cc same)) s seen longer floor r.floor_at_most versions all in
       let greatest = greatest-within (beside_rules batch) (λ same. absurd (cc same)) s seen longer floor r.floor_at_most versions all in
-      let searched = AreAnsweredFrom-searched (beside_rules batch) s views searches s.boxes told text named (subst (λ from. AreAnsweredFrom views searches from text told) (sym r.boxes_are) answers) in
-      let next = with_boxes (with_floor s (greatest_of views)) told in
+      let searched = AreAnsweredFrom-searched (beside_rules batch) s views searches s.session told text named (subst (λ from. AreAnsweredFrom views searches from text told) (sym r.session_is) answers) in
+      let next = with_session (with_floor s (greatest_of views)) told in
       let at_most : max s.floor (greatest_of views) ≤ length seen = max-le (omega (arith, r.floor_at_most, floor_seen)) greatest in record {
         state = next;
         printed = subst (λ c. HasPrinted files (beside_rules batch) start c (placed ++ block_at line searches ∷ []) next (printed ++ text)) (append-nil (course ++ entry ∷ []))
@@ -243,7 +245,7 @@ module _ (batch : ℕ) (WasSeen IsSeen : List Segment → Type 0) (floor : ℕ) 
         log_is = r.log_is;
         waiting_is = r.waiting_is;
         floor_at_most = omega (arith, at_most, of.number);
-        boxes_are = refl;
+        session_is = refl;
       }
 
 -- a block's statement, by its line and its searches
@@ -253,54 +255,54 @@ placed_block p searches is = λ i. record { line = p.line; statement = (sym is) 
 -- ---- one statement behind another
 
 -- what is printed by these statements and this text, in other words for them
-printed-as : (files : List File) (rules : Rules) (start : List BoxTally) (began : State) (line : ℕ) (from : Source) (course : List ImportCourse) (IsSeen : List Segment → Type 0) (floor : ℕ) (boxes : List BoxTally) (placed other : List Placed) (text more : List ℕ) → placed ≡ other → text ≡ more → PrintsBeside files rules start began line from course IsSeen floor boxes placed text → PrintsBeside files rules start began line from course IsSeen floor boxes other more
-printed-as files rules start began line from course IsSeen floor boxes placed other text more same too h =
-    subst (λ t. PrintsBeside files rules start began line from course IsSeen floor boxes other t) too
-    (subst (λ ps. PrintsBeside files rules start began line from course IsSeen floor boxes ps text) same h)
+printed-as : (files : List File) (rules : Rules) (start : List BoxTally) (began : State) (line : ℕ) (from : Source) (course : List ImportCourse) (IsSeen : List Segment → Type 0) (floor : ℕ) (session : SessionState) (placed other : List Placed) (text more : List ℕ) → placed ≡ other → text ≡ more → PrintsBeside files rules start began line from course IsSeen floor session placed text → PrintsBeside files rules start began line from course IsSeen floor session other more
+printed-as files rules start began line from course IsSeen floor session placed other text more same too h =
+    subst (λ t. PrintsBeside files rules start began line from course IsSeen floor session other t) too
+    (subst (λ ps. PrintsBeside files rules start began line from course IsSeen floor session ps text) same h)
 
 -- nothing is printed
-pub goes-on-none : (rules : Rules) (WasSeen IsSeen : List Segment → Type 0) (floor : ℕ) (boxes : List BoxTally) → ((log : List Segment) → IsSeen log → WasSeen log) → GoesOnBeside rules WasSeen floor boxes [] [] IsSeen floor boxes
-goes-on-none rules WasSeen IsSeen floor boxes weaker = λ files start began line from course placed printed h.
-    printed-as files rules start began line from course IsSeen floor boxes placed (placed ++ []) printed (printed ++ []) (sym (append-nil placed)) (sym (append-nil printed))
+pub goes-on-none : (rules : Rules) (WasSeen IsSeen : List Segment → Type 0) (floor : ℕ) (session : SessionState) → ((log : List Segment) → IsSeen log → WasSeen log) → GoesOnBeside rules WasSeen floor session [] [] IsSeen floor session
+goes-on-none rules WasSeen IsSeen floor session weaker = λ files start began line from course placed printed h.
+    printed-as files rules start began line from course IsSeen floor session placed (placed ++ []) printed (printed ++ []) (sym (append-nil placed)) (sym (append-nil printed))
     (λ entry finding imported seen. h entry finding imported (weaker (began.log ++ segments_of rules.batch finding) seen))
 
 -- one thing is printed, and then another
-pub goes-on-then : (rules : Rules) (WasSeen IsSeen SeenNow : List Segment → Type 0) (floor between now : ℕ) (boxes told after : List BoxTally) (more rest : List Placed) (text behind : List ℕ) → GoesOnBeside rules WasSeen floor boxes more text IsSeen between told → GoesOnBeside rules IsSeen between told rest behind SeenNow now after → GoesOnBeside rules WasSeen floor boxes (more ++ rest) (text ++ behind) SeenNow now after
-goes-on-then rules WasSeen IsSeen SeenNow floor between now boxes told after more rest text behind first then = λ files start began line from course placed printed h.
+pub goes-on-then : (rules : Rules) (WasSeen IsSeen SeenNow : List Segment → Type 0) (floor between now : ℕ) (session told after : SessionState) (more rest : List Placed) (text behind : List ℕ) → GoesOnBeside rules WasSeen floor session more text IsSeen between told → GoesOnBeside rules IsSeen between told rest behind SeenNow now after → GoesOnBeside rules WasSeen floor session (more ++ rest) (text ++ behind) SeenNow now after
+goes-on-then rules WasSeen IsSeen SeenNow floor between now session told after more rest text behind first then = λ files start began line from course placed printed h.
     printed-as files rules start began line from course SeenNow now after ((placed ++ more) ++ rest) (placed ++ (more ++ rest)) ((printed ++ text) ++ behind) (printed ++ (text ++ behind)) (append_assoc placed more rest) (append_assoc printed text behind)
     (then files start began line from course (placed ++ more) (printed ++ text) (first files start began line from course placed printed h))
 
 -- the same with what was seen before, seen later
-pub goes-on-weaker : (rules : Rules) (WasSeen IsSeen SeenNow : List Segment → Type 0) (floor now : ℕ) (boxes told : List BoxTally) (more : List Placed) (text : List ℕ) → ((log : List Segment) → SeenNow log → IsSeen log) → GoesOnBeside rules WasSeen floor boxes more text IsSeen now told → GoesOnBeside rules WasSeen floor boxes more text SeenNow now told
-goes-on-weaker rules WasSeen IsSeen SeenNow floor now boxes told more text weaker on = λ files start began line from course placed printed h.
+pub goes-on-weaker : (rules : Rules) (WasSeen IsSeen SeenNow : List Segment → Type 0) (floor now : ℕ) (session told : SessionState) (more : List Placed) (text : List ℕ) → ((log : List Segment) → SeenNow log → IsSeen log) → GoesOnBeside rules WasSeen floor session more text IsSeen now told → GoesOnBeside rules WasSeen floor session more text SeenNow now told
+goes-on-weaker rules WasSeen IsSeen SeenNow floor now session told more text weaker on = λ files start began line from course placed printed h.
     λ entry finding imported seen. on files start began line from course placed printed h entry finding imported (weaker (began.log ++ segments_of rules.batch finding) seen)
 
 -- ---- statements that are answered one after another
 
 -- none is answered yet
-pub answers-none : (batch : ℕ) (IsSeen : List Segment → Type 0) (floor : ℕ) (boxes : List BoxTally) (before : List ℕ) (written : Option (List ℕ)) → written ≡ Some before → HasAnswered batch IsSeen floor boxes [] IsSeen floor boxes before written
-answers-none batch IsSeen floor boxes before written is = record {
+pub answers-none : (batch : ℕ) (IsSeen : List Segment → Type 0) (floor : ℕ) (session : SessionState) (before : List ℕ) (written : Option (List ℕ)) → written ≡ Some before → HasAnswered batch IsSeen floor session [] IsSeen floor session before written
+answers-none batch IsSeen floor session before written is = record {
   text = [];
-  goes_on = goes-on-none (beside_rules batch) IsSeen IsSeen floor boxes (λ log h. h);
+  goes_on = goes-on-none (beside_rules batch) IsSeen IsSeen floor session (λ log h. h);
   written_is = is ∙ ap Some (sym (append-nil before));
 }
 
 -- one more is answered
-pub answers-more : (batch : ℕ) (WasSeen IsSeen SeenNow : List Segment → Type 0) (floor between now : ℕ) (boxes told after : List BoxTally) (done : List Placed) (p : Placed) (before : List ℕ) (was written : Option (List ℕ)) (h : HasAnswered batch WasSeen floor boxes done IsSeen between told before was) → HasAnswered batch IsSeen between told (p ∷ []) SeenNow now after (before ++ h.text) written → HasAnswered batch WasSeen floor boxes (done ++ p ∷ []) SeenNow now after before written
-answers-more batch WasSeen IsSeen SeenNow floor between now boxes told after done p before was written h more = record {
+pub answers-more : (batch : ℕ) (WasSeen IsSeen SeenNow : List Segment → Type 0) (floor between now : ℕ) (session told after : SessionState) (done : List Placed) (p : Placed) (before : List ℕ) (was written : Option (List ℕ)) (h : HasAnswered batch WasSeen floor session done IsSeen between told before was) → HasAnswered batch IsSeen between told (p ∷ []) SeenNow now after (before ++ h.text) written → HasAnswered batch WasSeen floor session (done ++ p ∷ []) SeenNow now after before written
+answers-more batch WasSeen IsSeen SeenNow floor between now session told after done p before was written h more = record {
   text = h.text ++ more.text;
-  goes_on = goes-on-then (beside_rules batch) WasSeen IsSeen SeenNow floor between now boxes told after done (p ∷ []) h.text more.text h.goes_on more.goes_on;
+  goes_on = goes-on-then (beside_rules batch) WasSeen IsSeen SeenNow floor between now session told after done (p ∷ []) h.text more.text h.goes_on more.goes_on;
   written_is = more.written_is ∙ ap Some (append_assoc before h.text more.text);
 }
 
 -- all that are answered beside an import are
-pub answered-all : (WasSeen IsSeen SeenNow : List Segment → Type 0) (floor now : ℕ) (boxes told : List BoxTally) (placed : List Placed) (before : List ℕ) (written : Option (List ℕ)) → ((batch : ℕ) → HasAnswered batch WasSeen floor boxes placed IsSeen now told before written) → ((log : List Segment) → SeenNow log → IsSeen log) → ((log : List Segment) → SeenNow log → now ≤ length log) → HasAnsweredAll WasSeen floor boxes placed SeenNow told before written
-answered-all WasSeen IsSeen SeenNow floor now boxes told placed before written h weaker low = record {
+pub answered-all : (WasSeen IsSeen SeenNow : List Segment → Type 0) (floor now : ℕ) (session told : SessionState) (placed : List Placed) (before : List ℕ) (written : Option (List ℕ)) → ((batch : ℕ) → HasAnswered batch WasSeen floor session placed IsSeen now told before written) → ((log : List Segment) → SeenNow log → IsSeen log) → ((log : List Segment) → SeenNow log → now ≤ length log) → HasAnsweredAll WasSeen floor session placed SeenNow told before written
+answered-all WasSeen IsSeen SeenNow floor now session told placed before written h weaker low = record {
   floor_now = now;
   floor_seen = low;
   answered = λ batch. record {
     text = (h batch).text;
-    goes_on = goes-on-weaker (beside_rules batch) WasSeen IsSeen SeenNow floor now boxes told placed (h batch).text weaker (h batch).goes_on;
+    goes_on = goes-on-weaker (beside_rules batch) WasSeen IsSeen SeenNow floor now session told placed (h batch).text weaker (h batch).goes_on;
     written_is = (h batch).written_is;
   };
 }

@@ -1,4 +1,4 @@
--- How an import by an order ends: the log, the report, and what the folder's count says of losses.
+-- How the import of a job ends: the log, the report, and what the folder's count says of losses.
 use Rattle.std.proofs.Common.{◌≡◌, ◌⊎◌, inl, inr, ℕ, ◌≤◌, ◌+◌, List, [], ◌++◌, Option, Some, length, length-append, refl, sym, ap, ◌∙◌, subst, arith}
 use Rattle.std.specs.Prelude.{IfOk, Result}
 use Rattle.std.proofs.lemmas.List.{append-nil}
@@ -25,8 +25,8 @@ use Rattle.import_work.proofs.RoomLemmas.{length-trees}
 use Rattle.search_run.specs.Beside.{EndsWith, EndsWithFirst, Finds, HasEnded}
 use Rattle.import_segments.specs.Merged.{AreMerged}
 use Rattle.import_segments.specs.Publishing.{IsIdle, IsOpenedWith, IsWithinLimits, PublishesAll, PublishesFirst}
-use Rattle.serial_run.specs.Reports.{told_text}
-use Rattle.search_run.specs.declared.importer.Order.{Order}
+use Rattle.session_core.specs.ImportTexts.{told_text}
+use Rattle.search_run.specs.declared.importer.ImportJob.{ImportJob}
 use Rattle.import_work.proofs.SegmentLemmas.{games_in-append}
 use Rattle.serial_run.proofs.ImportReports.{few_left, no_games, text_told}
 use Rattle.import_segments.proofs.PushedSegments.{items_in-games_in}
@@ -39,20 +39,20 @@ cause_there files told from faults now here (inr (all, also, gone)) =
     let same : files ≡ all = cc in
     inr (subst (λ fs. IsNotThere fs from) (sym same) gone)
 
--- An import by an order was opened with this log, at a time when the count of faults was this.
-pub record WasOpened (told : Option (List File)) (order : Order) (log : List Segment) (first opened_at : ℕ) (start : ImportState) : Type 0 where
-  pub opened : IsOpened order.source order.line order.before (length log) start
-  pub listed : IsListed order.source start.body start.left
-  pub unlisted : start.body ≡ report.Unlisted → Rose first opened_at ⊎ ((all : List File) × (told ≡ Some all) × IsNotThere all order.source)
-  pub counted : order.before ≡ counts_of (trees_in (items_in log))
+-- The import of a job was opened with this log, at a time when the count of faults was this.
+pub record WasOpened (told : Option (List File)) (job : ImportJob) (log : List Segment) (first opened_at : ℕ) (start : ImportState) : Type 0 where
+  pub opened : IsOpened job.source job.line job.before (length log) start
+  pub listed : IsListed job.source start.body start.left
+  pub unlisted : start.body ≡ report.Unlisted → Rose first opened_at ⊎ ((all : List File) × (told ≡ Some all) × IsNotThere all job.source)
+  pub counted : job.before ≡ counts_of (trees_in (items_in log))
   pub few : length log ≤ 9000000000000000000
   pub later : first ≤ opened_at
 
-module _ (told : Option (List File)) (order : Order) (some : 1 ≤ order.batch) (log : List Segment) (first opened_at : ℕ) (start : ImportState) (was : WasOpened told order log first opened_at start) where
-  source_is : start.source ≡ order.source
+module _ (told : Option (List File)) (job : ImportJob) (some : 1 ≤ job.batch) (log : List Segment) (first opened_at : ℕ) (start : ImportState) (was : WasOpened told job log first opened_at start) where
+  source_is : start.source ≡ job.source
   source_is = ap (λ (i : ImportState). i.source) was.opened
 
-  counts_are : start.counts ≡ order.before
+  counts_are : start.counts ≡ job.before
   counts_are = ap (λ (i : ImportState). i.counts) was.opened
 
   -- so it may be published
@@ -66,19 +66,19 @@ module _ (told : Option (List File)) (order : Order) (some : 1 ≤ order.batch) 
   }
 
   -- what it finds in a folder that tells its files
-  finds : (files : List File) → told ≡ Some files → (last : ℕ) → opened_at ≤ last → FindsIn files start opened_at last → Finds files order.source log first last
+  finds : (files : List File) → told ≡ Some files → (last : ℕ) → opened_at ≤ last → FindsIn files start opened_at last → Finds files job.source log first last
   finds files here last after f = record {
     entry = f.entry;
     finding = f.finding;
-    imported = subst (λ c. IsImported files order.source c f.entry f.finding) (counts_are ∙ was.counted ∙ ap (λ gs. counts_of (trees_in gs)) (items_in-games_in log))
+    imported = subst (λ c. IsImported files job.source c f.entry f.finding) (counts_are ∙ was.counted ∙ ap (λ gs. counts_of (trees_in gs)) (items_in-games_in log))
         (subst (λ p. IsImported files p start.counts f.entry f.finding) source_is f.imported);
     paid = loses files start first opened_at last f
-        (λ is. subst (λ p. Rose first opened_at ⊎ (IsNotThere files p)) (sym source_is) (cause_there files told order.source first opened_at here (was.unlisted is)))
+        (λ is. subst (λ p. Rose first opened_at ⊎ (IsNotThere files p)) (sym source_is) (cause_there files told job.source first opened_at here (was.unlisted is)))
         was.later after;
   }
 
   -- the log has grown by its first segments
-  pub ends_first : (log_now : List Segment) (last : ℕ) → opened_at ≤ last → PublishesFirst told order.batch start log log_now opened_at last → IfTold told (λ files. EndsWithFirst files order log log_now first last)
+  pub ends_first : (log_now : List Segment) (last : ℕ) → opened_at ≤ last → PublishesFirst told job.batch start log log_now opened_at last → IfTold told (λ files. EndsWithFirst files job log log_now first last)
   unfolding finds
   ends_first log_now last after h = λ files here.
       let g = h.first files here in record {
@@ -88,9 +88,9 @@ module _ (told : Option (List File)) (order : Order) (some : 1 ≤ order.batch) 
         first = g.prefix;
       }
 
-  module _ (log_now : List Segment) (last : ℕ) (after : opened_at ≤ last) (report : Report) (h : PublishesAll told order.batch start log log_now report opened_at last) where
+  module _ (log_now : List Segment) (last : ℕ) (after : opened_at ≤ last) (report : Report) (h : PublishesAll told job.batch start log log_now report opened_at last) where
     games_are : games_reported report.body ≡ length (games_in h.segments)
-    games_are = omega (arith, ap games_reported h.body, (adds_up told order.batch start opened_at h.now h.segments last some h.given).told, no_games order.source start.body start.left was.listed)
+    games_are = omega (arith, ap games_reported h.body, (adds_up told job.batch start opened_at h.now h.segments last some h.given).told, no_games job.source start.body start.left was.listed)
 
     -- the report tells few games
     pub few_games : IsWithinLimits log_now → games_reported report.body ≤ 400000
@@ -100,25 +100,25 @@ module _ (told : Option (List File)) (order : Order) (some : 1 ≤ order.batch) 
         omega (arith, games_are, all, length-trees (items_in log_now), limits.0)
 
     -- the log has grown by all its segments, and the report tells what it found
-    pub ends_all : (files : List File) → told ≡ Some files → EndsWith files order log log_now first last report
+    pub ends_all : (files : List File) → told ≡ Some files → EndsWith files job log log_now first last report
     unfolding finds
     ends_all files here =
         let g = h.all files here in
-        let line : report.line ≡ order.line = h.line ∙ ap (λ (i : ImportState). i.line) was.opened in record {
+        let line : report.line ≡ job.line = h.line ∙ ap (λ (i : ImportState). i.line) was.opened in record {
           finds = finds files here last after g.finds;
           grown = h.grown ∙ ap (λ ss. log ++ ss) g.segments_are;
           text =
               ap (λ l. told_text l report.body report.version) line
-              ∙ ap (λ n. told_text order.line report.body n) h.version
-              ∙ text_told order.batch some order.line (length log_now) report.body g.finds.finding g.tells (games_are ∙ ap (λ (ss : List Segment). length (games_in ss)) g.segments_are);
+              ∙ ap (λ n. told_text job.line report.body n) h.version
+              ∙ text_told job.batch some job.line (length log_now) report.body g.finds.finding g.tells (games_are ∙ ap (λ (ss : List Segment). length (games_in ss)) g.segments_are);
         }
 
   -- how it ends
   pub ended : (opening : Opening) (told_now : Option (List File)) (last : ℕ) (publisher : PublisherState Game) (result : Result Report NoMemory) → publisher.opening ≡ opening → length publisher.log ≤ length log + length start.left → IsWithinLimits publisher.log → told_now ≡ told → opened_at ≤ last →
-      PublishesFirst told order.batch start log publisher.log opened_at last → IfOk result (λ r. IsIdle publisher × PublishesAll told order.batch start log publisher.log r opened_at last) → IfOk result (λ r. AreMerged publisher.parts) → HasEnded told first order opening log told_now last publisher result
+      PublishesFirst told job.batch start log publisher.log opened_at last → IfOk result (λ r. IsIdle publisher × PublishesAll told job.batch start log publisher.log r opened_at last) → IfOk result (λ r. AreMerged publisher.parts) → HasEnded told first job opening log told_now last publisher result
   ended opening told_now last publisher result opened few limits same after first_of all merged = record {
     opened = opened;
-    few = omega (arith, few, few_left order.source start.body start.left was.listed);
+    few = omega (arith, few, few_left job.source start.body start.left was.listed);
     limits = limits;
     same = same;
     later = omega (arith, was.later, after);
@@ -130,9 +130,9 @@ module _ (told : Option (List File)) (order : Order) (some : 1 ≤ order.batch) 
   }
 
 -- an import that couldn't be opened has found something by which nothing is lost
-pub not_opened : (told : Option (List File)) (order : Order) (log : List Segment) (faults now : ℕ) → faults ≤ now → IfTold told (λ files. EndsWithFirst files order log log faults now)
-not_opened told order log faults now later = λ files here.
-    let found = import-found files order.source (counts_of (trees_in (games_in log))) in record {
+pub not_opened : (told : Option (List File)) (job : ImportJob) (log : List Segment) (faults now : ℕ) → faults ≤ now → IfTold told (λ files. EndsWithFirst files job log log faults now)
+not_opened told job log faults now later = λ files here.
+    let found = import-found files job.source (counts_of (trees_in (games_in log))) in record {
       finds = record {
         entry = nothing_lost;
         finding = found.0;
@@ -141,5 +141,5 @@ not_opened told order log faults now later = λ files here.
       };
       segments = [];
       grown = sym (append-nil log);
-      first = (segments_of order.batch found.0, refl);
+      first = (segments_of job.batch found.0, refl);
     }

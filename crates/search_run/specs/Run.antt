@@ -12,7 +12,7 @@ use Rattle.version_publisher.specs.declared.state.PublisherState.{PublisherState
 use Rattle.import_work.specs.Course.{ImportCourse, losses_of}
 use Rattle.import_segments.specs.Merged.{AreMerged}
 use Rattle.import_segments.specs.Publishing.{IsIdle}
-use Rattle.serial_run.specs.Lawful.{HasPrinted, Rules, State, waiting_text}
+use Rattle.session_core.specs.Lawful.{HasPrinted, Rules, State, waiting_text}
 use Rattle.serial_run.specs.Run.{WritesLawful, serial_rules}
 use Rattle.serial_run.specs.Script.{IsScript}
 

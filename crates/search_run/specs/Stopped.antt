@@ -11,7 +11,7 @@ use Rattle.node_position.specs.Games.{Game}
 use Rattle.version_publisher.specs.declared.state.PublisherState.{PublisherState}
 use Rattle.import_work.specs.Course.{ImportCourse, losses_of}
 use Rattle.import_work.specs.Log.{Segment}
-use Rattle.serial_run.specs.Lawful.{HasPrinted, Rules, State, waiting_text}
+use Rattle.session_core.specs.Lawful.{HasPrinted, Rules, State, waiting_text}
 use Rattle.serial_run.specs.Run.{WritesPrefix, serial_rules}
 use Rattle.serial_run.specs.Script.{IsScript}
 use Rattle.search_run.specs.Run.{beside_rules}

@@ -10,8 +10,8 @@
 
 mod base;
 mod beside;
-mod carried;
 mod importer;
+mod owned_publisher;
 mod run_beside;
 mod searchers;
 mod top_call;

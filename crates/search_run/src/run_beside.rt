@@ -35,7 +35,7 @@ ghost use Rattle.search_run.specs.Beside.{
   HasEnded,
   HasRunTo,
   IsJoined,
-  IsOrdered,
+  IsJobOf,
   MayBegin,
   StandsStill,
   StopsBeside,
@@ -45,18 +45,13 @@ ghost use Rattle.import_segments.specs.Publishing.{IsIdle, IsWithinLimits};
 ghost use Rattle.search_run.specs.Run.{WritesPublished, beside_rules};
 ghost use Rattle.search_run.specs.Seen.{HaveSeen, IsVersionOf};
 ghost use Rattle.search_run.specs.Stopped.{WritesPublishedPrefix};
-ghost use Rattle.serial_run.specs.Lawful.{Rules};
-ghost use Rattle.serial_run.specs.Steps.{
-  IsNoImport,
-  PassesText,
-  StopsInStatement,
-  import_at,
-  kept_report,
-};
-ghost use Rattle.serial_run.specs.Texts.{opening_text};
+ghost use Rattle.session_core.specs.Lawful.{Rules};
+ghost use Rattle.serial_run.specs.Steps.{PassesText, StopsInStatement, import_at, kept_report};
+ghost use Rattle.session_core.specs.Sources.{IsNoImport};
+ghost use Rattle.session_core.specs.ImportTexts.{import_line_text};
 
 use crate::beside::answer_beside;
-use crate::importer::{Ended, Importing, Order, Tools, import};
+use crate::importer::{Ended, ImportJob, ImporterState, Importing, import};
 use crate::searchers::Searchers;
 use hit_collectors::Collector;
 use import_segments::{OpenName, Receipts};
@@ -65,8 +60,8 @@ use kb_edges::{Folder, Gate, Sink};
 use kb_geometry::NoMemory;
 use query_script::Placed;
 use segment_store::Segment;
-use serial_run::{Standing, Stopped, source_of, write_all};
-use session_core::Session;
+use serial_run::{RunState, Stopped, answer_alone, write_all};
+use session_core::{Session, source_of};
 use std::alloc::Global;
 use std::snapshot::Snapshot;
 use std::sync::{Arc, Wait};
@@ -78,8 +73,8 @@ use version_publisher::{Publisher, Searcher, Version};
 // stands behind them, or why it stopped.
 #[derive(Drop)]
 pub(crate) struct Passed<R: Wait + Drop, F: Folder, G: Gate> {
-    tools: Tools<R, F, G>,
-    outcome: Result<(Standing, usize), Stopped>,
+    importer: ImporterState<R, F, G>,
+    outcome: Result<(RunState, usize), Stopped>,
 }
 
 // An import that was joined, and how many statements were answered beside it.
@@ -91,7 +86,7 @@ struct Joined<R: Wait + Drop, F: Folder, G: Gate> {
 
 // Runs statements in order, with imports by batches of so many files that go on beside the
 // statements behind them, and writes the text of each. The boxes tally the hits of the searches. The
-// importer's tools are handed back.
+// importer is handed back.
 pub(crate) fn run_beside<
     J: OpenName + Send + Sync + 'static,
     R: Threads + Wait + Clone + Drop + Send + Sync + 'static,
@@ -105,55 +100,55 @@ pub(crate) fn run_beside<
     batch: u32,
     boards: Vec<C>,
     placed: &[Placed],
-    tools: Tools<R, F, G>,
+    importer: ImporterState<R, F, G>,
     searchers: Vec<Searcher<Segment>>,
     out: &mut K,
-) -> (Result<(), Stopped>, Tools<R, F, G>)
+) -> (Result<(), Stopped>, ImporterState<R, F, G>)
     requires some { (1 ≤ batch) × (batch ≤ 4096) }
     requires few { length placed.now ≤ 1048576 }
-    requires opening { tools.carried.publisher.opening ≡ J.opening }
-    requires empty { tools.carried.publisher.log ≡ [] }
-    requires idle { IsIdle tools.carried.publisher }
-    requires merged { AreMerged tools.carried.publisher.parts }
+    requires opening { importer.owned.publisher.opening ≡ J.opening }
+    requires empty { importer.owned.publisher.log ≡ [] }
+    requires idle { IsIdle importer.owned.publisher }
+    requires merged { AreMerged importer.owned.publisher.parts }
     requires nine { length searchers.items ≡ 9 }
-    requires new { All (IsNewSearcher tools.carried.publisher.opening) searchers.items }
-    ensures lawful { IfTold (F.files tools.folder)
+    requires new { All (IsNewSearcher importer.owned.publisher.opening) searchers.items }
+    ensures lawful { IfTold (F.files importer.folder)
         (λ files. IfTold (K.written out.old) (λ before. OnOk result.0
         (WritesPublished (beside_rules batch) files (map (λ board. C.tally board) boards.items)
-        placed.now before (K.written out.new) (F.faults tools.folder) (F.faults result.1.folder)
-        result.1.carried.publisher))) }
-    ensures stopped { IfTold (F.files tools.folder)
+        placed.now before (K.written out.new) (F.faults importer.folder) (F.faults result.1.folder)
+        result.1.owned.publisher))) }
+    ensures stopped { IfTold (F.files importer.folder)
         (λ files. IfTold (K.written out.old) (λ before. OnErr result.0
         (WritesPublishedPrefix (beside_rules batch) files
         (map (λ board. C.tally board) boards.items) placed.now before (K.written out.new)
-        (F.faults tools.folder) (F.faults result.1.folder) result.1.carried.publisher.log))) }
+        (F.faults importer.folder) (F.faults result.1.folder) result.1.owned.publisher.log))) }
     ensures sink_fault { IsErrOf result.0 Stopped.SinkFault →
         Rose (K.faults out.old) (K.faults out.new) }
-    ensures opening { result.1.carried.publisher.opening ≡ tools.carried.publisher.opening }
-    ensures same { F.files result.1.folder ≡ F.files tools.folder }
-    ensures later { F.faults tools.folder ≤ F.faults result.1.folder }
+    ensures opening { result.1.owned.publisher.opening ≡ importer.owned.publisher.opening }
+    ensures same { F.files result.1.folder ≡ F.files importer.folder }
+    ensures later { F.faults importer.folder ≤ F.faults result.1.folder }
     ensures sink_later { K.faults out.old ≤ K.faults out.new }
 {
-    let searchers = match Searchers::<J>::new(alloc, &tools.carried.publisher, searchers) {
+    let searchers = match Searchers::<J>::new(alloc, &importer.owned.publisher, searchers) {
         Ok(searchers) => searchers,
-        Err(error) => return (Err(Stopped::from(error)), tools),
+        Err(error) => return (Err(Stopped::from(error)), importer),
     };
     let mut session = Session::new(boards);
-    let Passed { tools, outcome } = run_all(
+    let Passed { importer, outcome } = run_all(
         rt,
         alloc,
         batch,
         &mut session,
         searchers,
         placed,
-        tools,
+        importer,
         out,
     );
-    (close(outcome, out), tools)
+    (close(outcome, out), importer)
 }
 
 // Writes the closing report of a run, if it didn't stop before.
-fn close<K: Sink>(outcome: Result<(Standing, usize), Stopped>, out: &mut K) -> Result<(), Stopped>
+fn close<K: Sink>(outcome: Result<(RunState, usize), Stopped>, out: &mut K) -> Result<(), Stopped>
     ensures whole { IfTold (K.written out.old) (λ before. OnOk result (IfOk outcome (λ r.
         K.written out.new ≡ Some (before ++ kept_report r.0)))) }
     ensures ran { OnOk result (IsOk outcome) }
@@ -165,8 +160,8 @@ fn close<K: Sink>(outcome: Result<(Standing, usize), Stopped>, out: &mut K) -> R
         IsErrOf outcome Stopped.SinkFault ⊎ Rose (K.faults out.old) (K.faults out.new) }
     ensures sink_later { K.faults out.old ≤ K.faults out.new }
 {
-    let (standing, _count) = outcome?;
-    write_all(out, standing.report())?;
+    let (state, _count) = outcome?;
+    write_all(out, state.report())?;
     Ok(())
 }
 
@@ -185,36 +180,36 @@ fn run_all<
     session: &mut Session<C>,
     searchers: Searchers<J>,
     placed: &[Placed],
-    tools: Tools<R, F, G>,
+    importer: ImporterState<R, F, G>,
     out: &mut K,
 ) -> Passed<R, F, G>
     requires some { (1 ≤ batch) × (batch ≤ 4096) }
     requires few { length placed.now ≤ 1048576 }
-    requires opening { tools.carried.publisher.opening ≡ J.opening }
-    requires empty { tools.carried.publisher.log ≡ [] }
-    requires idle { IsIdle tools.carried.publisher }
-    requires merged { AreMerged tools.carried.publisher.parts }
+    requires opening { importer.owned.publisher.opening ≡ J.opening }
+    requires empty { importer.owned.publisher.log ≡ [] }
+    requires idle { IsIdle importer.owned.publisher }
+    requires merged { AreMerged importer.owned.publisher.parts }
     requires seen { searchers.own.seen ≡ [] }
-    ensures ran { IfTold (F.files tools.folder) (λ files. IfTold (K.written out.old) (λ before.
-        IfOk result.outcome (λ r. HasRunTo (beside_rules batch) files session.old placed.now r.0
-        session.new result.tools.carried.publisher.log before (K.written out.new)
-        (F.faults tools.folder) (F.faults result.tools.folder)))) }
-    ensures stopped { IfTold (F.files tools.folder) (λ files. IfTold (K.written out.old) (λ before.
-        OnErr result.outcome (WritesPublishedPrefix (beside_rules batch) files session.old
-        placed.now before (K.written out.new) (F.faults tools.folder)
-        (F.faults result.tools.folder) result.tools.carried.publisher.log))) }
-    ensures idle { IfOk result.outcome (λ r. IsIdle result.tools.carried.publisher) }
-    ensures merged { IfOk result.outcome (λ r. AreMerged result.tools.carried.publisher.parts) }
+    ensures ran { IfTold (F.files importer.folder) (λ files. IfTold (K.written out.old) (λ before.
+        IfOk result.outcome (λ r. HasRunTo (beside_rules batch) files session.old.boxes placed.now r.0
+        session.new result.importer.owned.publisher.log before (K.written out.new)
+        (F.faults importer.folder) (F.faults result.importer.folder)))) }
+    ensures stopped { IfTold (F.files importer.folder) (λ files. IfTold (K.written out.old) (λ before.
+        OnErr result.outcome (WritesPublishedPrefix (beside_rules batch) files session.old.boxes
+        placed.now before (K.written out.new) (F.faults importer.folder)
+        (F.faults result.importer.folder) result.importer.owned.publisher.log))) }
+    ensures idle { IfOk result.outcome (λ r. IsIdle result.importer.owned.publisher) }
+    ensures merged { IfOk result.outcome (λ r. AreMerged result.importer.owned.publisher.parts) }
     ensures sink_fault { IsErrOf result.outcome Stopped.SinkFault →
         Rose (K.faults out.old) (K.faults out.new) }
-    ensures opening { result.tools.carried.publisher.opening ≡ tools.carried.publisher.opening }
-    ensures same { F.files result.tools.folder ≡ F.files tools.folder }
-    ensures later { F.faults tools.folder ≤ F.faults result.tools.folder }
+    ensures opening { result.importer.owned.publisher.opening ≡ importer.owned.publisher.opening }
+    ensures same { F.files result.importer.folder ≡ F.files importer.folder }
+    ensures later { F.faults importer.folder ≤ F.faults result.importer.folder }
     ensures sink_later { K.faults out.old ≤ K.faults out.new }
 {
     let mut searchers = searchers;
-    let mut standing = Standing::new(alloc);
-    let mut tools = tools;
+    let mut state = RunState::new(alloc);
+    let mut importer = importer;
     let mut next = 0;
     while next < placed.len() {
         let statement = &placed[next];
@@ -225,33 +220,33 @@ fn run_all<
             batch,
             session,
             &mut searchers,
-            standing,
+            state,
             statement,
             rest,
-            tools,
+            importer,
             out,
         );
         let Passed {
-            tools: back,
+            importer: back,
             outcome,
         } = passed;
-        tools = back;
+        importer = back;
         match outcome {
             Ok((after, count)) => {
-                standing = after;
+                state = after;
                 next += 1 + count;
             }
             Err(stopped) => {
                 return Passed {
-                    tools,
+                    importer,
                     outcome: Err(stopped),
                 };
             }
         }
     }
     Passed {
-        tools,
-        outcome: Ok((standing, next)),
+        importer,
+        outcome: Ok((state, next)),
     }
 }
 
@@ -270,39 +265,39 @@ fn run_next<
     batch: u32,
     session: &mut Session<C>,
     searchers: &mut Searchers<J>,
-    standing: Standing,
+    state: RunState,
     placed: &Placed,
     rest: &[Placed],
-    tools: Tools<R, F, G>,
+    importer: ImporterState<R, F, G>,
     out: &mut K,
 ) -> Passed<R, F, G>
     requires some { (1 ≤ batch) × (batch ≤ 4096) }
-    requires few { length tools.carried.publisher.log ≤ 9000000000000000000 }
-    requires stands { StandsStill J.opening tools.carried.publisher searchers.old.own standing }
-    ensures ran { IfTold (F.files tools.folder) (λ files. IfOk result.outcome (λ r.
+    requires few { length importer.owned.publisher.log ≤ 9000000000000000000 }
+    requires stands { StandsStill J.opening importer.owned.publisher searchers.old.own state }
+    ensures ran { IfTold (F.files importer.folder) (λ files. IfOk result.outcome (λ r.
         (start : List BoxTally) (done : List Placed) (before : List ℕ) (first : ℕ) →
-        HasRunTo (beside_rules batch) files start done standing session.old
-        tools.carried.publisher.log before (K.written out.old) first (F.faults tools.folder) →
+        HasRunTo (beside_rules batch) files start done state session.old
+        importer.owned.publisher.log before (K.written out.old) first (F.faults importer.folder) →
         HasRunTo (beside_rules batch) files start (done ++ placed.now ∷ take r.1 rest.now) r.0
-        session.new result.tools.carried.publisher.log before (K.written out.new) first
-        (F.faults result.tools.folder))) }
-    ensures stopped { IfTold (F.files tools.folder) (λ files. OnErr result.outcome (
+        session.new result.importer.owned.publisher.log before (K.written out.new) first
+        (F.faults result.importer.folder))) }
+    ensures stopped { IfTold (F.files importer.folder) (λ files. OnErr result.outcome (
         (start : List BoxTally) (done : List Placed) (before : List ℕ) (first : ℕ) →
-        HasRunTo (beside_rules batch) files start done standing session.old
-        tools.carried.publisher.log before (K.written out.old) first (F.faults tools.folder) →
+        HasRunTo (beside_rules batch) files start done state session.old
+        importer.owned.publisher.log before (K.written out.old) first (F.faults importer.folder) →
         WritesPublishedPrefix (beside_rules batch) files start (done ++ placed.now ∷ rest.now)
-        before (K.written out.new) first (F.faults result.tools.folder)
-        result.tools.carried.publisher.log)) }
+        before (K.written out.new) first (F.faults result.importer.folder)
+        result.importer.owned.publisher.log)) }
     ensures stands { IfOk result.outcome (λ r.
-        StandsStill J.opening result.tools.carried.publisher searchers.new.own r.0) }
+        StandsStill J.opening result.importer.owned.publisher searchers.new.own r.0) }
     ensures count { IfOk result.outcome (λ r. r.1 ≤ length rest.now) }
-    ensures few { length result.tools.carried.publisher.log
-        ≤ length tools.carried.publisher.log + 4294967295 }
+    ensures few { length result.importer.owned.publisher.log
+        ≤ length importer.owned.publisher.log + 4294967295 }
     ensures sink_fault { IsErrOf result.outcome Stopped.SinkFault →
         Rose (K.faults out.old) (K.faults out.new) }
-    ensures opening { result.tools.carried.publisher.opening ≡ J.opening }
-    ensures same { F.files result.tools.folder ≡ F.files tools.folder }
-    ensures later { F.faults tools.folder ≤ F.faults result.tools.folder }
+    ensures opening { result.importer.owned.publisher.opening ≡ J.opening }
+    ensures same { F.files result.importer.folder ≡ F.files importer.folder }
+    ensures later { F.faults importer.folder ≤ F.faults result.importer.folder }
     ensures sink_later { K.faults out.old ≤ K.faults out.new }
 {
     match source_of(alloc, &placed.statement) {
@@ -312,19 +307,19 @@ fn run_next<
             batch,
             session,
             searchers,
-            standing,
+            state,
             placed.line,
             source,
             rest,
-            tools,
+            importer,
             out,
         ),
         Ok(None) => {
-            let outcome = answer_still(rt, alloc, session, standing, placed, out);
-            Passed { tools, outcome }
+            let outcome = answer_still(rt, alloc, session, state, placed, out);
+            Passed { importer, outcome }
         }
         Err(NoMemory) => Passed {
-            tools,
+            importer,
             outcome: Err(Stopped::NoMemory),
         },
     }
@@ -335,25 +330,23 @@ fn answer_still<R: Threads + Sync, K: Sink, C: Collector>(
     rt: &R,
     alloc: Global,
     session: &mut Session<C>,
-    standing: Standing,
+    state: RunState,
     placed: &Placed,
     out: &mut K,
-) -> Result<(Standing, usize), Stopped>
+) -> Result<(RunState, usize), Stopped>
     requires { IsNoImport placed.now.statement }
     ensures passed { IfTold (K.written out.old) (λ before. IfOk result (λ r.
-        PassesText standing session.old placed.now r.0 session.new before (K.written out.new))) }
+        PassesText state session.old placed.now r.0 session.new before (K.written out.new))) }
     ensures stopped { IfTold (K.written out.old) (λ before. OnErr result ((rules : Rules) →
-        StopsInStatement rules standing session.old placed.now before (K.written out.new))) }
-    ensures version { IfOk result (λ r. r.0.version ≡ standing.version) }
-    ensures games { IfOk result (λ r. r.0.games ≡ standing.games) }
+        StopsInStatement rules state session.old placed.now before (K.written out.new))) }
+    ensures version { IfOk result (λ r. r.0.version ≡ state.version) }
+    ensures games { IfOk result (λ r. r.0.games ≡ state.games) }
     ensures alone { IfOk result (λ r. r.1 ≡ 0) }
     ensures sink_fault { IsErrOf result Stopped.SinkFault →
         Rose (K.faults out.old) (K.faults out.new) }
     ensures sink_later { K.faults out.old ≤ K.faults out.new }
 {
-    let text = standing.text_of(rt, alloc, session, placed)?;
-    write_all(out, &text)?;
-    Ok((standing.leave(&placed.statement), 0))
+    Ok((answer_alone(rt, alloc, session, state, placed, out)?, 0))
 }
 
 // Runs an import, and the statements behind it that are answered beside it.
@@ -370,78 +363,78 @@ fn run_import<
     batch: u32,
     session: &mut Session<C>,
     searchers: &mut Searchers<J>,
-    standing: Standing,
+    state: RunState,
     line: u32,
     source: Source,
     rest: &[Placed],
-    tools: Tools<R, F, G>,
+    importer: ImporterState<R, F, G>,
     out: &mut K,
 ) -> Passed<R, F, G>
     requires some { (1 ≤ batch) × (batch ≤ 4096) }
-    requires few { length tools.carried.publisher.log ≤ 9000000000000000000 }
-    requires stands { StandsStill J.opening tools.carried.publisher searchers.old.own standing }
-    ensures ran { IfTold (F.files tools.folder) (λ files. IfOk result.outcome (λ r.
+    requires few { length importer.owned.publisher.log ≤ 9000000000000000000 }
+    requires stands { StandsStill J.opening importer.owned.publisher searchers.old.own state }
+    ensures ran { IfTold (F.files importer.folder) (λ files. IfOk result.outcome (λ r.
         (start : List BoxTally) (done : List Placed) (before : List ℕ) (first : ℕ) →
-        HasRunTo (beside_rules batch) files start done standing session.old
-        tools.carried.publisher.log before (K.written out.old) first (F.faults tools.folder) →
+        HasRunTo (beside_rules batch) files start done state session.old
+        importer.owned.publisher.log before (K.written out.old) first (F.faults importer.folder) →
         HasRunTo (beside_rules batch) files start
         (done ++ import_at line source ∷ take r.1 rest.now) r.0 session.new
-        result.tools.carried.publisher.log before (K.written out.new) first
-        (F.faults result.tools.folder))) }
-    ensures stopped { IfTold (F.files tools.folder) (λ files. OnErr result.outcome (
+        result.importer.owned.publisher.log before (K.written out.new) first
+        (F.faults result.importer.folder))) }
+    ensures stopped { IfTold (F.files importer.folder) (λ files. OnErr result.outcome (
         (start : List BoxTally) (done : List Placed) (before : List ℕ) (first : ℕ) →
-        HasRunTo (beside_rules batch) files start done standing session.old
-        tools.carried.publisher.log before (K.written out.old) first (F.faults tools.folder) →
+        HasRunTo (beside_rules batch) files start done state session.old
+        importer.owned.publisher.log before (K.written out.old) first (F.faults importer.folder) →
         WritesPublishedPrefix (beside_rules batch) files start
         (done ++ import_at line source ∷ rest.now) before (K.written out.new) first
-        (F.faults result.tools.folder) result.tools.carried.publisher.log)) }
+        (F.faults result.importer.folder) result.importer.owned.publisher.log)) }
     ensures stands { IfOk result.outcome (λ r.
-        StandsStill J.opening result.tools.carried.publisher searchers.new.own r.0) }
+        StandsStill J.opening result.importer.owned.publisher searchers.new.own r.0) }
     ensures count { IfOk result.outcome (λ r. r.1 ≤ length rest.now) }
-    ensures few { length result.tools.carried.publisher.log
-        ≤ length tools.carried.publisher.log + 4294967295 }
+    ensures few { length result.importer.owned.publisher.log
+        ≤ length importer.owned.publisher.log + 4294967295 }
     ensures sink_fault { IsErrOf result.outcome Stopped.SinkFault →
         Rose (K.faults out.old) (K.faults out.new) }
-    ensures opening { result.tools.carried.publisher.opening ≡ J.opening }
-    ensures same { F.files result.tools.folder ≡ F.files tools.folder }
-    ensures later { F.faults tools.folder ≤ F.faults result.tools.folder }
+    ensures opening { result.importer.owned.publisher.opening ≡ J.opening }
+    ensures same { F.files result.importer.folder ≡ F.files importer.folder }
+    ensures later { F.faults importer.folder ≤ F.faults result.importer.folder }
     ensures sink_later { K.faults out.old ≤ K.faults out.new }
 {
-    let (order, theirs) = match begin(alloc, batch, searchers, &standing, line, source, out) {
+    let (job, theirs) = match begin(alloc, batch, searchers, &state, line, source, out) {
         Ok(begun) => begun,
         Err(stopped) => {
             return Passed {
-                tools,
+                importer,
                 outcome: Err(stopped),
             };
         }
     };
-    let held = standing.into_version();
+    let held = state.into_version();
     let joined = import_beside(
-        rt, alloc, order, tools, theirs, session, searchers, held, rest, out,
+        rt, alloc, job, importer, theirs, session, searchers, held, rest, out,
     );
     let Joined { ended, answered } = joined;
-    let Ended { tools, report } = ended;
-    let publisher = &tools.carried.publisher;
+    let Ended { importer, report } = ended;
+    let publisher = &importer.owned.publisher;
     let outcome = join(rt, alloc, searchers, publisher, report, answered);
-    Passed { tools, outcome }
+    Passed { importer, outcome }
 }
 
-// Writes the text of a statement that begins an import, and makes its order.
+// Writes the text of a statement that begins an import, and makes its job.
 fn begin<J: OpenName, K: Sink>(
     alloc: Global,
     batch: u32,
     searchers: &Searchers<J>,
-    standing: &Standing,
+    state: &RunState,
     line: u32,
     source: Source,
     out: &mut K,
-) -> Result<(Order, Arc<Receipts<J>>), Stopped>
-    ensures order { IfOk result (λ t. IsOrdered t.0 batch line source standing.now) }
+) -> Result<(ImportJob, Arc<Receipts<J>>), Stopped>
+    ensures job { IfOk result (λ t. IsJobOf t.0 batch line source state.now) }
     ensures written { IfTold (K.written out.old) (λ before. OnOk result (K.written out.new
-        ≡ Some (before ++ (kept_report standing.now ++ opening_text line source)))) }
+        ≡ Some (before ++ (kept_report state.now ++ import_line_text line source)))) }
     ensures part { IfTold (K.written out.old) (λ before. OnErr result ((more : List ℕ)
-        × IsPrefix more (kept_report standing.now ++ opening_text line source)
+        × IsPrefix more (kept_report state.now ++ import_line_text line source)
         × (K.written out.new ≡ Some (before ++ more)))) }
     ensures sink_fault { IsErrOf result Stopped.SinkFault →
         Rose (K.faults out.old) (K.faults out.new) }
@@ -450,15 +443,15 @@ fn begin<J: OpenName, K: Sink>(
     let Ok(theirs) = Arc::try_clone(&searchers.receipts) else {
         return Err(Stopped::NoMemory);
     };
-    let text = standing.import_text(alloc, line, &source)?;
+    let text = state.import_text(alloc, line, &source)?;
     write_all(out, &text)?;
-    let order = Order {
+    let job = ImportJob {
         source,
         line,
         batch,
-        before: standing.counts(),
+        before: state.counts(),
     };
-    Ok((order, theirs))
+    Ok((job, theirs))
 }
 
 // Imports in a thread of its own, and answers statements meanwhile, up to the first one that waits
@@ -473,8 +466,8 @@ fn import_beside<
 >(
     rt: &R,
     alloc: Global,
-    order: Order,
-    tools: Tools<R, F, G>,
+    job: ImportJob,
+    importer: ImporterState<R, F, G>,
     theirs: Arc<Receipts<J>>,
     session: &mut Session<C>,
     searchers: &mut Searchers<J>,
@@ -482,12 +475,12 @@ fn import_beside<
     rest: &[Placed],
     out: &mut K,
 ) -> Joined<R, F, G>
-    requires begins { MayBegin J.opening tools.carried.publisher order }
+    requires begins { MayBegin J.opening importer.owned.publisher job }
     requires held { IsVersionOf held searchers.old.own.seen }
-    ensures ended { HasEnded (F.files tools.folder) (F.faults tools.folder) order
-        tools.carried.publisher.opening tools.carried.publisher.log
-        (F.files result.ended.tools.folder) (F.faults result.ended.tools.folder)
-        result.ended.tools.carried.publisher result.ended.report }
+    ensures ended { HasEnded (F.files importer.folder) (F.faults importer.folder) job
+        importer.owned.publisher.opening importer.owned.publisher.log
+        (F.files result.ended.importer.folder) (F.faults result.ended.importer.folder)
+        result.ended.importer.owned.publisher result.ended.report }
     ensures answered { IfTold (K.written out.old) (λ before. IfOk result.answered (λ count.
         HasAnsweredAll (HaveSeen searchers.old.own searchers.old.block.items) held.number
         session.old (take count rest.now) (HaveSeen searchers.new.own searchers.new.block.items)
@@ -502,14 +495,14 @@ fn import_beside<
     ensures sink_later { K.faults out.old ≤ K.faults out.new }
 {
     let promise = Importing {
-        begun: tools.carried.publisher.receipt(),
-        folder: Snapshot::of(&tools.folder),
-        order: Snapshot::of(&order),
+        begun: importer.owned.publisher.receipt(),
+        folder: Snapshot::of(&importer.folder),
+        job: Snapshot::of(&job),
     };
     theirs.start(rt);
     let import = move || -> Ended<R, F, G>
-        requires { MayBegin J.opening tools.carried.publisher order }
-    { import(alloc, order, tools, theirs) };
+        requires { MayBegin J.opening importer.owned.publisher job }
+    { import(alloc, job, importer, theirs) };
     match thread::spawn_with(rt, promise, import) {
         Ok(child) => {
             let answered = answer_beside(rt, alloc, session, searchers, held, rest, out);
@@ -534,7 +527,7 @@ fn join<J: OpenName, R: Wait>(
     publisher: &Publisher<Segment>,
     report: Result<Report, NoMemory>,
     answered: Result<usize, Stopped>,
-) -> Result<(Standing, usize), Stopped>
+) -> Result<(RunState, usize), Stopped>
     requires opening { publisher.now.opening ≡ J.opening }
     requires limits { IsWithinLimits publisher.now.log }
     requires few { IfOk report (λ r. games_reported r.body ≤ 400000) }
@@ -548,6 +541,6 @@ fn join<J: OpenName, R: Wait>(
     let count = answered?;
     let report = report?;
     let version = searchers.last_version(rt, alloc, publisher)?;
-    let standing = Standing::joined(alloc, version, &report)?;
-    Ok((standing, count))
+    let state = RunState::joined(alloc, version, &report)?;
+    Ok((state, count))
 }

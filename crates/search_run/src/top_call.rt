@@ -35,8 +35,8 @@ ghost use Rattle.serial_run.specs.Serial.{IsEarly, Prints, PrintsPrefix};
 ghost use Rattle.serial_run.specs.declared.status.Status.{Status};
 
 use crate::base::Base;
-use crate::carried::Carried;
-use crate::importer::Tools;
+use crate::importer::ImporterState;
+use crate::owned_publisher::OwnedPublisher;
 use crate::run_beside::run_beside;
 use hit_collectors::Collector;
 use kb_edges::{Folder, Gate, Sink, Source};
@@ -287,18 +287,18 @@ fn run_base<
     let Ok(own) = rt.clone() else {
         return (Err(Stopped::NoMemory), folder, publisher);
     };
-    let tools = Tools {
-        carried: Carried { publisher, rt: own },
+    let importer = ImporterState {
+        owned: OwnedPublisher { publisher, rt: own },
         folder,
         gate,
     };
-    let (ran, tools) = run_beside::<Brand, R, F, G, K, C>(
-        rt, alloc, batch, boards, placed, tools, searchers, out,
+    let (ran, importer) = run_beside::<Brand, R, F, G, K, C>(
+        rt, alloc, batch, boards, placed, importer, searchers, out,
     );
-    let Tools {
-        carried,
+    let ImporterState {
+        owned,
         folder,
         gate: _gate,
-    } = tools;
-    (ran, folder, carried.into_publisher())
+    } = importer;
+    (ran, folder, owned.into_publisher())
 }

@@ -21,11 +21,12 @@ use Rattle.import_work.proofs.GivenSegments.{adds_up}
 use Rattle.import_work.proofs.Losses.{loses}
 use Rattle.import_work.proofs.RoomLemmas.{length-trees}
 use Rattle.import_work.proofs.SegmentLemmas.{games_in-segments}
-use Rattle.serial_run.specs.Reports.{told_text}
+use Rattle.session_core.specs.ImportTexts.{told_text}
 use Rattle.serial_run.specs.Run.{serial_rules}
-use Rattle.serial_run.specs.Steps.{LeadsOn, statement_of}
+use Rattle.serial_run.specs.Steps.{LeadsOn}
+use Rattle.session_core.specs.Sources.{statement_of}
 use Rattle.import_segments.specs.Stores.{HasFewGames, HasTaken}
-use Rattle.serial_run.specs.Texts.{listed_text, made_text, report_text}
+use Rattle.session_core.specs.ImportTexts.{listed_text, made_text, report_text}
 use Rattle.import_segments.proofs.PushedSegments.{games_pushed}
 use Rattle.serial_run.proofs.StatementLemmas.{leads-import}
 

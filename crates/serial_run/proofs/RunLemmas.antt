@@ -11,7 +11,8 @@ use Rattle.query_script.specs.CommandWords.{AreLawful}
 use Rattle.query_script.specs.declared.command_words.Words.{Words}
 use Rattle.query_script.specs.declared.statement.Placed.{Placed}
 use Rattle.import_work.specs.Course.{losses_of}
-use Rattle.serial_run.specs.Lawful.{IsBegun, IsNextPrefix, Rules, State, at_start, nothing, one_more, waiting_text}
+use Rattle.session_core.specs.Lawful.{IsBegun, IsNextPrefix, Rules, State, at_start, nothing, one_more, waiting_text}
+use Rattle.session_core.specs.SessionState.{SessionState, new_session}
 use Rattle.serial_run.specs.Run.{WritesLawful, WritesPrefix, serial_rules}
 use Rattle.serial_run.specs.Script.{IsScript}
 use Rattle.serial_run.specs.Serial.{PrintsAll}
@@ -19,13 +20,13 @@ use Rattle.serial_run.specs.Steps.{HasRun, IsKept, IsTextByKept, Kept, PassesSta
 use Rattle.import_work.proofs.FileLemmas.{RoseBy-then, rose_by_none}
 use Rattle.import_work.proofs.Losses.{losses_of-append}
 use Rattle.serial_run.proofs.StatementLemmas.{text-told, waiting_is}
-use Rattle.serial_run.proofs.WholeOutputs.{begun-completed, lawful-whole}
+use Rattle.session_core.proofs.WholeOutputs.{begun-completed, lawful-whole}
 
 -- nothing is run yet
-unfoldable pub HasRun-start : (rules : Rules) (files : List File) (boxes told : List BoxTally) (before : List ℕ) (written : Option (List ℕ)) (count : ℕ) → told ≡ boxes → written ≡ Some before → HasRun rules files boxes [] nothing_kept told before written count count
-HasRun-start rules files boxes told before written count same is = record {
-  state = at_start boxes;
-  is_kept = record { version = refl; games = refl; waiting = refl; floor = omega arith; tallies = sym same };
+unfoldable pub HasRun-start : (rules : Rules) (files : List File) (start : List BoxTally) (told : SessionState) (before : List ℕ) (written : Option (List ℕ)) (count : ℕ) → told ≡ new_session start → written ≡ Some before → HasRun rules files start [] nothing_kept told before written count count
+HasRun-start rules files start told before written count same is = record {
+  state = at_start start;
+  is_kept = record { version = refl; games = refl; waiting = refl; floor = omega arith; session_is = sym same };
   course = [];
   text = [];
   printed = nothing;
@@ -34,10 +35,10 @@ HasRun-start rules files boxes told before written count same is = record {
 }
 
 -- one statement more is run
-unfoldable pub HasRun-more : (rules : Rules) (files : List File) (start boxes told : List BoxTally) (placed : List Placed) (p : Placed) (kept after : Kept) (before : List ℕ) (between written : Option (List ℕ)) (first second third : ℕ) (h : HasRun rules files start placed kept boxes before between first second)
-    → PassesStatement files rules kept boxes p after told (before ++ h.text) written second third → HasRun rules files start (placed ++ p ∷ []) after told before written first third
-HasRun-more rules files start boxes told placed p kept after before between written first second third h more =
-    let led = more.leads boxes told h.state h.is_kept (more.text_is files h.state h.is_kept) in record {
+unfoldable pub HasRun-more : (rules : Rules) (files : List File) (start : List BoxTally) (session told : SessionState) (placed : List Placed) (p : Placed) (kept after : Kept) (before : List ℕ) (between written : Option (List ℕ)) (first second third : ℕ) (h : HasRun rules files start placed kept session before between first second)
+    → PassesStatement files rules kept session p after told (before ++ h.text) written second third → HasRun rules files start (placed ++ p ∷ []) after told before written first third
+HasRun-more rules files start session told placed p kept after before between written first second third h more =
+    let led = more.leads session told h.state h.is_kept (more.text_is files h.state h.is_kept) in record {
       state = led.1;
       is_kept = led.2;
       course = h.course ++ led.0;
@@ -48,13 +49,13 @@ HasRun-more rules files start boxes told placed p kept after before between writ
     }
 
 -- the closing report is written
-pub WritesLawful-end : (rules : Rules) (files : List File) (start boxes : List BoxTally) (placed : List Placed) (kept : Kept) (before : List ℕ) (between written : Option (List ℕ)) (first second : ℕ) (h : HasRun rules files start placed kept boxes before between first second) → written ≡ Some ((before ++ h.text) ++ kept_report kept)
+pub WritesLawful-end : (rules : Rules) (files : List File) (start : List BoxTally) (session : SessionState) (placed : List Placed) (kept : Kept) (before : List ℕ) (between written : Option (List ℕ)) (first second : ℕ) (h : HasRun rules files start placed kept session before between first second) → written ≡ Some ((before ++ h.text) ++ kept_report kept)
     → WritesLawful rules files start placed before written first second
-WritesLawful-end rules files start boxes placed kept before between written first second h closed = record {
+WritesLawful-end rules files start session placed kept before between written first second h closed = record {
   course = h.course;
   text = h.text ++ waiting_text h.state;
   lawful = (h.state, h.text, h.printed, refl);
-  written_is = closed ∙ ap Some (append_assoc before h.text (kept_report kept) ∙ ap (λ t. before ++ (h.text ++ t)) (waiting_is h.state kept boxes h.is_kept));
+  written_is = closed ∙ ap Some (append_assoc before h.text (kept_report kept) ∙ ap (λ t. before ++ (h.text ++ t)) (waiting_is h.state kept session h.is_kept));
   paid = h.paid;
 }
 
@@ -63,9 +64,9 @@ rose_later : (n before between now : ℕ) → RoseBy n before between → betwee
 rose_later n before between now rose later = omega arith
 
 -- a prefix of what comes next is written
-pub WritesPrefix-stopped : (rules : Rules) (files : List File) (start boxes : List BoxTally) (placed passed left : List Placed) (kept : Kept) (before more : List ℕ) (between written : Option (List ℕ)) (first second third : ℕ) (h : HasRun rules files start passed kept boxes before between first second)
+pub WritesPrefix-stopped : (rules : Rules) (files : List File) (start : List BoxTally) (session : SessionState) (placed passed left : List Placed) (kept : Kept) (before more : List ℕ) (between written : Option (List ℕ)) (first second third : ℕ) (h : HasRun rules files start passed kept session before between first second)
     → placed ≡ passed ++ left → IsNextPrefix files rules h.state left more → written ≡ Some ((before ++ h.text) ++ more) → second ≤ third → WritesPrefix rules files start placed before written first third
-WritesPrefix-stopped rules files start boxes placed passed left kept before more between written first second third h split prefix is later =
+WritesPrefix-stopped rules files start session placed passed left kept before more between written first second third h split prefix is later =
     let begun : IsBegun files rules start h.course placed (h.text ++ more) = record { passed = passed; left = left; state = h.state; text = h.text; more = more; split = split; printed = h.printed; prefix = prefix; out_is = refl } in
     let whole = begun-completed files rules start h.course placed (h.text ++ more) begun in record {
       course = whole.whole_course;
@@ -78,10 +79,10 @@ WritesPrefix-stopped rules files start boxes placed passed left kept before more
     }
 
 -- what is written in a statement is a prefix of what comes next
-pub next_prefix : (rules : Rules) (files : List File) (s : State) (kept : Kept) (boxes : List BoxTally) (p : Placed) (left : List Placed) (more : List ℕ) → IsKept s kept boxes
-    → (more ≡ []) ⊎ ((text : List ℕ) × (told : List BoxTally) × IsTextByKept rules kept boxes p.line p.statement text told × IsPrefix more text) → IsNextPrefix files rules s (p ∷ left) more
-next_prefix rules files s kept boxes p left more is (inl none) = inl none
-next_prefix rules files s kept boxes p left more is (inr (text, told, of, prefix)) = inr (text, text-told files rules s p.line p.statement text told (of files s is), prefix)
+pub next_prefix : (rules : Rules) (files : List File) (s : State) (kept : Kept) (session : SessionState) (p : Placed) (left : List Placed) (more : List ℕ) → IsKept s kept session
+    → (more ≡ []) ⊎ ((text : List ℕ) × (told : SessionState) × IsTextByKept rules kept session p.line p.statement text told × IsPrefix more text) → IsNextPrefix files rules s (p ∷ left) more
+next_prefix rules files s kept session p left more is (inl none) = inl none
+next_prefix rules files s kept session p left more is (inr (text, told, of, prefix)) = inr (text, text-told files rules s p.line p.statement text told (of files s is), prefix)
 
 -- what holds holds after an error
 pub after_error : {T E : Type 0} (result : Result T E) (P : Type 0) → P → OnErr result P
@@ -89,10 +90,10 @@ after_error (Ok x) P h = tt
 after_error (Err e) P h = h
 
 -- a prefix of a statement's text was written
-pub StopsInStatement-text : {T E : Type 0} (result : Result T E) (rules : Rules) (kept : Kept) (boxes told : List BoxTally) (p : Placed) (before : List ℕ) (written : Option (List ℕ)) (text more : List ℕ)
-    → IsTextByKept rules kept boxes p.line p.statement text told → IsPrefix more text → written ≡ Some (before ++ more) → OnErr result (StopsInStatement rules kept boxes p before written)
-StopsInStatement-text result rules kept boxes told p before written text more of prefix is =
-    after_error result (StopsInStatement rules kept boxes p before written) (record { more = more; prefix = inr (text, told, of, prefix); written_is = is })
+pub StopsInStatement-text : {T E : Type 0} (result : Result T E) (rules : Rules) (kept : Kept) (session told : SessionState) (p : Placed) (before : List ℕ) (written : Option (List ℕ)) (text more : List ℕ)
+    → IsTextByKept rules kept session p.line p.statement text told → IsPrefix more text → written ≡ Some (before ++ more) → OnErr result (StopsInStatement rules kept session p before written)
+StopsInStatement-text result rules kept session told p before written text more of prefix is =
+    after_error result (StopsInStatement rules kept session p before written) (record { more = more; prefix = inr (text, told, of, prefix); written_is = is })
 
 -- the statements before one, it, and those behind it
 pub split_here : (placed : List Placed) (i : ℕ) (p : Placed) → i < length placed → p ≡ get_or placed i p → placed ≡ take i placed ++ p ∷ drop (suc i) placed

@@ -1,9 +1,6 @@
 -- Words that contracts of public functions rest on.
-pub mod Lawful
-pub mod Reports
 pub mod Run
 pub mod RunErrors
 pub mod Script
 pub mod Serial
 pub mod Steps
-pub mod Texts

@@ -6,7 +6,7 @@ use Rattle.kb_edges.specs.Files.{File}
 use Rattle.hit_collectors.specs.Tallies.{BoxTally}
 use Rattle.query_script.specs.declared.statement.Placed.{Placed}
 use Rattle.import_work.specs.Course.{ImportCourse, losses_of}
-use Rattle.serial_run.specs.Lawful.{IsLawful, Rules}
+use Rattle.session_core.specs.Lawful.{IsLawful, Rules}
 
 -- how a serial run names versions: so many files make one
 abbrev pub serial_rules : ℕ → Rules

@@ -4,7 +4,7 @@ use Rattle.std.specs.Prelude.{◌≡◌, ◌++◌, ℕ, List, Option, Some}
 use Rattle.kb_edges.specs.Files.{File}
 use Rattle.hit_collectors.specs.Tallies.{BoxTally}
 use Rattle.import_work.specs.Course.{ImportCourse, losses_of}
-use Rattle.serial_run.specs.Lawful.{IsLawful}
+use Rattle.session_core.specs.Lawful.{IsLawful}
 use Rattle.serial_run.specs.Run.{WritesLawful, WritesPrefix, serial_rules}
 use Rattle.serial_run.specs.Script.{IsScript}
 use Rattle.query_script.specs.CommandWords.{AreLawful}

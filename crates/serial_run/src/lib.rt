@@ -3,17 +3,14 @@
 //!
 //! Stands on session_core, hit_collectors, import_segments, import_work, search_engine, query_script,
 //! segment_store, version_publisher, node_position, sgf_reader, kb_edges, kb_geometry and the library
-//! bstr. In `specs/` are the script that is too long, the printed report of an import, the lawful
-//! outputs, and one statement of a run by what is kept of it; what becomes of the files of an import,
-//! and the course of imports, are words of import_work. The layer above uses that [`run_serial`] writes a lawful output where it is done and a
-//! prefix of one where it stops, and that [`Standing`] tells the text of each statement.
+//! bstr. In `specs/` are the script that is too long, and one statement of a run by what is kept of
+//! it; the lawful outputs are words of session_core. The layer above uses that [`run_serial`] writes
+//! a lawful output where it is done and a prefix of one where it stops, and that [`RunState`] tells
+//! the text of each statement.
 #![tactic(auto)]
 
 mod block;
 mod counts;
-mod laws;
-mod opening;
-mod print;
 mod read;
 mod script;
 mod serial;
@@ -24,11 +21,6 @@ mod status;
 mod write;
 
 pub use block::block_text;
-pub use laws::{
-    a_begun_text_is_a_prefix_of_a_lawful_output, a_serial_output_is_lawful_beside_imports,
-    a_serial_run_without_a_loss_has_one_output, each_script_has_a_lawful_output,
-};
-pub use opening::source_of;
 pub use script::{NoStatements, read_statements};
 pub use serial::run_serial;
 pub use standing::Standing;

@@ -4,7 +4,7 @@ ghost use Rattle.std.specs.declared.option.Option.{Option};
 ghost use Rattle.query_script.specs.Texts.{until_text};
 ghost use Rattle.session_core.specs.Answers.{IsAnswer, IsAnswered};
 ghost use Rattle.session_core.specs.Stores.{view_of};
-ghost use Rattle.serial_run.specs.Lawful.{Rules};
+ghost use Rattle.session_core.specs.Lawful.{Rules};
 ghost use Rattle.serial_run.specs.Steps.{AreAnswered, IsTextByKept, LeavesBase, kept_at};
 
 use crate::block::block_text;

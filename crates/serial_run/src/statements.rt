@@ -3,15 +3,19 @@ ghost use Rattle.std.specs.Prelude.{◌≡◌, ◌≤◌, ◌+◌, IfOk, IsErrOf
 ghost use Rattle.kb_edges.specs.Faults.{Rose};
 ghost use Rattle.kb_edges.specs.Told.{IfTold};
 ghost use Rattle.serial_run.specs.Run.{WritesLawful, WritesPrefix, serial_rules};
-ghost use Rattle.serial_run.specs.Steps.{PassesStatement, StopsInStatement};
+ghost use Rattle.serial_run.specs.Steps.{PassesStatement, PassesText, StopsInStatement, import_at};
+ghost use Rattle.session_core.specs.Lawful.{Rules};
+ghost use Rattle.session_core.specs.SessionState.{SessionState};
+ghost use Rattle.session_core.specs.Sources.{IsNoImport};
 
-use crate::standing::Standing;
+use crate::run_state::RunState;
 use crate::write::write_all;
 use hit_collectors::Collector;
+use import_work::Source;
 use kb_edges::{Folder, Sink, SinkError};
 use kb_geometry::NoMemory;
 use query_script::Placed;
-use session_core::Session;
+use session_core::{Session, source_of};
 use std::alloc::Global;
 use std::thread::Threads;
 
@@ -75,51 +79,112 @@ pub fn run_statements<R: Threads + Sync, F: Folder, K: Sink, C: Collector>(
     ensures sink_later { K.faults out.old ≤ K.faults out.new }
 {
     let mut session = Session::new(boards);
-    let mut standing = Standing::new(alloc);
+    let mut state = RunState::new(alloc);
     for statement in placed {
-        standing = run_statement(
+        state = run_statement(
             rt,
             alloc,
             batch,
             &mut session,
-            standing,
+            state,
             statement,
             folder,
             out,
         )?;
     }
-    write_all(out, standing.report())?;
+    write_all(out, state.report())?;
     Ok(())
 }
 
-// Writes the text of a statement. Hands back the state after it.
+// Writes the text of a statement, and imports where it begins an import. Hands back the state after
+// it.
 fn run_statement<R: Threads + Sync, F: Folder, K: Sink, C: Collector>(
     rt: &R,
     alloc: Global,
     batch: u32,
     session: &mut Session<C>,
-    standing: Standing,
+    state: RunState,
     placed: &Placed,
     folder: &mut F,
     out: &mut K,
-) -> Result<Standing, Stopped>
+) -> Result<RunState, Stopped>
     requires some { 1 ≤ batch }
-    requires number { standing.version ≤ 9000000000000000000 }
+    requires number { state.version ≤ 9000000000000000000 }
     ensures passed { IfTold (F.files folder.old)
         (λ files. IfTold (K.written out.old) (λ before. IfOk result (λ next.
-        PassesStatement files (serial_rules batch) standing session.old placed.now next
+        PassesStatement files (serial_rules batch) state session.old placed.now next
         session.new before (K.written out.new) (F.faults folder.old) (F.faults folder.new)))) }
     ensures stopped { IfTold (K.written out.old)
-        (λ before. OnErr result (StopsInStatement (serial_rules batch) standing session.old
+        (λ before. OnErr result (StopsInStatement (serial_rules batch) state session.old
         placed.now before (K.written out.new))) }
     ensures sink_fault { IsErrOf result Stopped.SinkFault →
         Rose (K.faults out.old) (K.faults out.new) }
-    ensures version { IfOk result (λ next. next.version ≤ standing.version + 4294967295) }
+    ensures version { IfOk result (λ next. next.version ≤ state.version + 4294967295) }
     ensures same { F.files folder.new ≡ F.files folder.old }
     ensures later { F.faults folder.old ≤ F.faults folder.new }
     ensures sink_later { K.faults out.old ≤ K.faults out.new }
 {
-    let text = standing.text_of(rt, alloc, session, placed)?;
+    match source_of(alloc, &placed.statement)? {
+        Some(source) => run_import(rt, alloc, batch, state, placed.line, &source, folder, out),
+        None => answer_alone(rt, alloc, session, state, placed, out),
+    }
+}
+
+// Writes the text of a statement that begins an import, and imports. Hands back the state after it.
+fn run_import<R: Threads + Sync, F: Folder, K: Sink>(
+    rt: &R,
+    alloc: Global,
+    batch: u32,
+    state: RunState,
+    line: u32,
+    source: &Source,
+    folder: &mut F,
+    out: &mut K,
+) -> Result<RunState, Stopped>
+    requires some { 1 ≤ batch }
+    requires number { state.version ≤ 9000000000000000000 }
+    ensures passed { IfTold (F.files folder.old) (λ files. IfTold (K.written out.old) (λ before.
+        IfOk result (λ next. (session : SessionState) →
+        PassesStatement files (serial_rules batch) state session (import_at line source.now) next
+        session before (K.written out.new) (F.faults folder.old) (F.faults folder.new)))) }
+    ensures stopped { IfTold (K.written out.old)
+        (λ before. OnErr result ((session : SessionState) →
+        StopsInStatement (serial_rules batch) state session (import_at line source.now) before
+        (K.written out.new))) }
+    ensures sink_fault { IsErrOf result Stopped.SinkFault →
+        Rose (K.faults out.old) (K.faults out.new) }
+    ensures version { IfOk result (λ next. next.version ≤ state.version + 4294967295) }
+    ensures same { F.files folder.new ≡ F.files folder.old }
+    ensures later { F.faults folder.old ≤ F.faults folder.new }
+    ensures sink_later { K.faults out.old ≤ K.faults out.new }
+{
+    let text = state.import_text(alloc, line, source)?;
     write_all(out, &text)?;
-    Ok(standing.pass(rt, alloc, folder, batch, placed)?)
+    Ok(state.pass_import(rt, alloc, folder, batch, line, source)?)
+}
+
+/// Writes the text of a statement that begins no import, while none is under way. Hands back the
+/// state after it.
+pub fn answer_alone<R: Threads + Sync, K: Sink, C: Collector>(
+    rt: &R,
+    alloc: Global,
+    session: &mut Session<C>,
+    state: RunState,
+    placed: &Placed,
+    out: &mut K,
+) -> Result<RunState, Stopped>
+    requires { IsNoImport placed.now.statement }
+    ensures passed { IfTold (K.written out.old) (λ before. IfOk result (λ next.
+        PassesText state session.old placed.now next session.new before (K.written out.new))) }
+    ensures stopped { IfTold (K.written out.old) (λ before. OnErr result ((rules : Rules) →
+        StopsInStatement rules state session.old placed.now before (K.written out.new))) }
+    ensures version { IfOk result (λ next. next.version ≡ state.version) }
+    ensures games { IfOk result (λ next. next.games ≡ state.games) }
+    ensures sink_fault { IsErrOf result Stopped.SinkFault →
+        Rose (K.faults out.old) (K.faults out.new) }
+    ensures sink_later { K.faults out.old ≤ K.faults out.new }
+{
+    let text = state.text_of(rt, alloc, session, placed)?;
+    write_all(out, &text)?;
+    Ok(state.leave(&placed.statement))
 }

@@ -1,5 +1,5 @@
 -- The texts of answers, from what was printed.
-use Rattle.std.proofs.Common.{◌≡◌, ◌≢◌, ℕ, ◌≤◌, inl, inr, Some, None, List, [], ◌∷◌, ◌++◌, All, length, map, take, slice_get, subst, sym, ap, ◌∙◌}
+use Rattle.std.proofs.Common.{◌≡◌, ◌≢◌, ℕ, ◌≤◌, inl, inr, Some, None, List, [], ◌∷◌, ◌++◌, All, length, map, take, slice_get, refl, subst, sym, ap, ◌∙◌}
 use Rattle.std.proofs.Math.Seq.{take-append_seam}
 use Rattle.std.proofs.lemmas.List.Elements.{All-map}
 use Rattle.std.specs.Prelude.{Result, Ok, Err, OnErr, OnOk}
@@ -13,17 +13,18 @@ use Rattle.continuation_table.specs.Table.{IsTable, TableView}
 use Rattle.node_position.specs.Games.{Game}
 use Rattle.query_script.specs.Texts.{game_head, no_game_text, no_retire_text, retire_text, search_text}
 use Rattle.search_engine.specs.Hits.{AreHits}
-use Rattle.hit_collectors.specs.Boxes.{IsFedInPart, IsRetired, all_with_hits}
+use Rattle.hit_collectors.specs.Boxes.{IsFedInPart, IsRetired}
 use Rattle.hit_collectors.specs.Tallies.{BoxTally}
-use Rattle.session_core.specs.Answers.{AreLeft, IsGameText, IsRetiredBy, IsSearched, View}
+use Rattle.session_core.specs.Answers.{IsGameText, IsLeft, IsRetiredBy, IsSearched, View}
+use Rattle.session_core.specs.SessionState.{SessionState, fed_with, new_session, with_boxes}
 
 -- the text of a search was appended, and its hits were given to the boxes
-pub IsSearched-delivered : {T E : Type 0} (result : Result T E) (line number games : ℕ) (hits : List Hit) (table : TableView) (boxes after : List BoxTally) (old new : List ℕ)
-    → OnOk result (new ≡ old ++ search_text line number games hits table) → OnOk result (after ≡ all_with_hits hits boxes)
+pub IsSearched-delivered : {T E : Type 0} (result : Result T E) (line number games : ℕ) (hits : List Hit) (table : TableView) (session after : SessionState) (old new : List ℕ)
+    → OnOk result (new ≡ old ++ search_text line number games hits table) → OnOk result (after ≡ fed_with hits session)
     → OnOk result ((view : View) (query : Query) (filter : Filter) → number ≡ view.version → games ≡ length view.games → AreHits query filter view.games hits → IsTable hits table
-    → (text : List ℕ) × IsSearched line view query filter boxes text after × (new ≡ old ++ text))
-IsSearched-delivered (Err e) line number games hits table boxes after old new printed fed = tt
-IsSearched-delivered (Ok x) line number games hits table boxes after old new printed fed = λ view query filter own counted are is. (
+    → (text : List ℕ) × IsSearched line view query filter session text after × (new ≡ old ++ text))
+IsSearched-delivered (Err e) line number games hits table session after old new printed fed = tt
+IsSearched-delivered (Ok x) line number games hits table session after old new printed fed = λ view query filter own counted are is. (
   search_text line number games hits table,
   record {
     hits = hits;
@@ -34,32 +35,32 @@ IsSearched-delivered (Ok x) line number games hits table boxes after old new pri
 )
 
 -- the boxes were fed in part
-pub AreLeft-fed : {T E : Type 0} (result : Result T E) (AreThese : List Hit → Type 0) (hits : List Hit) (boxes after : List BoxTally) → AreThese hits
-    → OnErr result (IsFedInPart hits boxes after) → OnErr result (AreLeft AreThese boxes after)
-AreLeft-fed (Ok x) AreThese hits boxes after these fed = tt
-AreLeft-fed (Err e) AreThese hits boxes after these fed = inr (hits, these, fed)
+pub IsLeft-fed : {T E : Type 0} (result : Result T E) (AreThese : List Hit → Type 0) (hits : List Hit) (session : SessionState) (boxes : List BoxTally) → AreThese hits
+    → OnErr result (IsFedInPart hits session.boxes boxes) → OnErr result (IsLeft AreThese session (with_boxes session boxes))
+IsLeft-fed (Ok x) AreThese hits session boxes these fed = tt
+IsLeft-fed (Err e) AreThese hits session boxes these fed = inr (hits, boxes, these, fed, refl)
 
 -- what is left by hits of which one thing holds is left by hits of which another does
-pub AreLeft-weaker : {T E : Type 0} (result : Result T E) (AreThese AreThose : List Hit → Type 0) (boxes after : List BoxTally) → ((hits : List Hit) → AreThese hits → AreThose hits)
-    → OnErr result (AreLeft AreThese boxes after) → OnErr result (AreLeft AreThose boxes after)
-AreLeft-weaker (Ok x) AreThese AreThose boxes after weaker left = tt
-AreLeft-weaker (Err e) AreThese AreThose boxes after weaker (inl same) = inl same
-AreLeft-weaker (Err e) AreThese AreThose boxes after weaker (inr (hits, these, fed)) = inr (hits, weaker hits these, fed)
+pub IsLeft-weaker : {T E : Type 0} (result : Result T E) (AreThese AreThose : List Hit → Type 0) (session after : SessionState) → ((hits : List Hit) → AreThese hits → AreThose hits)
+    → OnErr result (IsLeft AreThese session after) → OnErr result (IsLeft AreThose session after)
+IsLeft-weaker (Ok x) AreThese AreThose session after weaker left = tt
+IsLeft-weaker (Err e) AreThese AreThose session after weaker (inl same) = inl same
+IsLeft-weaker (Err e) AreThese AreThose session after weaker (inr (hits, boxes, these, fed, is)) = inr (hits, boxes, weaker hits these, fed, is)
 
 -- a box was retired, and told so
 pub IsRetiredBy-retired : (line : ℕ) (name : List ℕ) (boxes after : List BoxTally) (old new : List ℕ) → IsRetired (λ (told : BoxTally). told.name) name boxes after → new ≡ old ++ retire_text line name
-    → (text : List ℕ) × IsRetiredBy line name boxes text after × (new ≡ old ++ text)
+    → (text : List ℕ) × IsRetiredBy line name (new_session boxes) text (new_session after) × (new ≡ old ++ text)
 IsRetiredBy-retired line name boxes after old new gone printed = (retire_text line name, IsRetiredBy.retired after gone, printed)
 
 -- none was, and that was told, in place of what stood behind the old text
 pub IsRetiredBy-none : {A T E : Type 0} (result : Result T E) (told : A → BoxTally) (line : ℕ) (name : List ℕ) (boards after : List A) (old more between new : List ℕ) (count : ℕ)
     → All (λ (board : A). (told board).name ≢ name) boards → after ≡ boards → count ≡ length old → between ≡ take count (old ++ more) → OnOk result (new ≡ between ++ no_retire_text line name)
-    → OnOk result ((text : List ℕ) × IsRetiredBy line name (map told boards) text (map told after) × (new ≡ old ++ text))
+    → OnOk result ((text : List ℕ) × IsRetiredBy line name (new_session (map told boards)) text (new_session (map told after)) × (new ≡ old ++ text))
 IsRetiredBy-none (Err e) told line name boards after old more between new count none same counted cut printed = tt
 IsRetiredBy-none (Ok x) told line name boards after old more between new count none same counted cut printed =
     let all = All-map (λ (box : BoxTally). box.name ≢ name) told boards none in (
       no_retire_text line name,
-      subst (λ boxes. IsRetiredBy line name (map told boards) (no_retire_text line name) boxes) (ap (map told) (sym same)) (IsRetiredBy.none all),
+      subst (λ boxes. IsRetiredBy line name (new_session (map told boards)) (no_retire_text line name) (new_session boxes)) (ap (map told) (sym same)) (IsRetiredBy.none all),
       printed ∙ ap (λ text. text ++ no_retire_text line name) (cut ∙ ap (λ n. take n (old ++ more)) counted ∙ take-append_seam old more),
     )
 

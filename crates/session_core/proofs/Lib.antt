@@ -8,3 +8,8 @@ mod FoundGames
 mod ListTexts
 mod GroupTexts
 pub mod ListAnswers
+pub mod OneOutput
+mod ReportLines
+pub mod SerialOutputs
+pub mod StateLemmas
+pub mod WholeOutputs

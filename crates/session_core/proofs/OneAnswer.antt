@@ -16,10 +16,10 @@ use Rattle.sgf_writer.proofs.OneText.{one_text}
 use Rattle.query_script.specs.declared.statement.Statement.{Statement}
 use Rattle.query_script.specs.declared.statement.Statement.TheVariants as statement
 use Rattle.query_script.specs.Texts.{game_head, kept_text, no_game_text, no_retire_text, retire_text, search_text}
-use Rattle.hit_collectors.specs.Boxes.{all_with_hits}
 use Rattle.hit_collectors.specs.Tallies.{BoxTally}
 use Rattle.hit_collectors.proofs.RetiredOnce.{none_retired, one_retired, some_retired}
 use Rattle.session_core.specs.Answers.{IsAnswer, IsAnswered, IsDoublesText, IsGameText, IsKeptText, IsPlayersText, IsRetiredBy, IsSearchText, IsSearched, IsSignatureText, IsThere, View, boxes_text}
+use Rattle.session_core.specs.SessionState.{SessionState, fed_with, with_boxes}
 use Rattle.search_engine.proofs.HitsExist.{hits-found}
 use Rattle.search_engine.proofs.KeptCounts.{AreKept-unique, kept-found}
 use Rattle.session_core.proofs.ListAnswers.{doubles-one, doubles-text, players-one, players-text, signature-one, signature-text}
@@ -38,17 +38,18 @@ tree_there : (games : List Game) → All (λ (g : Game). IsTree g.tree) games �
 tree_there games trees n game there = subst (λ (g : Game). IsTree g.tree) (there.at game) (trees n game there.in_range)
 
 -- a box is retired in one way
-pub retired-found : (line : ℕ) (name : List ℕ) (boxes : List BoxTally) → (text : List ℕ) × (after : List BoxTally) × IsRetiredBy line name boxes text after
-retired-found line name boxes = elim (some_retired (λ (told : BoxTally). told.name) name boxes) [
-  | inl none ↦ (no_retire_text line name, boxes, IsRetiredBy.none none)
-  | inr (after, gone) ↦ (retire_text line name, after, IsRetiredBy.retired after gone)
+pub retired-found : (line : ℕ) (name : List ℕ) (session : SessionState) → (text : List ℕ) × (after : SessionState) × IsRetiredBy line name session text after
+retired-found line name session = elim (some_retired (λ (told : BoxTally). told.name) name session.boxes) [
+  | inl none ↦ (no_retire_text line name, session, IsRetiredBy.none none)
+  | inr (boxes, gone) ↦ (retire_text line name, with_boxes session boxes, IsRetiredBy.retired boxes gone)
 ]
 
-pub retired-one : (line : ℕ) (name : List ℕ) (boxes : List BoxTally) (a b : List ℕ) (after other : List BoxTally) → IsRetiredBy line name boxes a after → IsRetiredBy line name boxes b other → (a ≡ b) × (after ≡ other)
-retired-one line name boxes _ _ _ _ (IsRetiredBy.retired after gone) (IsRetiredBy.retired other too) = (refl, one_retired (λ (told : BoxTally). told.name) name boxes after other gone too)
-retired-one line name boxes _ _ _ _ (IsRetiredBy.retired after gone) (IsRetiredBy.none none) = absurd (none_retired (λ (told : BoxTally). told.name) name boxes after none gone)
-retired-one line name boxes _ _ _ _ (IsRetiredBy.none none) (IsRetiredBy.retired other too) = absurd (none_retired (λ (told : BoxTally). told.name) name boxes other none too)
-retired-one line name boxes _ _ _ _ (IsRetiredBy.none none) (IsRetiredBy.none too) = (refl, refl)
+pub retired-one : (line : ℕ) (name : List ℕ) (session : SessionState) (a b : List ℕ) (after other : SessionState) → IsRetiredBy line name session a after → IsRetiredBy line name session b other → (a ≡ b) × (after ≡ other)
+retired-one line name session _ _ _ _ (IsRetiredBy.retired boxes gone) (IsRetiredBy.retired others too) =
+    (refl, ap (with_boxes session) (one_retired (λ (told : BoxTally). told.name) name session.boxes boxes others gone too))
+retired-one line name session _ _ _ _ (IsRetiredBy.retired boxes gone) (IsRetiredBy.none none) = absurd (none_retired (λ (told : BoxTally). told.name) name session.boxes boxes none gone)
+retired-one line name session _ _ _ _ (IsRetiredBy.none none) (IsRetiredBy.retired others too) = absurd (none_retired (λ (told : BoxTally). told.name) name session.boxes others none too)
+retired-one line name session _ _ _ _ (IsRetiredBy.none none) (IsRetiredBy.none too) = (refl, refl)
 
 module _ (line : ℕ) (view : View) (trees : All (λ (g : Game). IsTree g.tree) view.games) where
   -- a search has one list of hits
@@ -61,20 +62,20 @@ module _ (line : ℕ) (view : View) (trees : All (λ (g : Game). IsTree g.tree) 
       ∙ ap (λ (t : TableView). search_text line view.version (length view.games) hits t) (one_table hits one.table other.table one.is_table other.is_table)
       ∙ sym other.text_is
 
-  pub search-found : (query : Query) (filter : Filter) (boxes : List BoxTally) → (text : List ℕ) × (after : List BoxTally) × IsSearched line view query filter boxes text after
-  search-found query filter boxes =
+  pub search-found : (query : Query) (filter : Filter) (session : SessionState) → (text : List ℕ) × (after : SessionState) × IsSearched line view query filter session text after
+  search-found query filter session =
       let hits = hits-found 0 query filter view.games trees in
       let table = some_table hits.0 in (
         search_text line view.version (length view.games) hits.0 table.0,
-        all_with_hits hits.0 boxes,
+        fed_with hits.0 session,
         record { hits = hits.0; is_text = record { table = table.0; are_hits = hits.1; is_table = table.1; text_is = refl }; fed = refl },
       )
 
-  pub search-one : (query : Query) (filter : Filter) (boxes : List BoxTally) (a b : List ℕ) (after other : List BoxTally) → IsSearched line view query filter boxes a after → IsSearched line view query filter boxes b other → (a ≡ b) × (after ≡ other)
-  search-one query filter boxes a b after other one too =
+  pub search-one : (query : Query) (filter : Filter) (session : SessionState) (a b : List ℕ) (after other : SessionState) → IsSearched line view query filter session a after → IsSearched line view query filter session b other → (a ≡ b) × (after ≡ other)
+  search-one query filter session a b after other one too =
       let same = hits-one query filter one.hits too.hits a b one.is_text too.is_text in (
         text-one query filter too.hits a b (subst (λ (hits : List Hit). IsSearchText line view query filter hits a) same one.is_text) too.is_text,
-        one.fed ∙ ap (λ (hits : List Hit). all_with_hits hits boxes) same ∙ sym too.fed,
+        one.fed ∙ ap (λ (hits : List Hit). fed_with hits session) same ∙ sym too.fed,
       )
 
   kept-text : (query : Query) → (text : List ℕ) × IsKeptText line view query text
@@ -107,39 +108,39 @@ module _ (line : ℕ) (view : View) (trees : All (λ (g : Game). IsTree g.tree) 
   game-one number _ _ (IsGameText.none past) (IsGameText.there k other too written) = let below = too.in_range in absurd (omega arith)
   game-one number _ _ (IsGameText.none past) (IsGameText.none too) = refl
 
-  -- a text that leaves the boxes as they are
-  found-same : (IsText : List ℕ → Type 0) (boxes : List BoxTally) → (text : List ℕ) × IsText text → (text : List ℕ) × (after : List BoxTally) × (IsText text × (after ≡ boxes))
-  found-same IsText boxes found = (found.0, boxes, (found.1, refl))
+  -- a text that leaves the session as it is
+  found-same : (IsText : List ℕ → Type 0) (session : SessionState) → (text : List ℕ) × IsText text → (text : List ℕ) × (after : SessionState) × (IsText text × (after ≡ session))
+  found-same IsText session found = (found.0, session, (found.1, refl))
 
-  one-same : (a b : List ℕ) (boxes after other : List BoxTally) → a ≡ b → after ≡ boxes → other ≡ boxes → (a ≡ b) × (after ≡ other)
-  one-same a b boxes after other text same too = (text, same ∙ sym too)
+  one-same : (a b : List ℕ) (session after other : SessionState) → a ≡ b → after ≡ session → other ≡ session → (a ≡ b) × (after ≡ other)
+  one-same a b session after other text same too = (text, same ∙ sym too)
 
-  pub answer-found : (boxes : List BoxTally) (own : Statement) → IsAnswered own → (text : List ℕ) × (after : List BoxTally) × IsAnswer line view boxes own text after
-  answer-found boxes (statement.Search query filter) answered = search-found query filter boxes
-  answer-found boxes (statement.Kept query) answered = found-same (IsKeptText line view query) boxes (kept-text query)
-  answer-found boxes (statement.Signature pattern) answered = found-same (IsSignatureText line view pattern.bytes) boxes (signature-text line view trees pattern.bytes)
-  answer-found boxes statement.Players answered = found-same (IsPlayersText line view) boxes (players-text line view trees)
-  answer-found boxes statement.Doubles answered = found-same (IsDoublesText line view) boxes (doubles-text line view trees)
-  answer-found boxes (statement.Game number) answered = found-same (IsGameText line view number) boxes (game-text number)
-  answer-found boxes statement.Report answered = (boxes_text line boxes, boxes, (refl, refl))
-  answer-found boxes (statement.Retire name) answered = retired-found line name boxes
-  answer-found boxes (statement.Import path) answered = absurd answered
-  answer-found boxes (statement.Make games start) answered = absurd answered
-  answer-found boxes statement.Wait answered = absurd answered
-  answer-found boxes (statement.Until number) answered = absurd answered
-  answer-found boxes (statement.Together searches) answered = absurd answered
+  pub answer-found : (session : SessionState) (own : Statement) → IsAnswered own → (text : List ℕ) × (after : SessionState) × IsAnswer line view session own text after
+  answer-found session (statement.Search query filter) answered = search-found query filter session
+  answer-found session (statement.Kept query) answered = found-same (IsKeptText line view query) session (kept-text query)
+  answer-found session (statement.Signature pattern) answered = found-same (IsSignatureText line view pattern.bytes) session (signature-text line view trees pattern.bytes)
+  answer-found session statement.Players answered = found-same (IsPlayersText line view) session (players-text line view trees)
+  answer-found session statement.Doubles answered = found-same (IsDoublesText line view) session (doubles-text line view trees)
+  answer-found session (statement.Game number) answered = found-same (IsGameText line view number) session (game-text number)
+  answer-found session statement.Report answered = (boxes_text line session.boxes, session, (refl, refl))
+  answer-found session (statement.Retire name) answered = retired-found line name session
+  answer-found session (statement.Import path) answered = absurd answered
+  answer-found session (statement.Make games start) answered = absurd answered
+  answer-found session statement.Wait answered = absurd answered
+  answer-found session (statement.Until number) answered = absurd answered
+  answer-found session (statement.Together searches) answered = absurd answered
 
-  pub answer-unique : (boxes : List BoxTally) (own : Statement) (a b : List ℕ) (after other : List BoxTally) → IsAnswer line view boxes own a after → IsAnswer line view boxes own b other → (a ≡ b) × (after ≡ other)
-  answer-unique boxes (statement.Search query filter) a b after other one too = search-one query filter boxes a b after other one too
-  answer-unique boxes (statement.Kept query) a b after other one too = one-same a b boxes after other (kept-one query a b one.0 too.0) one.1 too.1
-  answer-unique boxes (statement.Signature pattern) a b after other one too = one-same a b boxes after other (signature-one line view trees pattern.bytes a b one.0 too.0) one.1 too.1
-  answer-unique boxes statement.Players a b after other one too = one-same a b boxes after other (players-one line view trees a b one.0 too.0) one.1 too.1
-  answer-unique boxes statement.Doubles a b after other one too = one-same a b boxes after other (doubles-one line view trees a b one.0 too.0) one.1 too.1
-  answer-unique boxes (statement.Game number) a b after other one too = one-same a b boxes after other (game-one number a b one.0 too.0) one.1 too.1
-  answer-unique boxes statement.Report a b after other one too = one-same a b boxes after other (one.0 ∙ sym too.0) one.1 too.1
-  answer-unique boxes (statement.Retire name) a b after other one too = retired-one line name boxes a b after other one too
-  answer-unique boxes (statement.Import path) a b after other one too = absurd one
-  answer-unique boxes (statement.Make games start) a b after other one too = absurd one
-  answer-unique boxes statement.Wait a b after other one too = absurd one
-  answer-unique boxes (statement.Until number) a b after other one too = absurd one
-  answer-unique boxes (statement.Together searches) a b after other one too = absurd one
+  pub answer-unique : (session : SessionState) (own : Statement) (a b : List ℕ) (after other : SessionState) → IsAnswer line view session own a after → IsAnswer line view session own b other → (a ≡ b) × (after ≡ other)
+  answer-unique session (statement.Search query filter) a b after other one too = search-one query filter session a b after other one too
+  answer-unique session (statement.Kept query) a b after other one too = one-same a b session after other (kept-one query a b one.0 too.0) one.1 too.1
+  answer-unique session (statement.Signature pattern) a b after other one too = one-same a b session after other (signature-one line view trees pattern.bytes a b one.0 too.0) one.1 too.1
+  answer-unique session statement.Players a b after other one too = one-same a b session after other (players-one line view trees a b one.0 too.0) one.1 too.1
+  answer-unique session statement.Doubles a b after other one too = one-same a b session after other (doubles-one line view trees a b one.0 too.0) one.1 too.1
+  answer-unique session (statement.Game number) a b after other one too = one-same a b session after other (game-one number a b one.0 too.0) one.1 too.1
+  answer-unique session statement.Report a b after other one too = one-same a b session after other (one.0 ∙ sym too.0) one.1 too.1
+  answer-unique session (statement.Retire name) a b after other one too = retired-one line name session a b after other one too
+  answer-unique session (statement.Import path) a b after other one too = absurd one
+  answer-unique session (statement.Make games start) a b after other one too = absurd one
+  answer-unique session statement.Wait a b after other one too = absurd one
+  answer-unique session (statement.Until number) a b after other one too = absurd one
+  answer-unique session (statement.Together searches) a b after other one too = absurd one

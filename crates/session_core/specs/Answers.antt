@@ -1,4 +1,4 @@
--- The texts of the statements that a session answers, and what its boxes tell behind them.
+-- The texts of the statements that a session answers, and what they leave behind.
 use Rattle.std.specs.Prelude.{◌≡◌, ◌≢◌, ◌⊎◌, ℕ, ◌<◌, ◌≤◌, List, [], ◌∷◌, ◌++◌, length, map, slice_index_or, All}
 use Rattle.std.specs.List.{flat_map}
 use Rattle.pattern_images.specs.declared.hit.Hit.{Hit}
@@ -9,13 +9,14 @@ use Rattle.query_script.specs.declared.statement.Statement.{Statement}
 use Rattle.query_script.specs.declared.statement.Statement.TheVariants as statement
 use Rattle.query_script.specs.Bytes.{line_feed}
 use Rattle.query_script.specs.Texts.{double_text, doubles_head, game_head, kept_text, no_game_text, no_retire_text, players_text, report_head, retire_text, search_text, signature_head, found_game_text}
-use Rattle.hit_collectors.specs.Boxes.{IsFedInPart, IsRetired, all_with_hits}
+use Rattle.hit_collectors.specs.Boxes.{IsFedInPart, IsRetired}
 use Rattle.hit_collectors.specs.Reports.{report_line}
 use Rattle.hit_collectors.specs.Tallies.{BoxTally}
 use Rattle.info_filter.specs.declared.filter.Filter.{Filter}
 use Rattle.info_filter.specs.Players.{IsPlayersTable, TableRow}
 use Rattle.node_position.specs.Games.{Game}
 use Rattle.session_core.specs.Doubles.{AreKeysOf, DoubleKey, Group, groups_of}
+use Rattle.session_core.specs.SessionState.{SessionState, fed_with, with_boxes}
 use Rattle.search_engine.specs.Hits.{AreHits}
 use Rattle.search_engine.specs.KeptGames.{AreKept}
 use Rattle.session_core.specs.Signed.{AreGamesFound, FoundGame}
@@ -33,12 +34,12 @@ pub record IsSearchText (line : ℕ) (view : View) (query : Query) (filter : Fil
   pub is_table : IsTable hits table
   pub text_is : text ≡ search_text line view.version (length view.games) hits table
 
--- A search at this line: its text, and what the boxes tell with its hits.
+-- A search at this line: its text, and its hits are given to all boxes.
 pub record IsSearched (line : ℕ) (view : View) (query : Query) (filter : Filter)
-    (boxes : List BoxTally) (text : List ℕ) (after : List BoxTally) : Type 0 where
+    (session : SessionState) (text : List ℕ) (after : SessionState) : Type 0 where
   pub hits : List Hit
   pub is_text : IsSearchText line view query filter hits text
-  pub fed : after ≡ all_with_hits hits boxes
+  pub fed : after ≡ fed_with hits session
 
 -- the game with this number is there
 pub record IsThere (games : List Game) (number : ℕ) (game : Game) : Type 0 where
@@ -91,38 +92,38 @@ boxes_text line boxes = report_head line (length boxes) ++ flat_map report_line 
 
 -- A box is retired by its name: the first one that has it is left out, and the others stay as they
 -- are; or none has it, and all stay.
-pub data IsRetiredBy (line : ℕ) (name : List ℕ) (boxes : List BoxTally) : List ℕ →
-    List BoxTally → Type 0 where
-  retired : (after : List BoxTally) →
-      IsRetired (λ (told : BoxTally). told.name) name boxes after →
-      IsRetiredBy line name boxes (retire_text line name) after
-  none : All (λ (told : BoxTally). told.name ≢ name) boxes →
-      IsRetiredBy line name boxes (no_retire_text line name) boxes
+pub data IsRetiredBy (line : ℕ) (name : List ℕ) (session : SessionState) : List ℕ →
+    SessionState → Type 0 where
+  retired : (boxes : List BoxTally) →
+      IsRetired (λ (told : BoxTally). told.name) name session.boxes boxes →
+      IsRetiredBy line name session (retire_text line name) (with_boxes session boxes)
+  none : All (λ (told : BoxTally). told.name ≢ name) session.boxes →
+      IsRetiredBy line name session (no_retire_text line name) session
 
--- The text of a statement over what is seen of the base, by what the boxes tell before it, and what
--- they tell behind it. Other statements have none.
-abbrev pub IsAnswer : ℕ → View → List BoxTally → Statement → List ℕ → List BoxTally → Type 0
-IsAnswer line view boxes (statement.Search query filter) text after =
-    IsSearched line view query filter boxes text after
-IsAnswer line view boxes (statement.Kept query) text after =
-    IsKeptText line view query text × (after ≡ boxes)
-IsAnswer line view boxes (statement.Signature pattern) text after =
-    IsSignatureText line view pattern.bytes text × (after ≡ boxes)
-IsAnswer line view boxes statement.Players text after =
-    IsPlayersText line view text × (after ≡ boxes)
-IsAnswer line view boxes statement.Doubles text after =
-    IsDoublesText line view text × (after ≡ boxes)
-IsAnswer line view boxes (statement.Game number) text after =
-    IsGameText line view number text × (after ≡ boxes)
-IsAnswer line view boxes statement.Report text after =
-    (text ≡ boxes_text line boxes) × (after ≡ boxes)
-IsAnswer line view boxes (statement.Retire name) text after =
-    IsRetiredBy line name boxes text after
-IsAnswer line view boxes (statement.Import path) text after = ⊥
-IsAnswer line view boxes (statement.Make games start) text after = ⊥
-IsAnswer line view boxes statement.Wait text after = ⊥
-IsAnswer line view boxes (statement.Until number) text after = ⊥
-IsAnswer line view boxes (statement.Together searches) text after = ⊥
+-- The text of a statement over what is seen of the base, by what the statements before it left, and
+-- what it leaves. Other statements have none.
+abbrev pub IsAnswer : ℕ → View → SessionState → Statement → List ℕ → SessionState → Type 0
+IsAnswer line view session (statement.Search query filter) text after =
+    IsSearched line view query filter session text after
+IsAnswer line view session (statement.Kept query) text after =
+    IsKeptText line view query text × (after ≡ session)
+IsAnswer line view session (statement.Signature pattern) text after =
+    IsSignatureText line view pattern.bytes text × (after ≡ session)
+IsAnswer line view session statement.Players text after =
+    IsPlayersText line view text × (after ≡ session)
+IsAnswer line view session statement.Doubles text after =
+    IsDoublesText line view text × (after ≡ session)
+IsAnswer line view session (statement.Game number) text after =
+    IsGameText line view number text × (after ≡ session)
+IsAnswer line view session statement.Report text after =
+    (text ≡ boxes_text line session.boxes) × (after ≡ session)
+IsAnswer line view session (statement.Retire name) text after =
+    IsRetiredBy line name session text after
+IsAnswer line view session (statement.Import path) text after = ⊥
+IsAnswer line view session (statement.Make games start) text after = ⊥
+IsAnswer line view session statement.Wait text after = ⊥
+IsAnswer line view session (statement.Until number) text after = ⊥
+IsAnswer line view session (statement.Together searches) text after = ⊥
 
 -- the statement is answered by a session
 abbrev pub IsAnswered : Statement → Type 0
@@ -140,11 +141,13 @@ IsAnswered statement.Wait = ⊥
 IsAnswered (statement.Until number) = ⊥
 IsAnswered (statement.Together searches) = ⊥
 
--- What the boxes tell where an answer was refused: what they told before, or they were fed in part
--- with hits of which this holds.
-abbrev pub AreLeft : (List Hit → Type 0) → List BoxTally → List BoxTally → Type 0
-AreLeft AreThese boxes after =
-    (after ≡ boxes) ⊎ ((hits : List Hit) × AreThese hits × IsFedInPart hits boxes after)
+-- What is left where an answer was refused: all as before, or the boxes were fed in part with hits of
+-- which this holds.
+abbrev pub IsLeft : (List Hit → Type 0) → SessionState → SessionState → Type 0
+IsLeft AreThese session after =
+    (after ≡ session)
+    ⊎ ((hits : List Hit) × (boxes : List BoxTally) × AreThese hits
+    × IsFedInPart hits session.boxes boxes × (after ≡ with_boxes session boxes))
 
 -- the hits with which a statement feeds the boxes: those of a search
 abbrev pub FeedsHits : View → Statement → List Hit → Type 0

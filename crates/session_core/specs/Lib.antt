@@ -1,7 +1,11 @@
 -- Words that contracts of public functions rest on.
 pub mod Answers
 pub mod Doubles
+pub mod ImportTexts
+pub mod Lawful
+pub mod SessionState
 pub mod Signed
+pub mod Sources
 pub mod Stores
 -- Words of private functions.
 pub mod Listing

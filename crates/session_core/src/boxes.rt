@@ -4,6 +4,7 @@ ghost use mathlib.Core.List.{IsPrefix};
 ghost use Rattle.hit_collectors.specs.Boxes.{IsFedInPart, all_with_hits};
 ghost use Rattle.hit_collectors.specs.Reports.{report_line};
 ghost use Rattle.session_core.specs.Answers.{IsRetiredBy, boxes_text};
+ghost use Rattle.session_core.specs.SessionState.{new_session};
 
 use hit_collectors::{Collector, NoSuchName, feed, retire};
 use kb_geometry::NoMemory;
@@ -55,8 +56,8 @@ pub(crate) fn retire_box<C: Collector>(
     out: &mut Vec<u8>,
 ) -> Result<(), NoMemory>
     ensures ok { OnOk result ((text : List ℕ)
-        × IsRetiredBy line name.now (map (λ board. C.tally board) boards.old.items) text
-        (map (λ board. C.tally board) boards.new.items)
+        × IsRetiredBy line name.now (new_session (map (λ board. C.tally board) boards.old.items))
+        text (new_session (map (λ board. C.tally board) boards.new.items))
         × (out.new.items ≡ out.old.items ++ text)) }
     ensures refused { OnErr result (out.new.items ≡ out.old.items) }
     ensures same { OnErr result (boards.new.items ≡ boards.old.items) }

@@ -6,17 +6,17 @@ ghost use Rattle.sgf_writer.specs.Written.{IsWritten};
 ghost use Rattle.query_script.specs.Bytes.{line_feed};
 ghost use Rattle.query_script.specs.Texts.{game_head, search_text};
 ghost use Rattle.search_engine.specs.Hits.{AreHits};
-ghost use Rattle.hit_collectors.specs.Boxes.{all_with_hits};
 ghost use Rattle.session_core.specs.Answers.{
-  AreLeft,
   FeedsHits,
   IsAnswer,
   IsAnswered,
   IsGameText,
   IsKeptText,
+  IsLeft,
   IsSearched,
   View,
 };
+ghost use Rattle.session_core.specs.SessionState.{fed_with, new_session};
 ghost use Rattle.session_core.specs.Stores.{view_of};
 
 use crate::boxes::{append_report, feed_boxes, retire_box};
@@ -35,25 +35,26 @@ use std::thread::Threads;
 use version_publisher::Version;
 
 /// Answers statements, each over the games that its call is given, and keeps boxes that tally the
-/// hits of its searches. Contracts see it as what the boxes tell, in order.
+/// hits of its searches. Contracts see it as what it keeps from one statement to the next: what the
+/// boxes tell, in order.
 #[derive(Drop)]
 pub struct Session<C: Collector> {
     boards: Vec<C>,
 }
 
 impl<C: Collector> Model for Session<C> {
-    ghost use Rattle.std.specs.Prelude.{List, map};
-    ghost use Rattle.hit_collectors.specs.Tallies.{BoxTally};
+    ghost use Rattle.std.specs.Prelude.{map};
+    ghost use Rattle.session_core.specs.SessionState.{SessionState, new_session};
 
-    ghost Value = { List BoxTally };
+    ghost Value = { SessionState };
 
-    ghost view = { λ s. map (λ board. C.tally board) s.boards.items };
+    ghost view = { λ s. new_session (map (λ board. C.tally board) s.boards.items) };
 }
 
 impl<C: Collector> Session<C> {
     /// A session with these boxes, which has answered nothing.
     pub fn new(boards: Vec<C>) -> Session<C>
-        ensures { result ≡ map (λ board. C.tally board) boards.items }
+        ensures { result ≡ new_session (map (λ board. C.tally board) boards.items) }
     {
         Session { boards }
     }
@@ -81,7 +82,7 @@ impl<C: Collector> Session<C> {
             × (out.new.items ≡ out.old.items ++ text)) }
         ensures refused { OnErr result (IsPrefix out.old.items out.new.items) }
         ensures left { OnErr result
-            (AreLeft (FeedsHits (view_of version.now) statement.now) self.old self.new) }
+            (IsLeft (FeedsHits (view_of version.now) statement.now) self.old self.new) }
     {
         match statement {
             Statement::Search { query, filter } => {
@@ -124,7 +125,7 @@ impl<C: Collector> Session<C> {
             × (out.new.items ≡ out.old.items ++ text)) }
         ensures refused { OnErr result (out.new.items ≡ out.old.items) }
         ensures left { OnErr result
-            (AreLeft (AreHits query.now filter.now (view_of version.now).games) self.old self.new) }
+            (IsLeft (AreHits query.now filter.now (view_of version.now).games) self.old self.new) }
     {
         let answer = search(rt, alloc, version, query, filter)?;
         self.deliver(line, version.number(), game_count(version), &answer, out)
@@ -147,7 +148,7 @@ impl<C: Collector> Session<C> {
     ) -> Result<(), NoMemory>
         ensures ok { OnOk result (out.new.items ≡ out.old.items
             ++ search_text line number games answer.now.hits.items answer.now.table) }
-        ensures fed { OnOk result (self.new ≡ all_with_hits answer.now.hits.items self.old) }
+        ensures fed { OnOk result (self.new ≡ fed_with answer.now.hits.items self.old) }
         ensures searched { OnOk result ((view : View) (query : Query) (filter : Filter) →
             number ≡ view.version → games ≡ length view.games →
             AreHits query filter view.games answer.now.hits.items →
@@ -156,7 +157,7 @@ impl<C: Collector> Session<C> {
             × (out.new.items ≡ out.old.items ++ text)) }
         ensures refused { OnErr result (out.new.items ≡ out.old.items) }
         ensures left { OnErr result
-            (AreLeft (λ hits. hits ≡ answer.now.hits.items) self.old self.new) }
+            (IsLeft (λ hits. hits ≡ answer.now.hits.items) self.old self.new) }
     {
         // The text is there before a box changes, so that a refusal for want of room changes none.
         let len = out.len();

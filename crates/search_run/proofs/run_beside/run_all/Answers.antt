@@ -10,11 +10,11 @@ pub loop-next-init : goal.loop-next-init
 loop-next-init g c = record {
   inside = omega arith;
   few = rw c.requires.empty (omega arith);
-  stands = rw c.new-standing.ensures (stands-first _ c.args.tools.carried.publisher c.args.searchers.own c.requires.opening c.requires.idle c.requires.merged c.requires.empty c.requires.seen);
+  stands = rw c.new-state.ensures (stands-first _ c.args.importer.owned.publisher c.args.searchers.own c.requires.opening c.requires.idle c.requires.merged c.requires.empty c.requires.seen);
   same = refl;
   later = omega arith;
   sink_later = omega arith;
-  ran = λ files told before written. rw c.new-standing.ensures (starts-run (beside_rules c.args.batch) files c.args.session.now c.args.tools.carried.publisher.log before (g.K.Sink.written c.args.out.now) (g.F.Folder.faults c.args.tools.folder) c.requires.empty written);
+  ran = λ files told before written. rw c.new-state.ensures (starts-run (beside_rules c.args.batch) files c.args.session.now c.args.importer.owned.publisher.log before (g.K.Sink.written c.args.out.now) (g.F.Folder.faults c.args.importer.folder) c.requires.empty written);
 }
 
 pub loop-next-preserved : goal.loop-next-preserved
@@ -34,7 +34,7 @@ loop-next-preserved g c =
       ran = λ files told before written.
           let on = rw c.in-Ok.is at (run.ran files (h.same ∙ told)) in
           rw (taken_with placed i c.in-Ok.count p c.loop-next-test.true c.index-placed-next.is)
-          (on c.args.session.now (take i placed) before (g.F.Folder.faults c.args.tools.folder) (h.ran files told before written));
+          (on c.args.session.now.boxes (take i placed) before (g.F.Folder.faults c.args.importer.folder) (h.ran files told before written));
     }
 
 pub returns-in-Err-clause-sink_fault : goal.returns-in-Err-clause-sink_fault
@@ -50,8 +50,8 @@ returns-in-Err-clause-stopped g c = λ files told before written.
     let placed = c.args.placed.now in
     let i = c.loop-next.next in
     let p = c.index-placed-next.result in
-    let back = c.run_next-passed.result.tools in
+    let back = c.run_next-passed.result.importer in
     let stop = rw c.in-Err.is at (c.run_next-passed.ensures.stopped files (h.same ∙ told)) in
-    subst (λ ps. WritesPublishedPrefix (beside_rules c.args.batch) files c.args.session.now ps before (g.K.Sink.written c.run_next-passed.new.out) (g.F.Folder.faults c.args.tools.folder) (g.F.Folder.faults back.folder) back.carried.publisher.log)
+    subst (λ ps. WritesPublishedPrefix (beside_rules c.args.batch) files c.args.session.now.boxes ps before (g.K.Sink.written c.run_next-passed.new.out) (g.F.Folder.faults c.args.importer.folder) (g.F.Folder.faults back.folder) back.owned.publisher.log)
     (taken_apart placed i p c.loop-next-test.true c.index-placed-next.is)
-    (stop c.args.session.now (take i placed) before (g.F.Folder.faults c.args.tools.folder) (h.ran files told before written))
+    (stop c.args.session.now.boxes (take i placed) before (g.F.Folder.faults c.args.importer.folder) (h.ran files told before written))

@@ -8,7 +8,7 @@ use Rattle.import_segments.specs.Publishing.{IsIdle}
 use Rattle.search_run.specs.Seen.{HaveSeen}
 use Rattle.serial_run.specs.Steps.{kept_report}
 use Rattle.search_run.specs.Run.{beside_rules}
-use Rattle.serial_run.specs.Texts.{opening_text}
+use Rattle.session_core.specs.ImportTexts.{import_line_text}
 use Rattle.serial_run.proofs.RunLemmas.{after_error}
 use Rattle.search_run.proofs.JoinedRuns.{joined-run, ok_both}
 use Rattle.search_run.proofs.SeenLemmas.{seen_longer}
@@ -21,18 +21,18 @@ returns-clause-ran g c = λ files told.
     let at = c.args.searchers.now in
     let now = c.import_beside-joined.new.searchers in
     let ended = c.import_beside-joined.result.ended in
-    let publisher = ended.tools.carried.publisher in
-    let own = kept_report c.args.standing ++ opening_text c.args.line c.args.source in
+    let publisher = ended.importer.owned.publisher in
+    let own = kept_report c.args.state ++ import_line_text c.args.line c.args.source in
     let wrote = c.in-Ok.ensures.written (before ++ h.run.text) h.run.written_is in
     let answered = subst (λ a. IfOk a (λ count. HasAnsweredAll (HaveSeen at.own at.block.items) c.into_version-held.result.number c.args.session.now (take count c.args.rest.now) (HaveSeen now.own now.block.items) c.import_beside-joined.new.session ((before ++ h.run.text) ++ own) (g.K.Sink.written c.import_beside-joined.new.out))) counted (c.import_beside-joined.ensures.answered ((before ++ h.run.text) ++ own) wrote) in
-    let ends = subst (λ (report : Result Report NoMemory). IfOk report (EndsWith files c.in-Ok.begun.0 c.args.tools.carried.publisher.log publisher.log (g.F.Folder.faults c.args.tools.folder) (g.F.Folder.faults ended.tools.folder))) j.report_is (c.import_beside-joined.ensures.ended.ends files told) in
-    joined-run files c.args.batch c.args.line c.args.source c.in-Ok.begun.0 c.args.standing r.0 c.args.tools.carried.publisher.log publisher.log first (g.F.Folder.faults c.args.tools.folder) (g.F.Folder.faults ended.tools.folder) j.told c.in-Ok.ensures.order ends start done (take r.1 c.args.rest.now) c.args.session.now c.import_beside-joined.new.session before _ _ (HaveSeen at.own at.block.items) (HaveSeen now.own now.block.items) c.into_version-held.result.number h
+    let ends = subst (λ (report : Result Report NoMemory). IfOk report (EndsWith files c.in-Ok.begun.0 c.args.importer.owned.publisher.log publisher.log (g.F.Folder.faults c.args.importer.folder) (g.F.Folder.faults ended.importer.folder))) j.report_is (c.import_beside-joined.ensures.ended.ends files told) in
+    joined-run files c.args.batch c.args.line c.args.source c.in-Ok.begun.0 c.args.state r.0 c.args.importer.owned.publisher.log publisher.log first (g.F.Folder.faults c.args.importer.folder) (g.F.Folder.faults ended.importer.folder) j.told c.in-Ok.ensures.job ends start done (take r.1 c.args.rest.now) c.args.session.now c.import_beside-joined.new.session before _ _ (HaveSeen at.own at.block.items) (HaveSeen now.own now.block.items) c.into_version-held.result.number h
     (c.into_version-held.ensures.number ∙ c.requires.stands.version) answered c.join-outcome.ensures.seen (record { told = j.told; report_is = refl; version = j.version; games = j.games; waiting = j.waiting }))
 
 pub returns-clause-stands : goal.returns-clause-stands
 returns-clause-stands g c =
     let ended = c.import_beside-joined.ensures.ended in
-    let publisher = c.import_beside-joined.result.ended.tools.carried.publisher in
+    let publisher = c.import_beside-joined.result.ended.importer.owned.publisher in
     ok_both c.join-outcome.result _ _ _ c.join-outcome.ensures.joined c.join-outcome.ensures.own (λ r j own. record {
       opened = ended.opened ∙ c.requires.stands.opened;
       idle = subst (λ (report : Result Report NoMemory). IfOk report (λ told. IsIdle publisher)) j.report_is ended.idle;
@@ -46,7 +46,7 @@ returns-clause-stands g c =
 pub returns-in-Err-clause-stopped : goal.returns-in-Err-clause-stopped
 returns-in-Err-clause-stopped g c = λ files told. λ start done before first h.
     let part = c.in-Err.ensures.part (before ++ h.run.text) h.run.written_is in
-    import-stopped (beside_rules c.args.batch) files start c.args.session.now done c.args.standing c.args.tools.carried.publisher.log before _ _ first _ h c.args.line c.args.source c.args.rest.now part.0 part.1 part.2
+    import-stopped (beside_rules c.args.batch) files start c.args.session.now done c.args.state c.args.importer.owned.publisher.log before _ _ first _ h c.args.line c.args.source c.args.rest.now part.0 part.1 part.2
 
 pub returns-clause-stopped : goal.returns-clause-stopped
 returns-clause-stopped g c = λ files told.
@@ -54,10 +54,10 @@ returns-clause-stopped g c = λ files told.
     let at = c.args.searchers.now in
     let now = c.import_beside-joined.new.searchers in
     let ended = c.import_beside-joined.result.ended in
-    let publisher = ended.tools.carried.publisher in
-    let written = (before ++ h.run.text) ++ (kept_report c.args.standing ++ opening_text c.args.line c.args.source) in
+    let publisher = ended.importer.owned.publisher in
+    let written = (before ++ h.run.text) ++ (kept_report c.args.state ++ import_line_text c.args.line c.args.source) in
     let wrote = c.in-Ok.ensures.written (before ++ h.run.text) h.run.written_is in
     let stop = stops-either c.import_beside-joined.result.answered c.args.batch (HaveSeen at.own at.block.items) (HaveSeen now.own now.block.items) c.into_version-held.result.number c.args.session.now c.import_beside-joined.new.session c.args.rest.now written _
     (c.import_beside-joined.ensures.answered written wrote) (c.import_beside-joined.ensures.stopped written wrote) in
-    joined-stopped files c.args.batch c.args.line c.args.source c.in-Ok.begun.0 c.args.standing c.args.tools.carried.publisher.log publisher.log first (g.F.Folder.faults c.args.tools.folder) (g.F.Folder.faults ended.tools.folder) c.in-Ok.ensures.order (c.import_beside-joined.ensures.ended.first files told) start done c.args.rest.now c.args.session.now before _ _ (HaveSeen at.own at.block.items) (HaveSeen now.own now.block.items) c.into_version-held.result.number h
+    joined-stopped files c.args.batch c.args.line c.args.source c.in-Ok.begun.0 c.args.state c.args.importer.owned.publisher.log publisher.log first (g.F.Folder.faults c.args.importer.folder) (g.F.Folder.faults ended.importer.folder) c.in-Ok.ensures.job (c.import_beside-joined.ensures.ended.first files told) start done c.args.rest.now c.args.session.now before _ _ (HaveSeen at.own at.block.items) (HaveSeen now.own now.block.items) c.into_version-held.result.number h
     (c.into_version-held.ensures.number ∙ c.requires.stands.version) stop (λ whole longer. seen_longer now.own now.block.items publisher.log whole longer c.join-outcome.ensures.seen))

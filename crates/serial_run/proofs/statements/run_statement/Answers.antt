@@ -1,24 +1,39 @@
-use Rattle.kb_geometry.proofs.Prefixes.{prefix_same}
+use Rattle.std.proofs.Common.{◌≡◌, subst}
+use Rattle.std.proofs.lemmas.Result.{IfOk-weaker, on_err_weaker}
+use Rattle.kb_edges.specs.Told.{IfTold}
+use Rattle.query_script.specs.declared.statement.Placed.{Placed}
 use Rattle.serial_run.specs.Run.{serial_rules}
-use Rattle.serial_run.proofs.RunLemmas.{StopsInStatement-text}
+use Rattle.serial_run.specs.Steps.{PassesStatement, StopsInStatement}
+use Rattle.serial_run.proofs.StatementLemmas.{placed_as}
 use Rattle.serial_run.proofs.statements.run_statement.Goals as goal
 
-pub returns-in_err-write_all-clause-stopped : goal.returns-in_err-write_all-clause-stopped
-returns-in_err-write_all-clause-stopped g c = λ before written.
-    let part = rw c.deref.ensures.value at (c.in_err-write_all.ensures.part before written) in
-    StopsInStatement-text _ (serial_rules c.args.batch) c.args.standing c.args.session.now c.text_of.new.session c.args.placed.now before _ c.in_ok-text.text.items part.0
-    (c.in_ok-text.ensures (serial_rules c.args.batch)) part.1 part.2
+pub returns-in-Some-clause-passed : goal.returns-in-Some-clause-passed
+returns-in-Some-clause-passed g c = λ files told before written.
+    IfOk-weaker c.run_import.result _ _
+    (λ next passed. subst (λ (p : Placed). PassesStatement files (serial_rules c.args.batch) c.args.state c.args.session.now p next c.args.session.now before (g.K.Sink.written c.run_import.new.out) (g.F.Folder.faults c.args.folder.now) (g.F.Folder.faults c.run_import.new.folder))
+    (placed_as c.args.placed.now c.in-Some.source (rw c.in-Some.is at c.in_ok-source_of.ensures.some))
+    (passed c.args.session.now))
+    (c.run_import.ensures.passed files told before written)
 
-pub returns-in_err-pass-clause-stopped : goal.returns-in_err-pass-clause-stopped
-returns-in_err-pass-clause-stopped g c = λ before written.
-    let text = c.in_ok-text.text.items in
-    StopsInStatement-text _ (serial_rules c.args.batch) c.args.standing c.args.session.now c.text_of.new.session c.args.placed.now before _ text text
-    (c.in_ok-text.ensures (serial_rules c.args.batch)) (prefix_same text) (rw c.deref.ensures.value at (c.in_ok-write_all.ensures.whole before written))
+pub returns-in-Some-clause-stopped : goal.returns-in-Some-clause-stopped
+returns-in-Some-clause-stopped g c = λ before written.
+    on_err_weaker c.run_import.result
+    (λ stopped. subst (λ (p : Placed). StopsInStatement (serial_rules c.args.batch) c.args.state c.args.session.now p before (g.K.Sink.written c.run_import.new.out))
+    (placed_as c.args.placed.now c.in-Some.source (rw c.in-Some.is at c.in_ok-source_of.ensures.some))
+    (stopped c.args.session.now))
+    (c.run_import.ensures.stopped before written)
 
-pub returns-clause-passed : goal.returns-clause-passed
-returns-clause-passed g c = λ files told before written. record {
-  text = c.in_ok-text.text.items;
-  text_is = c.in_ok-text.ensures (serial_rules c.args.batch);
-  written_is = rw c.deref.ensures.value at (c.in_ok-write_all.ensures.whole before written);
-  leads = c.in_ok-pass.ensures.passed files told c.in_ok-text.text.items;
-}
+pub returns-in-None-clause-passed : goal.returns-in-None-clause-passed
+returns-in-None-clause-passed g c = λ files told before written.
+    IfOk-weaker c.answer_alone.result _ _
+    (λ next passed. record {
+      text = passed.text;
+      text_is = passed.text_is (serial_rules c.args.batch);
+      written_is = passed.written_is;
+      leads = passed.leads (serial_rules c.args.batch) files (g.F.Folder.faults c.args.folder.now);
+    })
+    (c.answer_alone.ensures.passed before written)
+
+pub returns-in-None-clause-stopped : goal.returns-in-None-clause-stopped
+returns-in-None-clause-stopped g c = λ before written.
+    on_err_weaker c.answer_alone.result (λ stopped. stopped (serial_rules c.args.batch)) (c.answer_alone.ensures.stopped before written)

@@ -5,37 +5,37 @@ use Rattle.serial_run.proofs.RunLemmas.{HasRun-more, HasRun-start, WritesPrefix-
 use Rattle.serial_run.proofs.StatementLemmas.{waiting_is}
 use Rattle.serial_run.proofs.statements.run_statements.Goals as goal
 
-pub returns-in_err-standing-clause-prefix : goal.returns-in_err-standing-clause-prefix
-returns-in_err-standing-clause-prefix g c = λ files told before written.
+pub returns-in_err-state-clause-prefix : goal.returns-in_err-state-clause-prefix
+returns-in_err-state-clause-prefix g c = λ files told before written.
     let i = c.loop-statement.statement-index in
     let placed = c.args.placed.now in
     let p = c.statement-item.result in
     let h = c.loop-statement.invariant.run files told before written in
-    let stop = c.in_err-standing.ensures.stopped (before ++ h.text) h.written_is in
-    after_error _ _ (WritesPrefix-stopped (serial_rules c.args.batch) files (map (λ b. g.C.Collector.tally b) c.args.boards.items) c.loop-statement.session placed (take i placed) (p ∷ drop (suc i) placed) c.loop-statement.standing before stop.more _ _ _ _ _ h (split_here placed i p c.loop-statement-test.true c.statement-item.is) (next_prefix (serial_rules c.args.batch) files h.state c.loop-statement.standing c.loop-statement.session p (drop (suc i) placed) stop.more h.is_kept stop.prefix) stop.written_is c.in_err-standing.ensures.later)
+    let stop = c.in_err-state.ensures.stopped (before ++ h.text) h.written_is in
+    after_error _ _ (WritesPrefix-stopped (serial_rules c.args.batch) files (map (λ b. g.C.Collector.tally b) c.args.boards.items) c.loop-statement.session placed (take i placed) (p ∷ drop (suc i) placed) c.loop-statement.state before stop.more _ _ _ _ _ h (split_here placed i p c.loop-statement-test.true c.statement-item.is) (next_prefix (serial_rules c.args.batch) files h.state c.loop-statement.state c.loop-statement.session p (drop (suc i) placed) stop.more h.is_kept stop.prefix) stop.written_is c.in_err-state.ensures.later)
 
 pub loop-statement-init : goal.loop-statement-init
 loop-statement-init g c = record {
   same = refl;
   later = omega arith;
   sink_later = omega arith;
-  version = rw c.new-standing.ensures (omega arith);
-  run = λ files told before written. rw c.new-standing.ensures (HasRun-start (serial_rules c.args.batch) files (map (λ b. g.C.Collector.tally b) c.args.boards.items) _ before (g.K.Sink.written c.args.out.now) (g.F.Folder.faults c.args.folder.now) c.new-session.ensures written);
+  version = rw c.new-state.ensures (omega arith);
+  run = λ files told before written. rw c.new-state.ensures (HasRun-start (serial_rules c.args.batch) files (map (λ b. g.C.Collector.tally b) c.args.boards.items) _ before (g.K.Sink.written c.args.out.now) (g.F.Folder.faults c.args.folder.now) c.new-session.ensures written);
 }
 
 pub loop-statement-preserved : goal.loop-statement-preserved
 loop-statement-preserved g c = record {
-  same = c.in_ok-standing.ensures.same ∙ c.loop-statement.invariant.same;
-  later = omega (arith, c.loop-statement.invariant.later, c.in_ok-standing.ensures.later);
-  sink_later = omega (arith, c.loop-statement.invariant.sink_later, c.in_ok-standing.ensures.sink_later);
-  version = omega (arith, c.loop-statement.invariant.version, c.in_ok-standing.ensures.version);
+  same = c.in_ok-state.ensures.same ∙ c.loop-statement.invariant.same;
+  later = omega (arith, c.loop-statement.invariant.later, c.in_ok-state.ensures.later);
+  sink_later = omega (arith, c.loop-statement.invariant.sink_later, c.in_ok-state.ensures.sink_later);
+  version = omega (arith, c.loop-statement.invariant.version, c.in_ok-state.ensures.version);
   run = λ files told before written.
       let i = c.loop-statement.statement-index in
       let placed = c.args.placed.now in
       let p = c.statement-item.result in
       let h = c.loop-statement.invariant.run files told before written in
       rw (taken_more placed i p c.loop-statement-test.true c.statement-item.is)
-      (HasRun-more (serial_rules c.args.batch) files (map (λ b. g.C.Collector.tally b) c.args.boards.items) c.loop-statement.session _ (take i placed) p c.loop-statement.standing c.in_ok-standing.standing before _ _ _ _ _ h (c.in_ok-standing.ensures.passed files (c.loop-statement.invariant.same ∙ told) (before ++ h.text) h.written_is));
+      (HasRun-more (serial_rules c.args.batch) files (map (λ b. g.C.Collector.tally b) c.args.boards.items) c.loop-statement.session _ (take i placed) p c.loop-statement.state c.in_ok-state.state before _ _ _ _ _ h (c.in_ok-state.ensures.passed files (c.loop-statement.invariant.same ∙ told) (before ++ h.text) h.written_is));
 }
 
 pub returns-in_err-write_all-clause-prefix : goal.returns-in_err-write_all-clause-prefix
@@ -45,7 +45,7 @@ returns-in_err-write_all-clause-prefix g c = λ files told before written.
     let h = c.loop-statement.invariant.run files told before written in
     let part = c.in_err-write_all.ensures.part (before ++ h.text) h.written_is in
     let all : take i placed ≡ placed = take_all i placed (omega arith) in
-    after_error _ _ (WritesPrefix-stopped (serial_rules c.args.batch) files (map (λ b. g.C.Collector.tally b) c.args.boards.items) c.loop-statement.session placed (take i placed) [] c.loop-statement.standing before part.0 _ _ _ _ _ h (sym (append-nil (take i placed) ∙ all)) (rw (c.report.ensures, waiting_is h.state c.loop-statement.standing c.loop-statement.session h.is_kept) at part.1) part.2 (omega arith))
+    after_error _ _ (WritesPrefix-stopped (serial_rules c.args.batch) files (map (λ b. g.C.Collector.tally b) c.args.boards.items) c.loop-statement.session placed (take i placed) [] c.loop-statement.state before part.0 _ _ _ _ _ h (sym (append-nil (take i placed) ∙ all)) (rw (c.report.ensures, waiting_is h.state c.loop-statement.state c.loop-statement.session h.is_kept) at part.1) part.2 (omega arith))
 
 pub returns-clause-lawful : goal.returns-clause-lawful
 returns-clause-lawful g c = λ files told before written.
@@ -54,4 +54,4 @@ returns-clause-lawful g c = λ files told before written.
     let h = c.loop-statement.invariant.run files told before written in
     let all : take i placed ≡ placed = take_all i placed (omega arith) in
     let whole = c.in_ok-write_all.ensures.whole (before ++ h.text) h.written_is in
-    rw (← all) (WritesLawful-end (serial_rules c.args.batch) files (map (λ b. g.C.Collector.tally b) c.args.boards.items) c.loop-statement.session (take i placed) c.loop-statement.standing before _ _ _ _ h (rw c.report.ensures at whole))
+    rw (← all) (WritesLawful-end (serial_rules c.args.batch) files (map (λ b. g.C.Collector.tally b) c.args.boards.items) c.loop-statement.session (take i placed) c.loop-statement.state before _ _ _ _ h (rw c.report.ensures at whole))

@@ -1,5 +1,0 @@
-use Rattle.serial_run.proofs.SerialOutputs.{lawful-beside}
-use Rattle.serial_run.proofs.laws.a_serial_output_is_lawful_beside_imports.Goals as goal
-
-pub returns : goal.returns
-returns c = λ files rules boxes placed course out lawful. lawful-beside files rules boxes course placed out lawful

@@ -1,5 +1,0 @@
-use Rattle.serial_run.proofs.WholeOutputs.{output-found}
-use Rattle.serial_run.proofs.laws.each_script_has_a_lawful_output.Goals as goal
-
-pub returns : goal.returns
-returns c = output-found

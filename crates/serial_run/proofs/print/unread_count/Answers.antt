@@ -1,8 +1,0 @@
-use Rattle.std.proofs.Common.{rules}
-use Rattle.import_work.specs.Batches.{line_report}
-use Rattle.serial_run.specs.Texts.{is_unread}
-use Rattle.serial_run.proofs.PrintLemmas.{count_by-map}
-use Rattle.serial_run.proofs.print.unread_count.Goals as goal
-
-pub returns : goal.returns
-returns c = rw (count_by-map line_report is_unread c.args.lines.now) (search rules)
