@@ -40,18 +40,11 @@ fn code_of(status: Status) -> u8
     }
 }
 
-// Prints the line of a status other than 0. A line that can't be printed is let go.
+// Prints the line of a status other than done. A line that can't be printed is let go.
 fn complain(rt: &impl Eprint, status: Status) {
-    let _ = match status {
-        Status::Done => Ok(()),
-        Status::BadScript { line } => {
-            eprintln!(rt; "gobase: line {line} of the script is not a statement")
-        }
-        Status::BadWords => eprintln!(rt; "gobase: words: [--batch N] [--serial]"),
-        Status::ScriptUnread => eprintln!(rt; "gobase: the script could not be read"),
-        Status::SinkFault => eprintln!(rt; "gobase: the output could not be written"),
-        Status::NoMemory => eprintln!(rt; "gobase: out of memory"),
-    };
+    if status != Status::Done {
+        let _ = eprintln!(rt; "gobase: {status}");
+    }
 }
 
 // The words of the command line without the program's name. Words that are no text are not lawful.

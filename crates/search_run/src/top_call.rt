@@ -1,18 +1,15 @@
 // The top call, whose imports go on beside the statements.
 ghost use Rattle.std.specs.Prelude.{
   ◌≡◌,
-  ◌≢◌,
   ◌≤◌,
   ◌⊎◌,
   ℕ,
   List,
-  [],
   None,
   Some,
   IsErrOf,
   OnErr,
   OnOk,
-  drop,
   false,
   length,
   map,
@@ -29,9 +26,9 @@ ghost use Rattle.version_publisher.specs.declared.state.PublisherState.{Publishe
 ghost use Rattle.search_run.specs.Bases.{BaseState, IsNewBase};
 ghost use Rattle.search_run.specs.Run.{PrintsPublished, WritesPublished, beside_rules};
 ghost use Rattle.search_run.specs.Stopped.{PrintsStopped, WritesPublishedPrefix};
+ghost use Rattle.serial_run.specs.Causes.{HasCause, IsEarly};
 ghost use Rattle.serial_run.specs.Run.{WritesLawful, WritesPrefix, serial_rules};
-ghost use Rattle.serial_run.specs.Script.{IsBad, IsInGrammar};
-ghost use Rattle.serial_run.specs.Serial.{IsEarly, Prints, PrintsPrefix};
+ghost use Rattle.serial_run.specs.Serial.{Prints, PrintsPrefix};
 ghost use Rattle.serial_run.specs.declared.status.Status.{Status};
 
 use crate::base::Base;
@@ -82,37 +79,25 @@ pub fn run<
     boards: Vec<Box<dyn Collector>>,
     base: Option<Base>,
 ) -> (Status, F, Option<Publisher<Segment>>)
-    // The words come first. Those that aren't lawful are told so, but for want of memory, and nothing
-    // is read, written or asked. Lawful ones are never told so.
-    ensures bad_words { result.0 ≡ Status.BadWords → (read : Words) →
-        ¬ AreLawful (map string_bytes words.now) read }
-    ensures lawful_words { result.0 ≢ Status.BadWords → result.0 ≢ Status.NoMemory →
-        (read : Words) × AreLawful (map string_bytes words.now) read }
+    // Why it ended so: by its words, then by the script and its grammar, then amid its statements.
+    ensures causes { HasCause (map string_bytes words.now) result.0 (record {
+      left = S.left script.old;
+      left_now = S.left script.new;
+      source_faults = S.faults script.old;
+      source_faults_now = S.faults script.new;
+      written = K.written out.old;
+      written_now = K.written out.new;
+      sink_faults = K.faults out.old;
+      sink_faults_now = K.faults out.new;
+    }) }
+
+    // Where the words aren't lawful, nothing is read, written or asked. Before the first statement the
+    // folder isn't asked, where the run didn't end for want of memory.
     ensures nothing_read { ((read : Words) → ¬ AreLawful (map string_bytes words.now) read) →
         script.new ≡ script.old }
     ensures nothing_done { ((read : Words) → ¬ AreLawful (map string_bytes words.now) read) →
         (K.written out.new ≡ K.written out.old) × (result.1 ≡ folder) }
-
-    // Then the script is read.
-    ensures script_unread { result.0 ≡ Status.ScriptUnread →
-        Rose (S.faults script.old) (S.faults script.new) }
-
-    // Then its grammar: where the source tells its bytes, a bad script is told by its bad line, and
-    // no other script is told so or run.
-    ensures bad_script { (bytes : List ℕ) → S.left script.old ≡ Some bytes → (k : ℕ) →
-        result.0 ≡ Status.BadScript k → IsBad bytes k }
-    ensures in_grammar { (bytes : List ℕ) → S.left script.old ≡ Some bytes →
-        (result.0 ≡ Status.Done) ⊎ (result.0 ≡ Status.SinkFault) → IsInGrammar bytes }
-
-    // A script that was read to its end leaves nothing; of one that is too long no more than one
-    // byte past the limit is read.
-    ensures done_left { (bytes : List ℕ) → S.left script.old ≡ Some bytes → result.0 ≡ Status.Done →
-        S.left script.new ≡ Some [] }
-    ensures bad_script_left { (bytes : List ℕ) → S.left script.old ≡ Some bytes → (k : ℕ) →
-        result.0 ≡ Status.BadScript k → S.left script.new ≡ Some (drop 1048577 bytes) }
-
-    // Then the statements. The sink fails only where its count rose.
-    ensures sink_fault { result.0 ≡ Status.SinkFault → Rose (K.faults out.old) (K.faults out.new) }
+    ensures nothing_asked { IsEarly result.0 → result.1 ≡ folder }
 
     // What was written, where the source, the folder and the sink tell their contents; and with a
     // base what its publisher's log has.
@@ -160,13 +145,6 @@ pub fn run<
         bytes files before (K.written out.new) (F.faults folder) (F.faults result.1)
         given.publisher back) }
 
-    // Where nothing fails, the run is done, or memory was wanted.
-    ensures complete { (bytes : List ℕ) (read : Words) → S.left script.old ≡ Some bytes →
-        AreLawful (map string_bytes words.now) read → IsInGrammar bytes →
-        ¬ Rose (S.faults script.old) (S.faults script.new) →
-        ¬ Rose (K.faults out.old) (K.faults out.new) → (result.0 ≡ Status.Done)
-        ⊎ (result.0 ≡ Status.NoMemory) }
-
     // The publisher of a base comes back, and as it was where the run ended before the first
     // statement and not for want of memory, where the words aren't lawful, and with `--serial`.
     ensures without_base { base ≡ None → result.2 ≡ None }
@@ -180,16 +158,9 @@ pub fn run<
         read.serial ≡ true → (given : BaseState) → base ≡ Some given →
         result.2 ≡ Some given.publisher }
 
-    // The folder's files stay, and no count of faults falls.
+    // The folder's files stay, and its count of faults doesn't fall.
     ensures same { F.files result.1 ≡ F.files folder }
     ensures later { F.faults folder ≤ F.faults result.1 }
-    ensures script_later { S.faults script.old ≤ S.faults script.new }
-    ensures sink_later { K.faults out.old ≤ K.faults out.new }
-
-    // Before the first statement nothing is written, and the folder isn't asked, where the run didn't
-    // end for want of memory.
-    ensures nothing_written { IsEarly result.0 → K.written out.new ≡ K.written out.old }
-    ensures nothing_asked { IsEarly result.0 → result.1 ≡ folder }
 {
     let Some(base) = base else {
         let (status, folder) = run_serial(rt, alloc, words, folder, script, out, boards);

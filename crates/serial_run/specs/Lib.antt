@@ -1,4 +1,5 @@
 -- Words that contracts of public functions rest on.
+pub mod Causes
 pub mod Run
 pub mod RunErrors
 pub mod Script

@@ -10,8 +10,6 @@ use Rattle.serial_run.specs.Script.{IsScript}
 use Rattle.query_script.specs.CommandWords.{AreLawful}
 use Rattle.query_script.specs.declared.command_words.Words.{Words}
 use Rattle.query_script.specs.declared.statement.Placed.{Placed}
-use Rattle.serial_run.specs.declared.status.Status.{Status}
-use Rattle.serial_run.specs.declared.status.Status.TheVariants as status
 
 -- The words are lawful, and a lawful output for the script's statements was written, where the boxes
 -- tell this at the start, by batches of as many files as the words say and by a course whose losses
@@ -51,12 +49,3 @@ pub record PrintsPrefix (words : List (List ℕ)) (boxes : List BoxTally) (scrip
   pub spelled : IsScript script placed
   pub prefix :
       WritesPrefix (serial_rules read.batch) files boxes placed before written faults_before faults_now
-
--- the run ended before the first statement, and not for want of memory
-abbrev pub IsEarly : Status → Type 0
-IsEarly status.BadWords = Unit {0}
-IsEarly status.ScriptUnread = Unit {0}
-IsEarly (status.BadScript line) = Unit {0}
-IsEarly status.Done = ⊥
-IsEarly status.SinkFault = ⊥
-IsEarly status.NoMemory = ⊥

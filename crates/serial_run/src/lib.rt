@@ -12,19 +12,19 @@
 mod block;
 mod counts;
 mod read;
+mod run_state;
 mod script;
 mod serial;
-mod standing;
 mod statement_text;
 mod statements;
 mod status;
 mod write;
 
 pub use block::block_text;
+pub use run_state::RunState;
 pub use script::{NoStatements, read_statements};
 pub use serial::run_serial;
-pub use standing::Standing;
 pub use statement_text::version_text;
-pub use statements::{Stopped, run_statements};
+pub use statements::{Stopped, answer_alone, run_statements};
 pub use status::Status;
 pub use write::write_all;

@@ -23,6 +23,8 @@ use bstr::ByteSlice;
 use kb_edges::Source;
 use query_script::{MAX_SCRIPT, Placed, ScriptError, read_script};
 use std::alloc::Global;
+use std::error::Error;
+use std::fmt;
 
 /// Why there are no statements.
 #[derive(Clone, Copy, Debug, PartialEq, Eq)]
@@ -37,6 +39,18 @@ pub enum NoStatements {
     /// Want of memory.
     NoMemory,
 }
+
+impl fmt::Display for NoStatements {
+    fn fmt<W: fmt::Write>(&self, f: &mut fmt::Formatter<W>) -> fmt::Result {
+        match self {
+            NoStatements::Unread => f.write_str("a read failed"),
+            NoStatements::BadLine { line } => write!(f, "line {line} is not a statement"),
+            NoStatements::NoMemory => f.write_str("out of memory"),
+        }
+    }
+}
+
+impl Error for NoStatements {}
 
 /// Reads the statements of a script, which is read to its end, or to one byte past the greatest
 /// length.

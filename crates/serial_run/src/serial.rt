@@ -1,24 +1,11 @@
 // A whole run, one statement after another.
-ghost use Rattle.std.specs.Prelude.{
-  ◌≡◌,
-  ◌≢◌,
-  ◌≤◌,
-  ◌+◌,
-  ◌⊎◌,
-  ℕ,
-  List,
-  [],
-  Some,
-  drop,
-  map,
-  string_bytes,
-};
+ghost use Rattle.std.specs.Prelude.{◌≡◌, ◌≤◌, ◌⊎◌, ℕ, List, Some, map, string_bytes};
 ghost use Rattle.kb_edges.specs.Faults.{Rose};
 ghost use Rattle.kb_edges.specs.Files.{File};
 ghost use Rattle.query_script.specs.CommandWords.{AreLawful};
 ghost use Rattle.query_script.specs.declared.command_words.Words.{Words};
-ghost use Rattle.serial_run.specs.Script.{IsBad, IsInGrammar};
-ghost use Rattle.serial_run.specs.Serial.{IsEarly, Prints, PrintsAll, PrintsPrefix};
+ghost use Rattle.serial_run.specs.Causes.{HasCause, IsEarly};
+ghost use Rattle.serial_run.specs.Serial.{Prints, PrintsAll, PrintsPrefix};
 ghost use Rattle.serial_run.specs.declared.status.Status.{Status};
 
 use crate::script::{NoStatements, read_statements};
@@ -49,37 +36,25 @@ pub fn run_serial<R: Threads + Sync, F: Folder, S: Source, K: Sink>(
     out: &mut K,
     boards: Vec<Box<dyn Collector>>,
 ) -> (Status, F)
-    // The words come first. Those that aren't lawful are told so, but for want of memory, and nothing
-    // is read, written or asked. Lawful ones are never told so.
-    ensures bad_words { result.0 ≡ Status.BadWords → (read : Words) →
-        ¬ AreLawful (map string_bytes words.now) read }
-    ensures lawful_words { result.0 ≢ Status.BadWords → result.0 ≢ Status.NoMemory →
-        (read : Words) × AreLawful (map string_bytes words.now) read }
+    // Why it ended so: by its words, then by the script and its grammar, then amid its statements.
+    ensures causes { HasCause (map string_bytes words.now) result.0 (record {
+      left = S.left script.old;
+      left_now = S.left script.new;
+      source_faults = S.faults script.old;
+      source_faults_now = S.faults script.new;
+      written = K.written out.old;
+      written_now = K.written out.new;
+      sink_faults = K.faults out.old;
+      sink_faults_now = K.faults out.new;
+    }) }
+
+    // Where the words aren't lawful, nothing is read, written or asked. Before the first statement the
+    // folder isn't asked, where the run didn't end for want of memory.
     ensures nothing_read { ((read : Words) → ¬ AreLawful (map string_bytes words.now) read) →
         script.new ≡ script.old }
     ensures nothing_done { ((read : Words) → ¬ AreLawful (map string_bytes words.now) read) →
         (K.written out.new ≡ K.written out.old) × (result.1 ≡ folder) }
-
-    // Then the script is read.
-    ensures script_unread { result.0 ≡ Status.ScriptUnread →
-        Rose (S.faults script.old) (S.faults script.new) }
-
-    // Then its grammar: where the source tells its bytes, a bad script is told by its bad line, and
-    // no other script is told so or run.
-    ensures bad_script { (bytes : List ℕ) → S.left script.old ≡ Some bytes → (k : ℕ) →
-        result.0 ≡ Status.BadScript k → IsBad bytes k }
-    ensures in_grammar { (bytes : List ℕ) → S.left script.old ≡ Some bytes →
-        (result.0 ≡ Status.Done) ⊎ (result.0 ≡ Status.SinkFault) → IsInGrammar bytes }
-
-    // A script that was read to its end leaves nothing; of one that is too long no more than one
-    // byte past the limit is read.
-    ensures done_left { (bytes : List ℕ) → S.left script.old ≡ Some bytes → result.0 ≡ Status.Done →
-        S.left script.new ≡ Some [] }
-    ensures bad_script_left { (bytes : List ℕ) → S.left script.old ≡ Some bytes → (k : ℕ) →
-        result.0 ≡ Status.BadScript k → S.left script.new ≡ Some (drop 1048577 bytes) }
-
-    // Then the statements. The sink fails only where its count rose.
-    ensures sink_fault { result.0 ≡ Status.SinkFault → Rose (K.faults out.old) (K.faults out.new) }
+    ensures nothing_asked { IsEarly result.0 → result.1 ≡ folder }
 
     // What was written, where the source, the folder and the sink tell their contents.
     ensures done { (bytes : List ℕ) (files : List File) (before : List ℕ) →
@@ -101,13 +76,7 @@ pub fn run_serial<R: Threads + Sync, F: Folder, S: Source, K: Sink>(
         ⊎ PrintsPrefix (map string_bytes words.now) (map (λ board. tally board) boards.items)
         bytes files before (K.written out.new) (F.faults folder) (F.faults result.1) }
 
-    // Where nothing fails, the run is done, or memory was wanted. Where the folder doesn't fail,
-    // nothing is lost.
-    ensures complete { (bytes : List ℕ) (read : Words) → S.left script.old ≡ Some bytes →
-        AreLawful (map string_bytes words.now) read → IsInGrammar bytes →
-        ¬ Rose (S.faults script.old) (S.faults script.new) →
-        ¬ Rose (K.faults out.old) (K.faults out.new) → (result.0 ≡ Status.Done)
-        ⊎ (result.0 ≡ Status.NoMemory) }
+    // Where the folder doesn't fail, nothing is lost.
     ensures no_loss { (bytes : List ℕ) (files : List File) (before : List ℕ) →
         S.left script.old ≡ Some bytes → F.files folder ≡ Some files →
         K.written out.old ≡ Some before →
@@ -115,16 +84,9 @@ pub fn run_serial<R: Threads + Sync, F: Folder, S: Source, K: Sink>(
         PrintsAll (map string_bytes words.now) (map (λ board. tally board) boards.items) bytes files
         before (K.written out.new) }
 
-    // The folder's files stay, and no count of faults falls.
+    // The folder's files stay, and its count of faults doesn't fall.
     ensures same { F.files result.1 ≡ F.files folder }
     ensures later { F.faults folder ≤ F.faults result.1 }
-    ensures script_later { S.faults script.old ≤ S.faults script.new }
-    ensures sink_later { K.faults out.old ≤ K.faults out.new }
-
-    // Before the first statement nothing is written, and the folder isn't asked, where the run didn't
-    // end for want of memory.
-    ensures nothing_written { IsEarly result.0 → K.written out.new ≡ K.written out.old }
-    ensures nothing_asked { IsEarly result.0 → result.1 ≡ folder }
 {
     let said = match read_words(alloc, words) {
         Ok(said) => said,

@@ -17,6 +17,8 @@ use kb_geometry::NoMemory;
 use query_script::Placed;
 use session_core::{Session, source_of};
 use std::alloc::Global;
+use std::error::Error;
+use std::fmt;
 use std::thread::Threads;
 
 /// Why a run stopped amid its statements.
@@ -27,6 +29,17 @@ pub enum Stopped {
     /// Want of memory.
     NoMemory,
 }
+
+impl fmt::Display for Stopped {
+    fn fmt<W: fmt::Write>(&self, f: &mut fmt::Formatter<W>) -> fmt::Result {
+        f.write_str(match self {
+            Stopped::SinkFault => "a write failed",
+            Stopped::NoMemory => "out of memory",
+        })
+    }
+}
+
+impl Error for Stopped {}
 
 impl From<NoMemory> for Stopped {
     ghost use Rattle.serial_run.specs.declared.statements.Stopped.TheVariants.{NoMemory};

@@ -1,4 +1,5 @@
 // How a run ends.
+use std::fmt;
 
 /// How a run ended.
 #[derive(Clone, Copy, Debug, PartialEq, Eq)]
@@ -19,4 +20,18 @@ pub enum Status {
     SinkFault,
     /// Want of memory. What was written is a prefix of a lawful output, or nothing was written.
     NoMemory,
+}
+
+// What a run that ended so would tell a person.
+impl fmt::Display for Status {
+    fn fmt<W: fmt::Write>(&self, f: &mut fmt::Formatter<W>) -> fmt::Result {
+        match self {
+            Status::Done => f.write_str("done"),
+            Status::BadScript { line } => write!(f, "line {line} of the script is not a statement"),
+            Status::BadWords => f.write_str("words: [--batch N] [--serial]"),
+            Status::ScriptUnread => f.write_str("the script could not be read"),
+            Status::SinkFault => f.write_str("the output could not be written"),
+            Status::NoMemory => f.write_str("out of memory"),
+        }
+    }
 }

@@ -162,8 +162,19 @@ impl<C: Collector> Session<C> {
         // The text is there before a box changes, so that a refusal for want of room changes none.
         let len = out.len();
         print_hits(line, number, games, &answer.hits, &answer.table, out)?;
-        let fed = feed_boxes(&mut self.boards, &answer.hits);
+        let fed = self.feed(answer);
         cut_back(out, len, fed)
+    }
+
+    /// Gives the hits of an answer to all boxes.
+    ///
+    /// The only error is `NoMemory`; then the boxes are as for [`answer`](Session::answer).
+    pub fn feed(&mut self, answer: &Answer) -> Result<(), NoMemory>
+        ensures fed { OnOk result (self.new ≡ fed_with answer.now.hits.items self.old) }
+        ensures left { OnErr result
+            (IsLeft (λ hits. hits ≡ answer.now.hits.items) self.old self.new) }
+    {
+        feed_boxes(&mut self.boards, &answer.hits)
     }
 }
 
