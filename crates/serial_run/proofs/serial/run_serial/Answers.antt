@@ -1,20 +1,16 @@
-use Rattle.std.proofs.Common.{◌≡◌, Err, ap, inr, subst}
-use Rattle.serial_run.specs.Script.{IsBad}
-use Rattle.serial_run.proofs.ScriptLemmas.{IsScript-in_grammar, good_not_bad}
+use Rattle.std.proofs.Common.{◌≡◌, Err, ap, arith, inr, refl}
+use Rattle.serial_run.proofs.CauseLemmas.{ended-bad_script, ended-done, ended-sink_fault}
+use Rattle.serial_run.proofs.ScriptLemmas.{IsScript-in_grammar}
 use Rattle.serial_run.proofs.RunLemmas.{PrintsAll-still}
 use Rattle.serial_run.proofs.WordLemmas.{batch_some}
 use Rattle.serial_run.proofs.serial.run_serial.Goals as goal
 
-pub returns-in-Err-BadLine-clause-bad_script : goal.returns-in-Err-BadLine-clause-bad_script
-returns-in-Err-BadLine-clause-bad_script g c = λ bytes told k is.
-    let bad = c.in-Err-BadLine.ensures.bad_line bytes told c.in-Err-BadLine.line (ap Err c.in-Err-BadLine.field-0-is) in
-    let same : c.in-Err-BadLine.line ≡ k = cc in
-    subst (IsBad bytes) same bad
-
-pub returns-in-Err-BadLine-clause-complete : goal.returns-in-Err-BadLine-clause-complete
-returns-in-Err-BadLine-clause-complete g c = λ bytes read told say good source sink.
-    let bad = c.in-Err-BadLine.ensures.bad_line bytes told c.in-Err-BadLine.line (ap Err c.in-Err-BadLine.field-0-is) in
-    absurd (good_not_bad bytes c.in-Err-BadLine.line good bad)
+pub returns-in-Err-BadLine-clause-causes : goal.returns-in-Err-BadLine-clause-causes
+returns-in-Err-BadLine-clause-causes g c =
+    ended-bad_script _ _ c.in-Err-BadLine.ensures.later (omega arith) c.in-Ok.said c.in-Ok.ensures.read c.in-Err-BadLine.line
+    (λ bytes told. c.in-Err-BadLine.ensures.bad_line bytes told c.in-Err-BadLine.line (ap Err c.in-Err-BadLine.field-0-is))
+    (λ bytes told. c.in-Err-BadLine.ensures.bad_left bytes told c.in-Err-BadLine.line (ap Err c.in-Err-BadLine.field-0-is))
+    refl
 
 pub run_statements-requires-clause-few : goal.run_statements-requires-clause-few
 run_statements-requires-clause-few g c κs within = rw c.deref.ensures.value c.in-Ok-read_statements.ensures.few
@@ -22,9 +18,11 @@ run_statements-requires-clause-few g c κs within = rw c.deref.ensures.value c.i
 pub run_statements-requires-clause-some : goal.run_statements-requires-clause-some
 run_statements-requires-clause-some g c κs within = batch_some _ c.in-Ok.said c.in-Ok.ensures.read
 
-pub returns-in-Ok-run_statements-clause-in_grammar : goal.returns-in-Ok-run_statements-clause-in_grammar
-returns-in-Ok-run_statements-clause-in_grammar g c = λ bytes told ends.
-    IsScript-in_grammar bytes c.in-Ok-read_statements.placed.items (c.in-Ok-read_statements.ensures.spelled bytes told)
+pub returns-in-Ok-run_statements-clause-causes : goal.returns-in-Ok-run_statements-clause-causes
+returns-in-Ok-run_statements-clause-causes g c =
+    ended-done _ _ c.in-Ok-read_statements.ensures.later c.in-Ok-run_statements.ensures.sink_later c.in-Ok.said c.in-Ok.ensures.read
+    (λ bytes told. IsScript-in_grammar bytes c.in-Ok-read_statements.placed.items (c.in-Ok-read_statements.ensures.spelled bytes told))
+    (λ bytes told. c.in-Ok-read_statements.ensures.left bytes told)
 
 pub returns-in-Ok-run_statements-clause-done : goal.returns-in-Ok-run_statements-clause-done
 returns-in-Ok-run_statements-clause-done g c = λ bytes files before told files_told written is. record {
@@ -42,9 +40,11 @@ returns-in-Ok-run_statements-clause-no_loss g c = λ bytes files before told fil
     (c.in-Ok-read_statements.ensures.spelled bytes told)
     ran still
 
-pub returns-in-Err-SinkFault-clause-in_grammar : goal.returns-in-Err-SinkFault-clause-in_grammar
-returns-in-Err-SinkFault-clause-in_grammar g c = λ bytes told ends.
-    IsScript-in_grammar bytes c.in-Ok-read_statements.placed.items (c.in-Ok-read_statements.ensures.spelled bytes told)
+pub returns-in-Err-SinkFault-clause-causes : goal.returns-in-Err-SinkFault-clause-causes
+returns-in-Err-SinkFault-clause-causes g c =
+    ended-sink_fault _ _ c.in-Ok-read_statements.ensures.later c.in-Err-SinkFault.ensures.sink_later c.in-Ok.said c.in-Ok.ensures.read
+    (λ bytes told. IsScript-in_grammar bytes c.in-Ok-read_statements.placed.items (c.in-Ok-read_statements.ensures.spelled bytes told))
+    (c.in-Err-SinkFault.ensures.sink_fault (ap Err c.in-Err-SinkFault.field-0-is))
 
 pub returns-in-Err-SinkFault-clause-stopped : goal.returns-in-Err-SinkFault-clause-stopped
 returns-in-Err-SinkFault-clause-stopped g c = λ bytes files before told files_told written is. record {

@@ -11,7 +11,7 @@ pub returns-in-Some-clause-passed : goal.returns-in-Some-clause-passed
 returns-in-Some-clause-passed g c = λ files told before written.
     IfOk-weaker c.run_import.result _ _
     (λ next passed. subst (λ (p : Placed). PassesStatement files (serial_rules c.args.batch) c.args.state c.args.session.now p next c.args.session.now before (g.K.Sink.written c.run_import.new.out) (g.F.Folder.faults c.args.folder.now) (g.F.Folder.faults c.run_import.new.folder))
-    (placed_as c.args.placed.now c.in-Some.source (rw c.in-Some.is at c.in_ok-source_of.ensures.some))
+    (placed_as c.args.placed.now c.in-Some.source (rw c.in-Some.is at c.in_ok-source.ensures.some))
     (passed c.args.session.now))
     (c.run_import.ensures.passed files told before written)
 
@@ -19,7 +19,7 @@ pub returns-in-Some-clause-stopped : goal.returns-in-Some-clause-stopped
 returns-in-Some-clause-stopped g c = λ before written.
     on_err_weaker c.run_import.result
     (λ stopped. subst (λ (p : Placed). StopsInStatement (serial_rules c.args.batch) c.args.state c.args.session.now p before (g.K.Sink.written c.run_import.new.out))
-    (placed_as c.args.placed.now c.in-Some.source (rw c.in-Some.is at c.in_ok-source_of.ensures.some))
+    (placed_as c.args.placed.now c.in-Some.source (rw c.in-Some.is at c.in_ok-source.ensures.some))
     (stopped c.args.session.now))
     (c.run_import.ensures.stopped before written)
 
