@@ -1,4 +1,5 @@
 use Rattle.std.proofs.Common.{◌≡◌, Err, ap, arith, inr, refl}
+use Rattle.serial_run.specs.Causes.{Edges}
 use Rattle.serial_run.proofs.CauseLemmas.{ended-bad_script, ended-done, ended-sink_fault}
 use Rattle.serial_run.proofs.ScriptLemmas.{IsScript-in_grammar}
 use Rattle.serial_run.proofs.RunLemmas.{PrintsAll-still}
@@ -7,10 +8,22 @@ use Rattle.serial_run.proofs.serial.run_serial.Goals as goal
 
 pub returns-in-Err-BadLine-clause-causes : goal.returns-in-Err-BadLine-clause-causes
 returns-in-Err-BadLine-clause-causes g c =
-    ended-bad_script _ _ c.in-Err-BadLine.ensures.later (omega arith) c.in-Ok.said c.in-Ok.ensures.read c.in-Err-BadLine.line
+    let out = c.args.out.now in
+    let edges : Edges = record {
+      left = g.S.Source.left c.args.script.now;
+      left_now = g.S.Source.left c.read_statements.new.script;
+      source_faults = g.S.Source.faults c.args.script.now;
+      source_faults_now = g.S.Source.faults c.read_statements.new.script;
+      written = g.K.Sink.written out;
+      written_now = g.K.Sink.written out;
+      sink_faults = g.K.Sink.faults out;
+      sink_faults_now = g.K.Sink.faults out;
+    } in
+    rw c.in-Err-BadLine.field-0-is
+    (ended-bad_script _ edges c.in-Err-BadLine.ensures.later (omega arith) c.in-Ok.said c.in-Ok.ensures.read c.in-Err-BadLine.line
     (λ bytes told. c.in-Err-BadLine.ensures.bad_line bytes told c.in-Err-BadLine.line (ap Err c.in-Err-BadLine.field-0-is))
     (λ bytes told. c.in-Err-BadLine.ensures.bad_left bytes told c.in-Err-BadLine.line (ap Err c.in-Err-BadLine.field-0-is))
-    refl
+    refl)
 
 pub run_statements-requires-clause-few : goal.run_statements-requires-clause-few
 run_statements-requires-clause-few g c κs within = rw c.deref.ensures.value c.in-Ok-read_statements.ensures.few
