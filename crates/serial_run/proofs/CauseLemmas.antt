@@ -3,13 +3,13 @@ use Rattle.std.proofs.Common.{◌≡◌, inl, inr, ℕ, ◌≤◌, List, [], Som
 use Rattle.kb_edges.specs.Faults.{Rose}
 use Rattle.query_script.specs.CommandWords.{AreLawful}
 use Rattle.query_script.specs.declared.command_words.Words.{Words}
-use Rattle.serial_run.specs.Causes.{Edges, HasCause}
+use Rattle.serial_run.specs.Causes.{EdgeStates, HasCause}
 use Rattle.serial_run.specs.Script.{IsBad, IsInGrammar}
 use Rattle.serial_run.specs.declared.status.Status.{Status}
 use Rattle.serial_run.specs.declared.status.Status.TheVariants as status
 use Rattle.serial_run.proofs.ScriptLemmas.{good_not_bad}
 
-module _ (words : List (List ℕ)) (e : Edges) (source : e.source_faults ≤ e.source_faults_now) (sink : e.sink_faults ≤ e.sink_faults_now) where
+module _ (words : List (List ℕ)) (e : EdgeStates) (source : e.source_faults ≤ e.source_faults_now) (sink : e.sink_faults ≤ e.sink_faults_now) where
   -- the words aren't lawful
   pub ended-bad_words : ((read : Words) → ¬ AreLawful words read) → e.written_now ≡ e.written → HasCause words status.BadWords e
   ended-bad_words none same = record {

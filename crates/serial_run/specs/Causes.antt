@@ -18,7 +18,7 @@ IsEarly status.NoMemory = ⊥
 
 -- The source and the sink of a run, before it and behind it: what the source has left and what is
 -- written, where they tell it, and their counts of faults.
-pub record Edges : Type 0 where
+pub record EdgeStates : Type 0 where
   pub left : Option (List ℕ)
   pub left_now : Option (List ℕ)
   pub source_faults : ℕ
@@ -29,7 +29,7 @@ pub record Edges : Type 0 where
   pub sink_faults_now : ℕ
 
 -- What a run's status has to do with its words and with what stands at its edges.
-pub record HasCause (words : List (List ℕ)) (ended : Status) (e : Edges) : Type 0 where
+pub record HasCause (words : List (List ℕ)) (ended : Status) (e : EdgeStates) : Type 0 where
   -- Words that aren't lawful are told so, but for want of memory. Lawful ones are never told so.
   pub bad_words : ended ≡ status.BadWords → (read : Words) → ¬ AreLawful words read
   pub lawful_words : ended ≢ status.BadWords → ended ≢ status.NoMemory →

@@ -6,7 +6,7 @@
 //! bstr. In `specs/` are the script that is too long, and one statement of a run by what is kept of
 //! it; the lawful outputs are words of session_core. The layer above uses that [`run_serial`] writes
 //! a lawful output where it is done and a prefix of one where it stops, and that [`RunState`] tells
-//! the text of each statement.
+//! the text of a statement, and leads from one statement to the next.
 #![tactic(auto)]
 
 mod block;

@@ -14,7 +14,7 @@ new_session boxes = record { boxes = boxes }
 
 -- the same with other boxes
 abbrev pub with_boxes : SessionState → List BoxTally → SessionState
-with_boxes session boxes = record { boxes = boxes }
+with_boxes session boxes = record session { boxes = boxes }
 
 -- the same when each box was given these hits
 abbrev pub fed_with : List Hit → SessionState → SessionState

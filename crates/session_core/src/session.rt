@@ -166,7 +166,8 @@ impl<C: Collector> Session<C> {
         cut_back(out, len, fed)
     }
 
-    /// Gives the hits of an answer to all boxes.
+    /// Gives the hits of an answer to all boxes, as [`deliver`](Session::deliver) does behind the
+    /// text.
     ///
     /// The only error is `NoMemory`; then the boxes are as for [`answer`](Session::answer).
     pub fn feed(&mut self, answer: &Answer) -> Result<(), NoMemory>

@@ -1,7 +1,8 @@
-use Rattle.std.proofs.Common.{◌≡◌, ◌∙◌, inr, Err, Some, ap, refl, subst, sym}
+use Rattle.std.proofs.Common.{◌≡◌, ◌∙◌, inr, Err, Some, ap, arith, refl, sym}
 use Rattle.search_run.specs.Bases.{BaseState}
-use Rattle.serial_run.specs.Script.{IsBad}
-use Rattle.serial_run.proofs.ScriptLemmas.{IsScript-in_grammar, good_not_bad}
+use Rattle.serial_run.specs.Causes.{EdgeStates}
+use Rattle.serial_run.proofs.CauseLemmas.{ended-bad_script, ended-done, ended-sink_fault}
+use Rattle.serial_run.proofs.ScriptLemmas.{IsScript-in_grammar}
 use Rattle.serial_run.proofs.WordLemmas.{batch_few, batch_some}
 use Rattle.search_run.proofs.top_call.run.Goals as goal
 
@@ -17,27 +18,39 @@ pub returns-in_default-clause-no_memory : goal.returns-in_default-clause-no_memo
 returns-in_default-clause-no_memory g c = λ bytes files before told files_told written none is.
     c.run_serial-status.ensures.no_memory bytes files before told files_told written is
 
-pub returns-in-Err-BadLine-clause-bad_script : goal.returns-in-Err-BadLine-clause-bad_script
-returns-in-Err-BadLine-clause-bad_script g c = λ bytes told k is.
-    let bad = c.in-Err-BadLine.ensures.bad_line bytes told c.in-Err-BadLine.line (ap Err c.in-Err-BadLine.field-0-is) in
-    let same : c.in-Err-BadLine.line ≡ k = cc in
-    subst (IsBad bytes) same bad
-
-pub returns-in-Err-BadLine-clause-complete : goal.returns-in-Err-BadLine-clause-complete
-returns-in-Err-BadLine-clause-complete g c = λ bytes read told say good source sink.
-    let bad = c.in-Err-BadLine.ensures.bad_line bytes told c.in-Err-BadLine.line (ap Err c.in-Err-BadLine.field-0-is) in
-    absurd (good_not_bad bytes c.in-Err-BadLine.line good bad)
+pub returns-in-Err-BadLine-clause-causes : goal.returns-in-Err-BadLine-clause-causes
+returns-in-Err-BadLine-clause-causes g c =
+    let out = c.args.out.now in
+    let edges : EdgeStates = record {
+      left = g.S.Source.left c.args.script.now;
+      left_now = g.S.Source.left c.read_statements.new.script;
+      source_faults = g.S.Source.faults c.args.script.now;
+      source_faults_now = g.S.Source.faults c.read_statements.new.script;
+      written = g.K.Sink.written out;
+      written_now = g.K.Sink.written out;
+      sink_faults = g.K.Sink.faults out;
+      sink_faults_now = g.K.Sink.faults out;
+    } in
+    rw c.in-Err-BadLine.field-0-is
+    (ended-bad_script _ edges c.in-Err-BadLine.ensures.later (omega arith) c.in-Ok.said c.in-Ok.ensures.read c.in-Err-BadLine.line
+    (λ bytes told. c.in-Err-BadLine.ensures.bad_line bytes told c.in-Err-BadLine.line (ap Err c.in-Err-BadLine.field-0-is))
+    (λ bytes told. c.in-Err-BadLine.ensures.bad_left bytes told c.in-Err-BadLine.line (ap Err c.in-Err-BadLine.field-0-is))
+    refl)
 
 pub run_base-ran-requires-clause-some : goal.run_base-ran-requires-clause-some
 run_base-ran-requires-clause-some g c κs within = (batch_some _ c.in-Ok.said c.in-Ok.ensures.read, batch_few _ c.in-Ok.said c.in-Ok.ensures.read)
 
-pub returns-in-Ok-ran-clause-in_grammar : goal.returns-in-Ok-ran-clause-in_grammar
-returns-in-Ok-ran-clause-in_grammar g c = λ bytes told ends.
-    IsScript-in_grammar bytes c.in-Ok-read_statements.placed.items (c.in-Ok-read_statements.ensures.spelled bytes told)
+pub returns-in-Ok-ran-clause-causes : goal.returns-in-Ok-ran-clause-causes
+returns-in-Ok-ran-clause-causes g c =
+    ended-done _ _ c.in-Ok-read_statements.ensures.later c.run_base-ran.ensures.sink_later c.in-Ok.said c.in-Ok.ensures.read
+    (λ bytes told. IsScript-in_grammar bytes c.in-Ok-read_statements.placed.items (c.in-Ok-read_statements.ensures.spelled bytes told))
+    (λ bytes told. c.in-Ok-read_statements.ensures.left bytes told)
 
-pub returns-in-Err-SinkFault-clause-in_grammar : goal.returns-in-Err-SinkFault-clause-in_grammar
-returns-in-Err-SinkFault-clause-in_grammar g c = λ bytes told ends.
-    IsScript-in_grammar bytes c.in-Ok-read_statements.placed.items (c.in-Ok-read_statements.ensures.spelled bytes told)
+pub returns-in-Err-SinkFault-clause-causes : goal.returns-in-Err-SinkFault-clause-causes
+returns-in-Err-SinkFault-clause-causes g c =
+    ended-sink_fault _ _ c.in-Ok-read_statements.ensures.later c.run_base-ran.ensures.sink_later c.in-Ok.said c.in-Ok.ensures.read
+    (λ bytes told. IsScript-in_grammar bytes c.in-Ok-read_statements.placed.items (c.in-Ok-read_statements.ensures.spelled bytes told))
+    (c.run_base-ran.ensures.sink_fault c.in-Err-SinkFault.is)
 
 pub returns-in-Ok-ran-clause-done_published : goal.returns-in-Ok-ran-clause-done_published
 returns-in-Ok-ran-clause-done_published g c = λ bytes files before told files_told written given some is.

@@ -1,5 +1,5 @@
 use Rattle.std.proofs.Common.{◌≡◌, Err, ap, arith, inr, refl}
-use Rattle.serial_run.specs.Causes.{Edges}
+use Rattle.serial_run.specs.Causes.{EdgeStates}
 use Rattle.serial_run.proofs.CauseLemmas.{ended-bad_script, ended-done, ended-sink_fault}
 use Rattle.serial_run.proofs.ScriptLemmas.{IsScript-in_grammar}
 use Rattle.serial_run.proofs.RunLemmas.{PrintsAll-still}
@@ -9,7 +9,7 @@ use Rattle.serial_run.proofs.serial.run_serial.Goals as goal
 pub returns-in-Err-BadLine-clause-causes : goal.returns-in-Err-BadLine-clause-causes
 returns-in-Err-BadLine-clause-causes g c =
     let out = c.args.out.now in
-    let edges : Edges = record {
+    let edges : EdgeStates = record {
       left = g.S.Source.left c.args.script.now;
       left_now = g.S.Source.left c.read_statements.new.script;
       source_faults = g.S.Source.faults c.args.script.now;
