@@ -190,8 +190,7 @@ pub fn run<
     );
     match ran {
         Ok(()) => (Status::Done, folder, Some(publisher)),
-        Err(Stopped::SinkFault) => (Status::SinkFault, folder, Some(publisher)),
-        Err(Stopped::NoMemory) => (Status::NoMemory, folder, Some(publisher)),
+        Err(stopped) => (Status::from(stopped), folder, Some(publisher)),
     }
 }
 

@@ -4,7 +4,10 @@ use Rattle.kb_edges.specs.Faults.{Rose}
 use Rattle.query_script.specs.CommandWords.{AreLawful}
 use Rattle.query_script.specs.declared.command_words.Words.{Words}
 use Rattle.serial_run.specs.Causes.{EdgeStates, HasCause}
+use Rattle.serial_run.specs.RunErrors.{status_of}
 use Rattle.serial_run.specs.Script.{IsBad, IsInGrammar}
+use Rattle.serial_run.specs.declared.statements.Stopped.{Stopped}
+use Rattle.serial_run.specs.declared.statements.Stopped.TheVariants as stopped
 use Rattle.serial_run.specs.declared.status.Status.{Status}
 use Rattle.serial_run.specs.declared.status.Status.TheVariants as status
 use Rattle.serial_run.proofs.ScriptLemmas.{good_not_bad}
@@ -110,7 +113,7 @@ module _ (words : List (List ℕ)) (e : EdgeStates) (source : e.source_faults �
     }
 
     -- the sink failed
-    pub ended-sink_fault : ((bytes : List ℕ) → e.left ≡ Some bytes → IsInGrammar bytes) → Rose e.sink_faults e.sink_faults_now → HasCause words status.SinkFault e
+    ended-sink_fault : ((bytes : List ℕ) → e.left ≡ Some bytes → IsInGrammar bytes) → Rose e.sink_faults e.sink_faults_now → HasCause words status.SinkFault e
     ended-sink_fault good rose = record {
       bad_words = λ is. absurd (cc is);
       lawful_words = λ not_words not_memory. (read, say);
@@ -125,3 +128,8 @@ module _ (words : List (List ℕ)) (e : EdgeStates) (source : e.source_faults �
       source_later = source;
       sink_later = sink;
     }
+
+    -- the run stopped amid its statements
+    pub ended-stopped : (why : Stopped) → ((bytes : List ℕ) → e.left ≡ Some bytes → IsInGrammar bytes) → (why ≡ stopped.SinkFault → Rose e.sink_faults e.sink_faults_now) → HasCause words (status_of why) e
+    ended-stopped stopped.SinkFault good rose = ended-sink_fault good (rose refl)
+    ended-stopped stopped.NoMemory good rose = ended-no_memory

@@ -9,7 +9,7 @@ ghost use Rattle.serial_run.specs.Serial.{Prints, PrintsAll, PrintsPrefix};
 ghost use Rattle.serial_run.specs.declared.status.Status.{Status};
 
 use crate::script::{NoStatements, read_statements};
-use crate::statements::{Stopped, run_statements};
+use crate::statements::run_statements;
 use crate::status::Status;
 use hit_collectors::Collector;
 use kb_edges::{Folder, Sink, Source};
@@ -102,7 +102,6 @@ pub fn run_serial<R: Threads + Sync, F: Folder, S: Source, K: Sink>(
     let mut folder = folder;
     match run_statements(rt, alloc, said.batch, boards, &placed, &mut folder, out) {
         Ok(()) => (Status::Done, folder),
-        Err(Stopped::SinkFault) => (Status::SinkFault, folder),
-        Err(Stopped::NoMemory) => (Status::NoMemory, folder),
+        Err(stopped) => (Status::from(stopped), folder),
     }
 }

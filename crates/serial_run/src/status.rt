@@ -1,4 +1,7 @@
 // How a run ends.
+ghost use Rattle.std.specs.Prelude.{◌≡◌};
+
+use crate::statements::Stopped;
 use std::fmt;
 
 /// How a run ended.
@@ -32,6 +35,19 @@ impl fmt::Display for Status {
             Status::ScriptUnread => f.write_str("the script could not be read"),
             Status::SinkFault => f.write_str("the output could not be written"),
             Status::NoMemory => f.write_str("out of memory"),
+        }
+    }
+}
+
+impl From<Stopped> for Status {
+    ghost use Rattle.serial_run.specs.RunErrors.{status_of};
+
+    ghost from_gives = { λ stopped status. status ≡ status_of stopped };
+
+    fn from(stopped: Stopped) -> Self {
+        match stopped {
+            Stopped::SinkFault => Status::SinkFault,
+            Stopped::NoMemory => Status::NoMemory,
         }
     }
 }

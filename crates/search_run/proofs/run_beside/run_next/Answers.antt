@@ -4,7 +4,8 @@ use Rattle.query_script.specs.declared.statement.Placed.{Placed}
 use Rattle.search_run.specs.Beside.{HasRunTo}
 use Rattle.search_run.specs.Run.{beside_rules}
 use Rattle.search_run.specs.Stopped.{WritesPublishedPrefix}
-use Rattle.search_run.proofs.JoinedRuns.{placed_as, still-ran}
+use Rattle.serial_run.proofs.StatementLemmas.{placed_as}
+use Rattle.search_run.proofs.JoinedRuns.{still-ran}
 use Rattle.search_run.proofs.StoppedRuns.{nothing-written, still-stops}
 use Rattle.search_run.proofs.run_beside.run_next.Goals as goal
 

@@ -1,7 +1,7 @@
 use Rattle.std.proofs.Common.{◌≡◌, ◌∙◌, inr, Err, Some, ap, arith, refl, sym}
 use Rattle.search_run.specs.Bases.{BaseState}
 use Rattle.serial_run.specs.Causes.{EdgeStates}
-use Rattle.serial_run.proofs.CauseLemmas.{ended-bad_script, ended-done, ended-sink_fault}
+use Rattle.serial_run.proofs.CauseLemmas.{ended-bad_script, ended-done, ended-stopped}
 use Rattle.serial_run.proofs.ScriptLemmas.{IsScript-in_grammar}
 use Rattle.serial_run.proofs.WordLemmas.{batch_few, batch_some}
 use Rattle.search_run.proofs.top_call.run.Goals as goal
@@ -46,12 +46,6 @@ returns-in-Ok-ran-clause-causes g c =
     (λ bytes told. IsScript-in_grammar bytes c.in-Ok-read_statements.placed.items (c.in-Ok-read_statements.ensures.spelled bytes told))
     (λ bytes told. c.in-Ok-read_statements.ensures.left bytes told)
 
-pub returns-in-Err-SinkFault-clause-causes : goal.returns-in-Err-SinkFault-clause-causes
-returns-in-Err-SinkFault-clause-causes g c =
-    ended-sink_fault _ _ c.in-Ok-read_statements.ensures.later c.run_base-ran.ensures.sink_later c.in-Ok.said c.in-Ok.ensures.read
-    (λ bytes told. IsScript-in_grammar bytes c.in-Ok-read_statements.placed.items (c.in-Ok-read_statements.ensures.spelled bytes told))
-    (c.run_base-ran.ensures.sink_fault c.in-Err-SinkFault.is)
-
 pub returns-in-Ok-ran-clause-done_published : goal.returns-in-Ok-ran-clause-done_published
 returns-in-Ok-ran-clause-done_published g c = λ bytes files before told files_told written given some is.
     let both : Some given ≡ Some c.in-Some.base = sym some ∙ c.in-Some.is in
@@ -70,12 +64,19 @@ returns-in-Ok-ran-clause-done_published g c = λ bytes files before told files_t
       },
     )
 
-pub returns-in-Err-SinkFault-clause-stopped_with_base : goal.returns-in-Err-SinkFault-clause-stopped_with_base
-returns-in-Err-SinkFault-clause-stopped_with_base g c = λ bytes files before told files_told written given some is.
+pub returns-clause-causes : goal.returns-clause-causes
+returns-clause-causes g c =
+    rw c.from.ensures
+    (ended-stopped _ _ c.in-Ok-read_statements.ensures.later c.run_base-ran.ensures.sink_later c.in-Ok.said c.in-Ok.ensures.read c.in-Err.stopped
+    (λ bytes told. IsScript-in_grammar bytes c.in-Ok-read_statements.placed.items (c.in-Ok-read_statements.ensures.spelled bytes told))
+    (λ is. c.run_base-ran.ensures.sink_fault (c.in-Err.is ∙ ap Err is)))
+
+pub returns-clause-stopped_with_base : goal.returns-clause-stopped_with_base
+returns-clause-stopped_with_base g c = λ bytes files before told files_told written given some is.
     let both : Some given ≡ Some c.in-Some.base = sym some ∙ c.in-Some.is in
     let same : given ≡ c.in-Some.base = cc in
-    let serial = rw (c.in-Err-SinkFault.is, c.deref.ensures.value) at (c.run_base-ran.ensures.stopped files files_told before written) in
-    let beside = rw (c.in-Err-SinkFault.is, c.deref.ensures.value) at (c.run_base-ran.ensures.stopped_beside files files_told before written) in (
+    let serial = rw (c.in-Err.is, c.deref.ensures.value) at (c.run_base-ran.ensures.stopped files files_told before written) in
+    let beside = rw (c.in-Err.is, c.deref.ensures.value) at (c.run_base-ran.ensures.stopped_beside files files_told before written) in (
       c.run_base-ran.result.2,
       refl,
       record {
@@ -92,8 +93,8 @@ pub returns-clause-no_memory_with_base : goal.returns-clause-no_memory_with_base
 returns-clause-no_memory_with_base g c = λ bytes files before told files_told written given some is.
     let both : Some given ≡ Some c.in-Some.base = sym some ∙ c.in-Some.is in
     let same : given ≡ c.in-Some.base = cc in
-    let serial = rw (c.in-Err-NoMemory-ran.is, c.deref.ensures.value) at (c.run_base-ran.ensures.stopped files files_told before written) in
-    let beside = rw (c.in-Err-NoMemory-ran.is, c.deref.ensures.value) at (c.run_base-ran.ensures.stopped_beside files files_told before written) in inr (
+    let serial = rw (c.in-Err.is, c.deref.ensures.value) at (c.run_base-ran.ensures.stopped files files_told before written) in
+    let beside = rw (c.in-Err.is, c.deref.ensures.value) at (c.run_base-ran.ensures.stopped_beside files files_told before written) in inr (
       c.run_base-ran.result.2,
       refl,
       record {

@@ -1,6 +1,6 @@
 use Rattle.std.proofs.Common.{◌≡◌, Err, ap, arith, inr, refl}
 use Rattle.serial_run.specs.Causes.{EdgeStates}
-use Rattle.serial_run.proofs.CauseLemmas.{ended-bad_script, ended-done, ended-sink_fault}
+use Rattle.serial_run.proofs.CauseLemmas.{ended-bad_script, ended-done, ended-stopped}
 use Rattle.serial_run.proofs.ScriptLemmas.{IsScript-in_grammar}
 use Rattle.serial_run.proofs.RunLemmas.{PrintsAll-still}
 use Rattle.serial_run.proofs.WordLemmas.{batch_some}
@@ -53,19 +53,20 @@ returns-in-Ok-run_statements-clause-no_loss g c = λ bytes files before told fil
     (c.in-Ok-read_statements.ensures.spelled bytes told)
     ran still
 
-pub returns-in-Err-SinkFault-clause-causes : goal.returns-in-Err-SinkFault-clause-causes
-returns-in-Err-SinkFault-clause-causes g c =
-    ended-sink_fault _ _ c.in-Ok-read_statements.ensures.later c.in-Err-SinkFault.ensures.sink_later c.in-Ok.said c.in-Ok.ensures.read
+pub returns-clause-causes : goal.returns-clause-causes
+returns-clause-causes g c =
+    rw c.from.ensures
+    (ended-stopped _ _ c.in-Ok-read_statements.ensures.later c.in-Err.ensures.sink_later c.in-Ok.said c.in-Ok.ensures.read c.in-Err.stopped
     (λ bytes told. IsScript-in_grammar bytes c.in-Ok-read_statements.placed.items (c.in-Ok-read_statements.ensures.spelled bytes told))
-    (c.in-Err-SinkFault.ensures.sink_fault (ap Err c.in-Err-SinkFault.field-0-is))
+    (λ is. c.in-Err.ensures.sink_fault (ap Err is)))
 
-pub returns-in-Err-SinkFault-clause-stopped : goal.returns-in-Err-SinkFault-clause-stopped
-returns-in-Err-SinkFault-clause-stopped g c = λ bytes files before told files_told written is. record {
+pub returns-clause-stopped : goal.returns-clause-stopped
+returns-clause-stopped g c = λ bytes files before told files_told written is. record {
   read = c.in-Ok.said;
   say = c.in-Ok.ensures.read;
   placed = c.in-Ok-read_statements.placed.items;
   spelled = c.in-Ok-read_statements.ensures.spelled bytes told;
-  prefix = rw c.deref.ensures.value at (c.in-Err-SinkFault.ensures.prefix files files_told before written);
+  prefix = rw c.deref.ensures.value at (c.in-Err.ensures.prefix files files_told before written);
 }
 
 pub returns-clause-no_memory : goal.returns-clause-no_memory
@@ -74,5 +75,5 @@ returns-clause-no_memory g c = λ bytes files before told files_told written is.
   say = c.in-Ok.ensures.read;
   placed = c.in-Ok-read_statements.placed.items;
   spelled = c.in-Ok-read_statements.ensures.spelled bytes told;
-  prefix = rw c.deref.ensures.value at (c.in-Err-NoMemory-run_statements.ensures.prefix files files_told before written);
+  prefix = rw c.deref.ensures.value at (c.in-Err.ensures.prefix files files_told before written);
 })
