@@ -27,7 +27,7 @@ use Rattle.import_segments.specs.Publishing.{IsIdle, IsWithinLimits}
 use Rattle.search_run.specs.Run.{WritesPublished, beside_rules}
 use Rattle.session_core.specs.ImportTexts.{told_text}
 use Rattle.serial_run.specs.Steps.{Kept, PassesText, import_at, kept_report, nothing_kept}
-use Rattle.session_core.specs.Sources.{IsNoImport, statement_of}
+use Rattle.session_core.specs.Sources.{IsNoImport}
 use Rattle.session_core.specs.ImportTexts.{import_line_text, report_text}
 use Rattle.search_run.specs.declared.importer.ImportJob.{ImportJob}
 use Rattle.search_run.proofs.BesideLemmas.{prints-first}

@@ -8,7 +8,6 @@ use Rattle.serial_run.specs.RunErrors.{status_of}
 use Rattle.serial_run.specs.Script.{IsBad, IsInGrammar}
 use Rattle.serial_run.specs.declared.statements.Stopped.{Stopped}
 use Rattle.serial_run.specs.declared.statements.Stopped.TheVariants as stopped
-use Rattle.serial_run.specs.declared.status.Status.{Status}
 use Rattle.serial_run.specs.declared.status.Status.TheVariants as status
 use Rattle.serial_run.proofs.ScriptLemmas.{good_not_bad}
 

@@ -5,7 +5,6 @@ use Rattle.std.specs.Option.{option_map_or}
 use Rattle.std.proofs.Math.Nat.{max-le}
 use Rattle.std.proofs.lemmas.Grind.{flat_map-append}
 use Rattle.std.proofs.lemmas.List.{append-nil, take_all}
-use mathlib.Core.List.{IsPrefix}
 use Rattle.kb_edges.specs.Faults.{RoseBy}
 use Rattle.kb_edges.specs.Files.{File}
 use Rattle.query_script.specs.declared.statement.Placed.{Placed}
@@ -18,11 +17,11 @@ use Rattle.node_position.specs.Games.{Game}
 use Rattle.import_work.specs.Course.{Finding, ImportCourse, IsImported, losses_of, trees_in}
 use Rattle.import_work.specs.declared.source.Source.{Source}
 use Rattle.import_work.specs.declared.source.Source.TheVariants as source
-use Rattle.session_core.specs.Lawful.{AreSearched, IsNamed, IsPassed, IsStatementText, OpensImport, Rules, State, after_import, report_printed, last_of, view_at, waiting_text, with_floor, with_session}
+use Rattle.session_core.specs.Lawful.{AreSearched, IsNamed, IsPassed, IsStatementText, Rules, State, after_import, report_printed, last_of, view_at, waiting_text, with_floor, with_session}
 use Rattle.session_core.specs.SessionState.{SessionState}
 use Rattle.session_core.specs.Sources.{IsNoImport, statement_of}
 use Rattle.session_core.proofs.StateLemmas.{floor-joined, floor-named, greatest-le, last_named, opens-passed}
-use Rattle.import_work.specs.Log.{Segment, games_in, segments_of}
+use Rattle.import_work.specs.Log.{games_in, segments_of}
 use Rattle.import_work.specs.Outcome.{counts_of}
 use Rattle.serial_run.specs.Steps.{AreAnswered, AreAnsweredFrom, IsKept, import_at, IsTextTo, Kept, LeadsOn, LeavesBase, kept_report, view_of}
 use Rattle.session_core.specs.ImportTexts.{import_line_text, report_text}

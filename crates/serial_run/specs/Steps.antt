@@ -11,7 +11,7 @@ use Rattle.query_script.specs.declared.statement.Statement.TheVariants as statem
 use Rattle.hit_collectors.specs.Tallies.{BoxTally}
 use Rattle.session_core.specs.Answers.{IsSearched, View}
 use Rattle.session_core.specs.SessionState.{SessionState}
-use Rattle.session_core.specs.Sources.{IsNoImport, statement_of}
+use Rattle.session_core.specs.Sources.{statement_of}
 use Rattle.node_position.specs.Games.{Game}
 use Rattle.version_publisher.specs.Contents.{items_in}
 use Rattle.version_publisher.specs.declared.state.VersionState.{VersionState}

@@ -1,4 +1,4 @@
-use Rattle.std.proofs.Common.{◌≡◌, Err, ap, arith, inr, refl}
+use Rattle.std.proofs.Common.{Err, ap, arith, inr, refl}
 use Rattle.serial_run.specs.Causes.{EdgeStates}
 use Rattle.serial_run.proofs.CauseLemmas.{ended-bad_script, ended-done, ended-stopped}
 use Rattle.serial_run.proofs.ScriptLemmas.{IsScript-in_grammar}

@@ -3,7 +3,7 @@ use Rattle.std.proofs.lemmas.List.{append-nil}
 use Rattle.kb_geometry.proofs.Prefixes.{prefix_same}
 use Rattle.session_core.specs.SessionState.{SessionState}
 use Rattle.serial_run.specs.Run.{serial_rules}
-use Rattle.serial_run.specs.Steps.{IsTextByKept, StopsInStatement, import_at}
+use Rattle.serial_run.specs.Steps.{StopsInStatement, import_at}
 use Rattle.serial_run.proofs.RunLemmas.{after_error}
 use Rattle.serial_run.proofs.StatementLemmas.{text-import}
 use Rattle.serial_run.proofs.statements.run_import.Goals as goal

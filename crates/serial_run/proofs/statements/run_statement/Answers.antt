@@ -1,6 +1,5 @@
-use Rattle.std.proofs.Common.{◌≡◌, subst}
+use Rattle.std.proofs.Common.{subst}
 use Rattle.std.proofs.lemmas.Result.{IfOk-weaker, on_err_weaker}
-use Rattle.kb_edges.specs.Told.{IfTold}
 use Rattle.query_script.specs.declared.statement.Placed.{Placed}
 use Rattle.serial_run.specs.Run.{serial_rules}
 use Rattle.serial_run.specs.Steps.{PassesStatement, StopsInStatement}
