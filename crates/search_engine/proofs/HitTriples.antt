@@ -1,33 +1,32 @@
 -- The hits of one game tell of exactly the triples that a search finds in it, in order.
 use Prim.Native.Nat.{zero}
-use Rattle.std.proofs.Common.{◌≡◌, ◌↔◌, ◌⊎◌, inl, inr, ℕ, suc, ◌+◌, ◌<◌, List, [], ◌∷◌, ◌++◌, length, get_or, map, Option, Some, None, refl, sym, ap, ◌∙◌, subst, arith}
-use Rattle.std.specs.Prelude.{All, AllPairs, Contains, IfSome}
+use Rattle.std.proofs.Common.{◌≡◌, ◌↔◌, inl, inr, ℕ, suc, ◌+◌, ◌<◌, List, [], ◌∷◌, ◌++◌, length, get_or, map, Option, Some, None, refl, sym, ap, ◌∙◌, subst, arith}
+use Rattle.std.specs.Prelude.{AllPairs, Contains, IfSome}
 use Rattle.core.specs.List.{AllZip}
 use Rattle.std.proofs.lemmas.List.{get_or-map, get_or_append_left, get_or_default, get_or_push, length-map, length_push}
 use Rattle.std.proofs.lemmas.List.Elements.{Contains-append_left, Contains-get_or, Contains-push, Contains-push_cases}
 use Rattle.std.proofs.lemmas.List.Quantifiers.{all_pairs_push}
 use Rattle.node_paths.proofs.Ancestors.{parent-lt}
 use Rattle.kb_geometry.specs.Capture.{Position}
-use Rattle.game_tree.specs.Position.{ArePositions}
 use Rattle.game_tree.specs.Tree as tree
 use Rattle.game_tree.specs.Tree.{IsTree, Tree}
 use Rattle.capture_board.specs.Deltas as deltas
-use Rattle.capture_board.specs.Deltas.{Deltas, node_count, position_at}
+use Rattle.capture_board.specs.Deltas.{Deltas}
 use Rattle.node_position.specs.Games.{AreNodeChanges, Game}
 use Rattle.node_position.proofs.OnePosition.{positions-unique}
 use Rattle.pattern_images.specs.declared.hit.Hit.{Hit}
 use Rattle.pattern_images.specs.declared.query.Query.{Query}
 use Rattle.pattern_images.specs.Holds.{Holds}
 use Rattle.pattern_images.specs.ImageList.{no_placement, placement_at}
-use Rattle.pattern_images.specs.Placements.{ArePlacements, IsBefore, Placement}
+use Rattle.pattern_images.specs.Placements.{ArePlacements, Placement}
 use Rattle.pattern_images.proofs.OneList.{one_list}
 use Rattle.info_filter.specs.declared.filter.Filter.{Filter}
 use Rattle.line_matcher.specs.declared.occurrence.Occurrence.{Occurrence}
 use Rattle.line_matcher.specs.Occurrences.{HoldsAt, Occurs, StandsBefore, occurrences_in}
 use Rattle.line_matcher.proofs.OccurrenceLaw.{occurrences-are, occurrences-ordered}
 use Rattle.run_matcher.proofs.KeyLists.{map-member, member-map}
-use Rattle.search_engine.specs.Hits.{AreGameHits, AreHitsIn, AreHitsOf, AsksFor, IsHit, LooksAt}
-use Rattle.search_engine.specs.Triples.{BeginsToHold, IsFoundIn, IsPlacementOf, IsTripleBefore, TellsOf, Triple}
+use Rattle.search_engine.specs.Hits.{AreGameHits, AreHitsOf, AsksFor, IsHit, LooksAt}
+use Rattle.search_engine.specs.Triples.{BeginsToHold, IsFoundIn, IsTripleBefore, TellsOf, Triple}
 use Rattle.search_engine.proofs.NumberedLists.{AreNext, next-none}
 
 -- ---- pairs of a list with one element more

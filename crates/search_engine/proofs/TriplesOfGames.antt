@@ -1,17 +1,16 @@
 -- The hits of games are those of exactly the triples that a search finds, in order, and no other list of hits is.
-use Rattle.std.proofs.Common.{◌≡◌, ◌⊎◌, inl, inr, ℕ, ◌+◌, ◌<◌, List, [], ◌∷◌, ◌++◌, length, get_or, refl, sym, ap, ◌∙◌, subst, zero-add, arith}
+use Rattle.std.proofs.Common.{◌≡◌, inl, inr, ℕ, ◌+◌, ◌<◌, List, [], ◌∷◌, ◌++◌, length, get_or, refl, sym, ◌∙◌, subst, zero-add, arith}
 use Rattle.std.specs.Prelude.{All}
 use Rattle.core.specs.List.{AllZip}
 use Rattle.std.proofs.lemmas.List.{ext_get_or}
 use Rattle.game_tree.specs.Tree.{IsTree}
 use Rattle.capture_board.specs.Deltas.{Deltas}
-use Rattle.node_position.specs.Games.{AreNodeChanges, Game}
+use Rattle.node_position.specs.Games.{Game}
 use Rattle.node_position.specs.Positions.{AreDeltasOf}
 use Rattle.node_position.proofs.OneChange.{changes-unique}
 use Rattle.node_position.proofs.OnePosition.{positions-unique}
 use Rattle.pattern_images.specs.declared.hit.Hit.{Hit}
 use Rattle.pattern_images.specs.declared.query.Query.{Query}
-use Rattle.pattern_images.specs.Placements.{Placement}
 use Rattle.pattern_images.proofs.OneList.{before_opposed}
 use Rattle.info_filter.specs.declared.filter.Filter.{Filter}
 use Rattle.search_engine.specs.Hits.{AreGameHits, AreHits, AreHitsFrom, GoesOn}
