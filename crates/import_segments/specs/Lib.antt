@@ -3,4 +3,5 @@ pub mod Merged
 pub mod Publishing
 pub mod Stores
 -- Words of private functions.
+pub mod Awaited
 pub mod Published

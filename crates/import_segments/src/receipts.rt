@@ -1,6 +1,7 @@
 // What an importer leaves for the searches beside it: its last receipt, under a lock.
-ghost use Rattle.std.specs.Prelude.{◌≡◌, ◌≤◌, IfSome, length};
+ghost use Rattle.std.specs.Prelude.{◌≡◌, ◌≤◌, ◌↔◌, IfNone, IfSome, IsTrue, length};
 ghost use Rattle.std.specs.Option.{ForSome};
+ghost use Rattle.import_segments.specs.Awaited.{IsAwaited};
 
 use kb_geometry::NoMemory;
 use segment_store::Segment;
@@ -58,17 +59,26 @@ impl<J: OpenName> Left<J> {
         self.ended = true;
     }
 
-    // Whether a receipt of this number is still to come.
-    fn is_awaited(&self, number: u64) -> bool {
+    // Whether a receipt of this number or a greater one is still to come.
+    fn is_awaited(&self, number: u64) -> bool
+        ensures { IsTrue result ↔ IsAwaited number self.now.receipt self.now.ended }
+    {
+        if self.ended {
+            return false;
+        }
         match &self.receipt {
-            Some(receipt) => receipt.number() < number && !self.ended,
-            None => !self.ended,
+            Some(receipt) => receipt.number() < number,
+            None => true,
         }
     }
 
-    // Takes the receipt out. One of a lower number is let go: then the import has ended.
+    // Takes the receipt out, which is no longer awaited. None only where the import has ended; one of
+    // a lower number is let go then.
     fn take(&mut self, number: u64) -> Option<Receipt<Segment>>
-        ensures { IfSome result (λ r. (r.opening ≡ J.opening) × (number ≤ length r.log)) }
+        requires { ¬ IsAwaited number self.old.receipt self.old.ended }
+        ensures receipt { IfSome result (λ r. (r.opening ≡ J.opening)
+            × (number ≤ length r.log)) }
+        ensures none { IfNone result (IsTrue self.old.ended) }
     {
         match self.receipt.take() {
             Some(receipt) => {
@@ -83,7 +93,7 @@ impl<J: OpenName> Left<J> {
 }
 
 /// A lock over no receipt or the last one of J's opening that an importer left, beside a flag that
-/// the import has ended.
+/// the import has ended. Each call but `new` may wait for the lock.
 #[derive(Drop)]
 pub struct Receipts<J: OpenName> {
     left: Mutex<Left<J>>,
@@ -123,7 +133,7 @@ impl<J: OpenName> Receipts<J> {
     }
 
     /// Waits for a receipt of this number or a greater one, and takes it out. None where the import
-    /// has ended without one; an earlier receipt is let go then.
+    /// has ended without one; an earlier receipt is let go then. It may wait.
     pub fn await_number<R: Wait>(&self, rt: &R, number: u64) -> Option<Receipt<Segment>>
         ensures { IfSome result (λ r. (r.opening ≡ J.opening) × (number ≤ length r.log)) }
     {

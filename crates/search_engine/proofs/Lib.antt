@@ -12,6 +12,10 @@ mod ListedPlacements
 mod PlacementLists
 mod HitsKept
 pub mod KeptCounts
+mod KeptNumbers
+mod HitTriples
+pub mod NumberedLists
+mod TriplesOfGames
 mod KeptGames
 mod PossibleGames
 mod Gathering

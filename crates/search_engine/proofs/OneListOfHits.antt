@@ -33,7 +33,7 @@ same_label a b e =
     (λ small. ap (λ (own : a.number < 16). record { number = a.number; in_range = own }) (single a.in_range small))
     b.in_range
 
-same_place : (placement : Placement) (a b : Place) → IsPlaceOf placement a → IsPlaceOf placement b → a ≡ b
+pub same_place : (placement : Placement) (a b : Place) → IsPlaceOf placement a → IsPlaceOf placement b → a ≡ b
 same_place placement a b one other =
     let label = same_label a.label b.label (one.label ∙ sym other.label) in
     λ i. record {
@@ -44,7 +44,7 @@ same_place placement a b one other =
       label = label i;
     }
 
-same_next : (tree : Tree) (changes : Deltas) (placement : Placement) (n : ℕ) (a b : Option Next) → GoesOn tree changes placement n a → GoesOn tree changes placement n b → a ≡ b
+pub same_next : (tree : Tree) (changes : Deltas) (placement : Placement) (n : ℕ) (a b : Option Next) → GoesOn tree changes placement n a → GoesOn tree changes placement n b → a ≡ b
 same_next tree changes placement n (Some a) (Some b) one other = ap (λ (k : Next). Some k) (one_continuation tree changes placement n a b one other)
 same_next tree changes placement n (Some a) None one none = absurd (none a one)
 same_next tree changes placement n None (Some b) none other = absurd (none b other)
@@ -106,7 +106,7 @@ module _ (query : Query) (number : ℕ) (tree : Tree) (is_tree : IsTree tree) wh
   same_in_game filter _ _ (AreGameHits.not_asked not) (AreGameHits.not_asked none) = refl
 
 -- the parts of a claim on a list and one element more
-last_of_all : {A : Type 0} (P : A → Type 0) (xs : List A) (x : A) → All P (xs ++ x ∷ []) → All P xs × P x
+pub last_of_all : {A : Type 0} (P : A → Type 0) (xs : List A) (x : A) → All P (xs ++ x ∷ []) → All P xs × P x
 last_of_all P [] x all = (λ k d below. absurd (omega arith), all 0 x (omega arith))
 last_of_all {A} P (y ∷ ys) x all =
     let rest = last_of_all P ys x (λ k d below. all (suc k) d (omega arith)) in

@@ -2,6 +2,8 @@
 pub mod Hits
 pub mod KeptGames
 pub mod Nodes
+pub mod Numbered
+pub mod Triples
 -- Words of private functions.
 pub mod BlockCandidates
 pub mod Gathering
