@@ -1,11 +1,12 @@
 -- A hit is given to a box after others, and hits to a list of boxes one after another.
-use Rattle.std.proofs.Common.{◌≡◌, ℕ, suc, ◌+◌, ◌-◌, ◌<◌, List, [], ◌∷◌, ◌++◌, length, map, get_or, set, take, drop, sym, ap, ◌∙◌, subst, arith}
+use Rattle.std.proofs.Common.{◌≡◌, ℕ, suc, ◌+◌, ◌-◌, ◌<◌, ◌≤◌, List, [], ◌∷◌, ◌++◌, length, map, get_or, set, take, drop, sym, ap, ◌∙◌, subst, arith}
 use Rattle.std.specs.Prelude.{OnErr, Result, Ok, Err}
 use Rattle.std.proofs.Math.Seq.{drop-cons, split_at}
-use Rattle.std.proofs.lemmas.List.{get_or-append_right, get_or-drop, get_or-map, length-map, length-take-le, map-set, set_at, take_more}
+use Rattle.std.proofs.lemmas.Grind.{drop_more_same}
+use Rattle.std.proofs.lemmas.List.{append-nil, drop-set-lt, drop_all, get_or-append_right, get_or-drop, get_or-map, length-map, length-take-le, map-set, set-get_or, set_at, set_split, take-append-le, take-map, take_all, take_more}
 use Rattle.std.proofs.lemmas.List.Edits.{map_over_more}
 use Rattle.pattern_images.specs.declared.hit.Hit.{Hit}
-use Rattle.hit_collectors.specs.Boxes.{IsFedInPart, IsPartTaken, all_with_hits}
+use Rattle.hit_collectors.specs.Boxes.{IsFedInPart, IsPartTaken, IsRefusedAt, all_with_hits}
 use Rattle.hit_collectors.specs.Tallies.{BoxTally, with_hits}
 use Rattle.hit_collectors.proofs.Counts.{told_more}
 
@@ -77,3 +78,59 @@ module _ {A : Type 0} (told : A → BoxTally) (hits : List Hit) (old now : List 
           ∙ set_at (all_with_hits hits (take i (map told old))) (get_or (map told old) i (told (get_or now i board))) (drop (suc i) (map told old)) (told new) i fed_length;
     }
   ]
+
+  -- ---- the boxes themselves
+
+  -- the boxes so far tell what those before them told, with the hits
+  fed_told : map told (take i now) ≡ all_with_hits hits (map told (take i old))
+  fed_told =
+      sym (take-map told i now)
+      ∙ ap (take i) so_far
+      ∙ take-append-le i (all_with_hits hits (take i (map told old))) (drop i (map told old)) (omega (arith, fed_length))
+      ∙ take_all i (all_with_hits hits (take i (map told old))) (omega (arith, fed_length))
+      ∙ ap (all_with_hits hits) (take-map told i old)
+
+  module _ (later : drop i now ≡ drop i old) where
+    same_box : get_or now i board ≡ get_or old i board
+    same_box =
+        let here : i + 0 ≡ i = omega arith in
+        ap (λ (k : ℕ). get_or now k board) (sym here) ∙ sym (get_or-drop i now 0 board)
+        ∙ ap (λ (boxes : List A). get_or boxes 0 board) later
+        ∙ get_or-drop i old 0 board ∙ ap (λ (k : ℕ). get_or old k board) here
+
+    same_later : drop (suc i) now ≡ drop (suc i) old
+    same_later =
+        let next : i + 1 ≡ suc i = omega arith in
+        subst (λ (n : ℕ). drop n now ≡ drop n old) next (drop_more_same now old i later)
+
+    pub refused_at : {T E : Type 0} (result : Result T E) (new : A) → IsPartTaken hits (told (get_or now i board)) (told new) → OnErr result (IsRefusedAt told hits old (set now i new))
+    refused_at result new part = elim result as (λ r. OnErr r (IsRefusedAt told hits old (set now i new))) [
+      | Ok x ↦ tt
+      | Err e ↦ record {
+        earlier = take i old;
+        fed = take i now;
+        before = get_or now i board;
+        after = new;
+        later = drop (suc i) old;
+        boxes = split_at old i board below ∙ ap (λ (box : A). take i old ++ box ∷ drop (suc i) old) (sym same_box);
+        in_part = part;
+        told = fed_told;
+        left = set_split now i new (subst (λ n. i < n) (sym same_length) below) ∙ ap (λ (boxes : List A). take i now ++ new ∷ boxes) same_later;
+      }
+    ]
+
+module _ {A : Type 0} (old now : List A) (i : ℕ) where
+  pub fed_later : (new : A) → drop i now ≡ drop i old → drop (i + 1) (set now i new) ≡ drop (i + 1) old
+  fed_later new later = drop-set-lt (i + 1) now i new (omega arith) ∙ drop_more_same now old i later
+
+  pub fed_no_hits : (board : A) → now ≡ old → (new : A) → new ≡ get_or now i board → set now i new ≡ old
+  fed_no_hits board same new is = ap (set now i) is ∙ set-get_or now i board ∙ same
+
+module _ {A : Type 0} (told : A → BoxTally) (hits : List Hit) (old now : List A) (i : ℕ) where
+  pub all_fed : length old ≤ i → map told now ≡ all_with_hits hits (take i (map told old)) ++ drop i (map told old) → map told now ≡ all_with_hits hits (map told old)
+  all_fed all so_far =
+      let long = length-map old told in
+      so_far
+      ∙ ap (λ (boxes : List BoxTally). all_with_hits hits boxes ++ drop i (map told old)) (take_all i (map told old) (omega (arith, all, long)))
+      ∙ ap (λ (boxes : List BoxTally). all_with_hits hits (map told old) ++ boxes) (drop_all i (map told old) (omega (arith, all, long)))
+      ∙ append-nil (all_with_hits hits (map told old))

@@ -26,6 +26,20 @@ pub record IsFedInPart (hits : List Hit) (old new : List BoxTally) : Type 0 wher
   pub in_part : IsPartTaken hits before after
   pub told : new ≡ all_with_hits hits earlier ++ after ∷ later
 
+-- The same, told of the boxes themselves: the later ones are the boxes that they were, and those
+-- before the one that refused a hit stand where they stood, by what each tells.
+pub record IsRefusedAt {A : Type 0} (tally : A → BoxTally) (hits : List Hit) (old new : List A)
+    : Type 0 where
+  pub earlier : List A
+  pub fed : List A
+  pub before : A
+  pub after : A
+  pub later : List A
+  pub boxes : old ≡ earlier ++ before ∷ later
+  pub in_part : IsPartTaken hits (tally before) (tally after)
+  pub told : map tally fed ≡ all_with_hits hits (map tally earlier)
+  pub left : new ≡ fed ++ after ∷ later
+
 -- The list without the first of its boxes that has this name, where each has a name by this
 -- function.
 pub record IsRetired {A : Type 0} (named : A → List ℕ) (name : List ℕ) (old new : List A)

@@ -40,5 +40,5 @@ pub use print::{
     print_retire, print_until, print_wait,
 };
 pub use script::read_script;
-pub use search_text::print_hits;
+pub use search_text::{print_hit_lines, print_hits, print_rows, print_search_head, print_totals};
 pub use statement::{MAX_SCRIPT, Placed, PlacedSearch, ScriptError, SearchList, Statement};

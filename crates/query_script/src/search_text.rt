@@ -9,6 +9,7 @@ ghost use Rattle.query_script.specs.Texts.{
   next_text,
   row_head,
   row_text,
+  search_head,
   search_text,
   tally_text,
   total_text,
@@ -201,5 +202,54 @@ pub fn print_hits(
 {
     let len = out.len();
     let done = append_search(out, line, number, games, hits, table);
+    cut_back(out, len, done)
+}
+
+/// Appends the head of a search alone, with how many hits it has. The only error is `NoMemory`, and
+/// then `out` is as before.
+pub fn print_search_head(
+    line: u32,
+    number: u64,
+    games: u32,
+    hits: usize,
+    out: &mut Vec<u8>,
+) -> Result<(), NoMemory>
+    ensures ok { OnOk result (out.new.items ≡ out.old.items ++ search_head line number games hits) }
+    ensures refused { OnErr result (out.new.items ≡ out.old.items) }
+{
+    let len = out.len();
+    let done = append_head(out, line, b"search", number, games, b"hits", hits);
+    cut_back(out, len, done)
+}
+
+/// Appends a line for each of these hits, in order. The only error is `NoMemory`, and then `out` is
+/// as before.
+pub fn print_hit_lines(hits: &[Hit], out: &mut Vec<u8>) -> Result<(), NoMemory>
+    ensures ok { OnOk result (out.new.items ≡ out.old.items ++ flat_map hit_text hits.now) }
+    ensures refused { OnErr result (out.new.items ≡ out.old.items) }
+{
+    let len = out.len();
+    let done = append_hits(out, hits);
+    cut_back(out, len, done)
+}
+
+/// Appends a line for each of these rows, in order. The only error is `NoMemory`, and then `out` is
+/// as before.
+pub fn print_rows(rows: &[Row], out: &mut Vec<u8>) -> Result<(), NoMemory>
+    ensures ok { OnOk result (out.new.items ≡ out.old.items ++ flat_map row_text rows.now) }
+    ensures refused { OnErr result (out.new.items ≡ out.old.items) }
+{
+    let len = out.len();
+    let done = append_rows(out, rows);
+    cut_back(out, len, done)
+}
+
+/// Appends the line of the totals. The only error is `NoMemory`, and then `out` is as before.
+pub fn print_totals(totals: Tally, out: &mut Vec<u8>) -> Result<(), NoMemory>
+    ensures ok { OnOk result (out.new.items ≡ out.old.items ++ total_text totals) }
+    ensures refused { OnErr result (out.new.items ≡ out.old.items) }
+{
+    let len = out.len();
+    let done = append_totals(out, totals);
     cut_back(out, len, done)
 }

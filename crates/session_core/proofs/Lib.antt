@@ -5,6 +5,7 @@ mod Numbered
 mod Groups
 mod KeysOfGames
 mod FoundGames
+mod AllFound
 mod ListTexts
 mod GroupTexts
 pub mod ListAnswers
