@@ -5,7 +5,6 @@ mod Numbered
 mod Groups
 mod KeysOfGames
 mod FoundGames
-mod AllFound
 mod ListTexts
 mod GroupTexts
 pub mod ListAnswers
