@@ -1,0 +1,2 @@
+mod NewHitsFound
+mod VersionParts
