@@ -1,0 +1,9 @@
+pub mod Digits
+pub mod WordOrder
+pub mod PackedCells
+pub mod PositionOrder
+pub mod PositionImages
+pub mod GameParts
+pub mod PositionsThere
+pub mod OneOpening
+pub mod OpeningsExist

@@ -1,0 +1,8 @@
+-- Words that contracts of public functions rest on.
+pub mod Canonical
+pub mod Entries
+pub mod NextMoves
+pub mod Games
+pub mod Openings
+-- Words of private functions.
+pub mod Packing

@@ -1,0 +1,19 @@
+//! An opening tree: positions that games reach by other orders of moves, or turned, are one, with
+//! what was played next and who won.
+//!
+//! Stands on segment_store and what it names, for the words for games. In `specs/` are the words for
+//! the canonical position, for the entries and the next moves of games, and for the groups of these;
+//! the laws say that each list of games has openings, and one list of them. The call that makes them
+//! isn't there yet. A position packed in words is there, by which the images of a position will be
+//! compared.
+#![tactic(auto)]
+
+mod answer;
+mod laws;
+mod packed;
+
+pub use answer::{NextMove, NextMoves, Opening};
+pub use laws::{
+    a_position_has_one_canonical_position, games_have_one_list_of_openings,
+    images_alone_have_one_canonical_position,
+};
