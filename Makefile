@@ -21,11 +21,10 @@ run:
 	    (cd crates/gobase && rt try $(foreach game,$(GAMES),--data $(game)=../../$(game))) < $(SCRIPT); \
 	fi
 
-# Proves what isn't proved yet, as many crates side by side as there are processors and memory allows, and
-# leaves the native program.
+# Proves what isn't proved yet of the program and the crates that it stands on, as many crates side by side
+# as there are processors, and leaves the native program.
 build:
-	rt all check --jobs $(shell nproc)
-	cd crates/gobase && rt run </dev/null
+	cd crates/gobase && rt all check --jobs $(shell nproc) && rt run </dev/null
 	mkdir -p build
 	cp crates/gobase/out/gobase $(PROGRAM)
 
