@@ -82,7 +82,8 @@ fn add_begun(
     nodes: &mut Vec<u32>,
 ) -> Result<(), NoMemory>
     requires { point < point_count runs.now.shape }
-    ensures { OnOk result (AreBeginsAdded runs.now asked.now point nodes.old.items nodes.new.items) }
+    ensures { OnOk result (AreBeginsAdded runs.now asked.now point nodes.old.items
+        nodes.new.items) }
 {
     add_where(runs, asked, point, Cell::Empty, nodes)?;
     add_where(runs, asked, point, Cell::Black, nodes)?;

@@ -20,7 +20,8 @@ IsFoundIn name bytes found.Unread = ⊥
 IsFoundIn name bytes (found.Refused of at) = IsFaulty bytes of at
 IsFoundIn name bytes (found.Games games nodes) =
     (trees : List Tree) × HaveGames bytes trees × (length trees ≤ 65536)
-    × (games.items ≡ games_from name 0 trees) × (nodes ≡ nodes_of_trees trees) × (nodes ≤ 4294967296)
+    × (games.items ≡ games_from name 0 trees)
+    × (nodes ≡ nodes_of_trees trees) × (nodes ≤ 4294967296)
 
 -- this was found in a file of this name with these bytes, or in one that was not read
 abbrev pub IsFound : List ℕ → Option (List ℕ) → Found → Type 0

@@ -35,7 +35,8 @@ pub record IsSideAdded (old : List TableRow) (side : Side) (new : List TableRow)
   pub named : side.name ≢ [] → new ≡ with_side old side
 
 -- The rows with one game more: with its black side, and then with its white one.
-pub record IsGameAdded (old : List TableRow) (info : Information) (new : List TableRow) : Type 0 where
+pub record IsGameAdded (old : List TableRow) (info : Information)
+    (new : List TableRow) : Type 0 where
   pub between : List TableRow
   pub black : IsSideAdded old (black_side info) between
   pub white : IsSideAdded between (white_side info) new
