@@ -1,6 +1,7 @@
 -- Candidates that are listed row by row, a placement after the other.
 use Prim.Native.Nat.{zero}
 use Rattle.std.proofs.Common.{◌≡◌, ℕ, suc, ◌+◌, ◌*◌, ◌<◌, ◌≤◌, ◌↔◌, ◌⊎◌, List, [], ◌∷◌, ◌++◌, Option, None, length, get_or, slice_index, slice_index_or, bit_and, append_assoc, refl, sym, ◌∙◌, ap, subst, arith, inl, inr}
+use mathlib.Core.List.{IsPrefix}
 use Rattle.std.specs.Int.{bit_at}
 use Rattle.std.specs.Option.{IsSome, IsSomeAnd}
 use Rattle.std.specs.Prelude.{◌≢◌, All, AllPairs, Any, Some}
@@ -14,6 +15,7 @@ use Rattle.std.proofs.lemmas.Nat.Bits.{bit_at-zero}
 use Rattle.kb_geometry.specs.declared.shape.Shape.{Shape}
 use Rattle.kb_geometry.specs.Board.{cols_of, point_count, rows_of}
 use Rattle.kb_geometry.proofs.Lists.{Any-kept}
+use Rattle.kb_geometry.proofs.Prefixes.{prefix_same, prefix_trans}
 use Rattle.kb_geometry.proofs.Shapes.{point_count-le-most}
 use Rattle.pattern_images.specs.ImageList.{IsPlacedOn, no_placement, placement_at}
 use Rattle.pattern_images.specs.Placements.{IsBefore, Placement}
@@ -24,6 +26,19 @@ use Rattle.candidate_sieve.specs.BlockGames.{AreAddedFor, IsAddedFor}
 use Rattle.candidate_sieve.specs.BlockGames.AreAddedFor.{nothing, one_more}
 use Rattle.candidate_sieve.specs.Candidates.{AreCandidatesAdded, IsPossibleIn, MeetsCells}
 use Rattle.final_index.proofs.KeptBits.{and-bit}
+
+-- ---- what was in the list stays in front
+pub unchanged-behind : (old new : List Candidate) → new ≡ old → IsPrefix old new
+unchanged-behind old new same = ([], append-nil old ∙ sym same)
+
+one-behind : (i games : ℕ) (old new : List Candidate) → IsAddedFor i games old new → IsPrefix old new
+one-behind i games old new (inl none) = unchanged-behind old new none.1
+one-behind i games old new (inr pushed) = (record { placement = i; games = games } ∷ [], sym pushed.1)
+
+pub added-behind : (numbers words : List ℕ) (old : List Candidate) (k : ℕ) (new : List Candidate) → AreAddedFor numbers words old k new → IsPrefix old new
+added-behind numbers words old _ _ nothing = prefix_same old
+added-behind numbers words old _ next (one_more k now _ so_far last) =
+    prefix_trans old now next (added-behind numbers words old k now so_far) (one-behind (slice_index numbers k) (slice_index words k) now next last)
 
 -- ---- how many placements there are
 

@@ -23,15 +23,15 @@ AsksThere shape placement p c =
     × ((AsksCell (cell_in placement.grid dx dy) c) × (p ≡ number_under shape placement dx dy))
 
 -- so does a cell of some placement
-abbrev pub AsksFor : Shape → List Placement → ℕ → Cell → Type 0
-AsksFor shape placements p c =
+abbrev pub IsAskedBySome : Shape → List Placement → ℕ → Cell → Type 0
+IsAskedBySome shape placements p c =
     (i : ℕ) × (i < length placements) × AsksThere shape (placement_at placements i) p c
 
 -- The node is the root, or there a point under a cell of a placement that is no wildcard begins to
 -- have a cell that it allows.
 abbrev pub IsNodeCandidate : NodePositions → List Placement → ℕ → Type 0
 IsNodeCandidate seen placements n = ((n ≡ 0) × (0 < count_in seen))
-    ⊎ ((p : ℕ) × (c : Cell) × AsksFor seen.shape placements p c
+    ⊎ ((p : ℕ) × (c : Cell) × IsAskedBySome seen.shape placements p c
     × Contains (nodes_where seen p c 0) n)
 
 -- the points that were noted with a cell
@@ -43,4 +43,4 @@ noted points stone.White = points.white
 -- the points that were noted are exactly those that the placements ask for, with their cells
 abbrev pub AreAsked : Shape → List Placement → AskedPoints → Type 0
 AreAsked shape placements points =
-    (c : Cell) (p : ℕ) → Contains (noted points c) p ↔ AsksFor shape placements p c
+    (c : Cell) (p : ℕ) → Contains (noted points c) p ↔ IsAskedBySome shape placements p c

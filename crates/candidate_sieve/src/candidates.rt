@@ -9,11 +9,13 @@ ghost use Rattle.std.specs.Prelude.{
   ℕ,
   All,
   IsTrue,
+  OnErr,
   OnOk,
   length,
   slice_index,
 };
 ghost use Rattle.std.specs.Int.{bit_at};
+ghost use mathlib.Core.List.{IsPrefix};
 ghost use Rattle.kb_geometry.specs.Board.{point_count};
 ghost use Rattle.capture_index.specs.declared.stretch.Want.{Want};
 ghost use Rattle.capture_index.specs.Wants.{AreStonesFirst};
@@ -45,7 +47,7 @@ pub struct Candidate {
 /// Adds, for each placement that some game of the block may have, these games of those that are
 /// asked for: the games on boards of the shape of which each cell of the placement but wildcards
 /// was allowed at some node. The candidates come class by class. `room` is written over. The only
-/// error is `NoMemory`.
+/// error is `NoMemory`. After it the list begins with what was in it before.
 pub fn add_candidates(
     planes: &Planes,
     rows: &PlacementRows,
@@ -59,8 +61,9 @@ pub fn add_candidates(
       shape = rows.now.images.now.shape;
       grids = rows.now.images.now.grids;
     } }
-    ensures { OnOk result (AreCandidatesAdded planes.now rows.now.images.now.placements asked
+    ensures ok { OnOk result (AreCandidatesAdded planes.now rows.now.images.now.placements asked
         found.old.items found.new.items) }
+    ensures refused { OnErr result (IsPrefix found.old.items found.new.items) }
 {
     let there = asked & planes.present();
     let bare = planes.always_empty();
@@ -90,8 +93,9 @@ fn sieve_row(
     requires stones_first { AreStonesFirst wants.now }
     requires on_board { All (λ (w : Want). base + w.offset + length numbers.now
         ≤ point_count planes.now.shape) wants.now }
-    ensures { OnOk result (IsRowAdded planes.now.games base wants.now there numbers.now
+    ensures ok { OnOk result (IsRowAdded planes.now.games base wants.now there numbers.now
         found.old.items found.new.items) }
+    ensures refused { OnErr result (IsPrefix found.old.items found.new.items) }
 {
     if let [number] = numbers {
         add_games(*number, games_at(planes, bare, base, wants, there), found)?;
@@ -270,8 +274,9 @@ fn keep_want(planes: &Planes, want: Want, from: u16, words: &mut [u64])
 // Adds a candidate for each placement of a row that some game may have.
 fn add_row(numbers: &[u32], words: &[u64], found: &mut Vec<Candidate>) -> Result<(), NoMemory>
     requires { length words.now ≡ length numbers.now }
-    ensures { OnOk result (AreAddedFor numbers.now words.now found.old.items
+    ensures ok { OnOk result (AreAddedFor numbers.now words.now found.old.items
         (length numbers.now) found.new.items) }
+    ensures refused { OnErr result (IsPrefix found.old.items found.new.items) }
 {
     for k in 0..numbers.len() {
         add_games(numbers[k], words[k], found)?;
@@ -281,7 +286,8 @@ fn add_row(numbers: &[u32], words: &[u64], found: &mut Vec<Candidate>) -> Result
 
 // Adds a candidate, unless no game is left.
 fn add_games(placement: u32, games: u64, found: &mut Vec<Candidate>) -> Result<(), NoMemory>
-    ensures { OnOk result (IsAddedFor placement games found.old.items found.new.items) }
+    ensures ok { OnOk result (IsAddedFor placement games found.old.items found.new.items) }
+    ensures refused { OnErr result (found.new.items ≡ found.old.items) }
 {
     if games == 0 {
         return Ok(());

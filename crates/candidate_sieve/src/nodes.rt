@@ -4,7 +4,7 @@ ghost use Rattle.std.specs.List.Sorted.{IsStrictlyIncreasing};
 ghost use Rattle.kb_geometry.specs.Board.{point_count};
 ghost use Rattle.capture_index.specs.NodePositions.{count_in};
 ghost use Rattle.candidate_sieve.specs.NodeCandidates.{AreAsked, IsNodeCandidate};
-ghost use Rattle.candidate_sieve.specs.Noting.{AreBegun, BeginsAt, HasBegun};
+ghost use Rattle.candidate_sieve.specs.Noting.{AreBeginsAdded, AreBegun, BeginsAt};
 
 use crate::asked::AskedPoints;
 use capture_index::RunIndex;
@@ -82,7 +82,8 @@ fn add_begun(
     nodes: &mut Vec<u32>,
 ) -> Result<(), NoMemory>
     requires { point < point_count runs.now.shape }
-    ensures { OnOk result (HasBegun runs.now asked.now point nodes.old.items nodes.new.items) }
+    ensures { OnOk result (AreBeginsAdded runs.now asked.now point nodes.old.items
+        nodes.new.items) }
 {
     add_where(runs, asked, point, Cell::Empty, nodes)?;
     add_where(runs, asked, point, Cell::Black, nodes)?;

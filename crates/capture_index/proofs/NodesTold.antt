@@ -8,7 +8,7 @@ use Rattle.std.specs.Option.{option_map_or}
 use Rattle.std.specs.Prelude.{Contains, filter, not}
 use Rattle.kb_geometry.specs.declared.stone.Cell.{Cell}
 use Rattle.capture_board.proofs.Cells.{other_cell, same_cell}
-use Rattle.capture_index.specs.NodePositions.{HadAnother, NodePositions, begins_at, cell_in, count_in, is_cell, nodes_where, parent_in, was_cell}
+use Rattle.capture_index.specs.NodePositions.{HadAnother, NodePositions, cell_begins_at, cell_in, count_in, is_cell, nodes_where, parent_in, was_cell}
 use Rattle.capture_index.proofs.NodesFrom.{begins-not, is_cell-test}
 
 is_cell-same : (a b : Cell) → is_cell a b ≡ true → a ≡ b
@@ -31,7 +31,7 @@ module _ (seen : NodePositions) (p : ℕ) (cell : Cell) where
     λ ne. ap not (is_cell-false (cell_in seen p m) cell ne),
   )
 
-  begins-told : (n : ℕ) → begins_at seen p cell n ≡ true ↔ ((cell_in seen p n ≡ cell) × HadAnother seen p cell (parent_in seen n))
+  begins-told : (n : ℕ) → cell_begins_at seen p cell n ≡ true ↔ ((cell_in seen p n ≡ cell) × HadAnother seen p cell (parent_in seen n))
   begins-told n = (
     λ e. elim (cases_Bool (is_cell (cell_in seen p n) cell)) [
       | inl t ↦ (is_cell-same (cell_in seen p n) cell t, (another-told (parent_in seen n)).0 (sym (ap (λ (b : Bool). cond b (not (was_cell seen p cell n)) false) t) ∙ e))
@@ -71,7 +71,7 @@ range-told f (suc k) from n =
 
 pub nodes-told : (seen : NodePositions) (p : ℕ) (cell : Cell) (n : ℕ) → Contains (nodes_where seen p cell 0) n ↔ ((n < count_in seen) × (cell_in seen p n ≡ cell) × HadAnother seen p cell (parent_in seen n))
 nodes-told seen p cell n =
-    let range = range-told (begins_at seen p cell) (count_in seen - 0) 0 n in
+    let range = range-told (cell_begins_at seen p cell) (count_in seen - 0) 0 n in
     let told = begins-told seen p cell n in (
       λ has. let s = range.0 has in (omega (arith, s.1), (told.0 s.2).0, (told.0 s.2).1),
       λ (lt, same, other). range.1 (omega arith, omega arith, told.1 (same, other)),

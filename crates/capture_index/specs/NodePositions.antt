@@ -53,14 +53,14 @@ was_cell seen p cell n =
     option_map_or (λ m. is_cell (cell_in seen p m) cell) (parent_in seen n) false
 
 -- whether the point has the cell at a node, which is the root or whose parent has another one there
-abbrev pub begins_at : NodePositions → ℕ → Cell → ℕ → Bool
-begins_at seen p cell n =
+abbrev pub cell_begins_at : NodePositions → ℕ → Cell → ℕ → Bool
+cell_begins_at seen p cell n =
     if is_cell (cell_in seen p n) cell then not (was_cell seen p cell n) else false
 
 -- the nodes from this one on at which the point begins to have the cell, ascending
 abbrev pub nodes_where : NodePositions → ℕ → Cell → ℕ → List ℕ
 nodes_where seen p cell from =
-    filter (begins_at seen p cell) (range_with_len from (count_in seen - from))
+    filter (cell_begins_at seen p cell) (range_with_len from (count_in seen - from))
 
 -- there is no parent, or the point has another cell there
 abbrev pub HadAnother : NodePositions → ℕ → Cell → Option ℕ → Type 0

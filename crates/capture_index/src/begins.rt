@@ -1,5 +1,6 @@
 // The nodes of stretches at which something begins.
 ghost use Rattle.std.specs.Prelude.{◌≡◌, ◌+◌, ◌<◌, ◌↔◌, ◌⊎◌, ℕ, Contains, IsTrue, OnOk, length};
+ghost use mathlib.Core.List.{IsPrefix};
 ghost use Rattle.capture_index.specs.Begins.{
   AreBehind,
   AreFalling,
@@ -16,7 +17,8 @@ use crate::stretch::Stretch;
 use kb_geometry::NoMemory;
 
 // Adds the nodes of the stretches that are the root, or whose parent isn't in them. Each is the
-// first node of a stretch, or at a branch inside one, so no other nodes are looked at.
+// first node of a stretch, or at a branch inside one, so no other nodes are looked at. What was in
+// the list is still its beginning, after `NoMemory` too.
 pub(crate) fn push_begins(
     branches: &[Branch],
     stretches: &[Stretch],
@@ -24,7 +26,9 @@ pub(crate) fn push_begins(
 ) -> Result<(), NoMemory>
     requires ascending { AreAscending branches.now }
     requires falling { AreFalling stretches.now }
-    ensures { OnOk result (HasBegun branches.now stretches.now nodes.old.items nodes.new.items) }
+    ensures begun { OnOk result (HasBegun branches.now stretches.now nodes.old.items
+        nodes.new.items) }
+    ensures kept { IsPrefix nodes.old.items nodes.new.items }
 {
     for stretch in stretches {
         push_stretch(branches, stretches, *stretch, nodes)?;
@@ -43,8 +47,10 @@ fn push_stretch(
     requires falling { AreFalling stretches.now }
     requires one { Contains stretches.now stretch }
     requires some { stretch.from < stretch.to }
-    ensures { OnOk result ((x : ℕ) → Contains nodes.new.items x ↔ (Contains nodes.old.items x ⊎
+    ensures begun { OnOk result ((x : ℕ) → Contains nodes.new.items x ↔
+        (Contains nodes.old.items x ⊎
         (BeginsFor branches.now stretches.now x × IsWithin x stretch))) }
+    ensures kept { IsPrefix nodes.old.items nodes.new.items }
 {
     push_node(
         stretches,
@@ -66,8 +72,10 @@ fn push_behind(
     requires ascending { AreAscending branches.now }
     requires falling { AreFalling stretches.now }
     requires some { stretch.from < stretch.to }
-    ensures { OnOk result ((x : ℕ) → Contains nodes.new.items x ↔ (Contains nodes.old.items x ⊎
+    ensures begun { OnOk result ((x : ℕ) → Contains nodes.new.items x ↔
+        (Contains nodes.old.items x ⊎
         IsBehindTo branches.now stretches.now stretch (length branches.now) x)) }
+    ensures kept { IsPrefix nodes.old.items nodes.new.items }
 {
     for at in first_at(branches, stretch.from + 1)..branches.len() {
         let branch = branches[at];
@@ -88,8 +96,9 @@ fn push_node(
     nodes: &mut Vec<u32>,
 ) -> Result<(), NoMemory>
     requires { AreFalling stretches.now }
-    ensures { OnOk result ((x : ℕ) → Contains nodes.new.items x ↔ (Contains nodes.old.items x ⊎
-        ((x ≡ node) × IsOutside stretches.now parent))) }
+    ensures begun { OnOk result ((x : ℕ) → Contains nodes.new.items x ↔
+        (Contains nodes.old.items x ⊎ ((x ≡ node) × IsOutside stretches.now parent))) }
+    ensures kept { IsPrefix nodes.old.items nodes.new.items }
 {
     if is_outside(stretches, parent) {
         nodes.push(node)?;

@@ -1,5 +1,6 @@
 // The nodes at which wanted cells stand.
-ghost use Rattle.std.specs.Prelude.{◌≡◌, ◌+◌, ◌<◌, ◌↔◌, ℕ, All, OnOk, length};
+ghost use Rattle.std.specs.Prelude.{◌≡◌, ◌+◌, ◌<◌, ◌↔◌, ℕ, [], All, OnErr, OnOk, length};
+ghost use mathlib.Core.List.{IsPrefix};
 ghost use Rattle.capture_index.specs.declared.stretch.Want.{Want};
 ghost use Rattle.kb_geometry.specs.Board.{point_count};
 ghost use Rattle.capture_index.specs.Begins.{AreFalling, HasBegun};
@@ -15,7 +16,7 @@ use crate::wants::ClassWants;
 use kb_geometry::NoMemory;
 
 impl PackedRuns {
-    // The nodes at which each wanted cell is there, as stretches.
+    // The nodes at which each wanted cell is there, as stretches. After `NoMemory` none is found.
     pub(crate) fn find(
         &self,
         base: u16,
@@ -28,6 +29,7 @@ impl PackedRuns {
         ensures nodes { OnOk result ((n : ℕ) → n < self.now.nodes → IsIn found.new.items n ↔
             AreMet self.now base class.entry.wants.now n) }
         ensures apart { OnOk result (AreApart 0 self.now.nodes found.new.items) }
+        ensures refused { OnErr result (found.new.items ≡ []) }
     {
         found.clear();
         let Some(bounds) = self.bounds(base, class) else {
@@ -42,7 +44,10 @@ impl PackedRuns {
         if bounds.gaps == 0 {
             return Ok(());
         }
-        self.cut_all(base, class.wants, found, spare)?;
+        if let Err(error) = self.cut_all(base, class.wants, found, spare) {
+            found.clear();
+            return Err(error);
+        }
         Ok(())
     }
 
@@ -53,8 +58,9 @@ impl PackedRuns {
         nodes: &mut Vec<u32>,
     ) -> Result<(), NoMemory>
         requires { AreFalling stretches.now }
-        ensures { OnOk result (HasBegun self.now.branches.items stretches.now nodes.old.items
-            nodes.new.items) }
+        ensures begun { OnOk result (HasBegun self.now.branches.items stretches.now
+            nodes.old.items nodes.new.items) }
+        ensures kept { IsPrefix nodes.old.items nodes.new.items }
     {
         push_begins(self.branches(), stretches, nodes)?;
         Ok(())

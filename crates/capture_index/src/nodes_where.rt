@@ -2,7 +2,7 @@
 ghost use Rattle.std.specs.Prelude.{◌≡◌, ◌+◌, ◌<◌, ◌≤◌, ℕ, IfSome, false};
 ghost use Rattle.std.specs.Iterator.{YieldsFirst, item_count};
 ghost use Rattle.kb_geometry.specs.Board.{point_count};
-ghost use Rattle.capture_index.specs.NodePositions.{begins_at, count_in, nodes_where};
+ghost use Rattle.capture_index.specs.NodePositions.{cell_begins_at, count_in, nodes_where};
 ghost use Rattle.capture_index.specs.Seen.{IsNextBegin};
 
 use crate::run_index::RunIndex;
@@ -83,7 +83,7 @@ fn next_begin(index: &RunIndex, point: u16, cell: Cell, from: u32) -> Option<u32
 fn begins(index: &RunIndex, point: u16, cell: Cell, node: u32) -> bool
     requires point { point < point_count index.now.shape }
     requires in_range { node < count_in index.now }
-    ensures { result ≡ begins_at index.now point cell node }
+    ensures { result ≡ cell_begins_at index.now point cell node }
 {
     if index.cell(point, node) != cell {
         return false;
@@ -101,7 +101,7 @@ fn next_place(index: &RunIndex, point: u16, cell: Cell, node: u32) -> u32
     requires in_range { node < count_in index.now }
     ensures more { node < result }
     ensures most { result ≤ count_in index.now }
-    ensures none { (k : ℕ) → node < k → k < result → begins_at index.now point cell k ≡ false }
+    ensures none { (k : ℕ) → node < k → k < result → cell_begins_at index.now point cell k ≡ false }
 {
     let run = index.next_run(point, 0, node, index.node_count());
     if index.cell(point, node) == cell {

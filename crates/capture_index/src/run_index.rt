@@ -7,14 +7,17 @@ ghost use Rattle.std.specs.Prelude.{
   ◌↔◌,
   ◌⊎◌,
   ℕ,
+  [],
   All,
   Contains,
   IfOk,
   IfSome,
+  OnErr,
   OnOk,
   length,
   slice_index_or,
 };
+ghost use mathlib.Core.List.{IsPrefix};
 ghost use Rattle.capture_index.specs.declared.stretch.Stretch.{Stretch};
 ghost use Rattle.capture_index.specs.declared.stretch.Want.{Want};
 ghost use Rattle.kb_geometry.specs.Board.{point_count};
@@ -141,7 +144,7 @@ impl RunIndex {
     /// Finds the nodes at which each wanted cell is there, as stretches, the latest first. The class
     /// tells which cells are wanted, each on the point so far behind the one with number `base`. What
     /// was in `found` before is gone. `spare` is room for work, and holds nothing that counts. The only
-    /// error is `NoMemory`.
+    /// error is `NoMemory`, and then nothing is in `found`.
     pub fn find(
         &self,
         base: u16,
@@ -155,6 +158,7 @@ impl RunIndex {
             AreWantedAt self.now base class.entry.wants.now n) }
         ensures apart { OnOk result (AreApart 0 (count_in self.now) found.new.items) }
         ensures few { OnOk result (length found.new.items ≤ count_in self.now) }
+        ensures refused { OnErr result (found.new.items ≡ []) }
     {
         self.packed.find(base, class, found, spare)?;
         Ok(())
@@ -162,11 +166,12 @@ impl RunIndex {
 
     /// Adds the nodes of the stretches that are the root, or whose parent isn't in them; some
     /// perhaps twice, in no order. The stretches stand apart, as those of [`Self::find`] do. The
-    /// only error is `NoMemory`.
+    /// only error is `NoMemory`. After it too the list begins with what was in it before.
     pub fn push_begins(&self, stretches: &[Stretch], nodes: &mut Vec<u32>) -> Result<(), NoMemory>
         requires { AreApart 0 (count_in self.now) stretches.now }
-        ensures { OnOk result ((x : ℕ) → Contains nodes.new.items x ↔
+        ensures begun { OnOk result ((x : ℕ) → Contains nodes.new.items x ↔
             (Contains nodes.old.items x ⊎ BeginsIn self.now stretches.now x)) }
+        ensures kept { IsPrefix nodes.old.items nodes.new.items }
     {
         self.packed.push_begins(stretches, nodes)?;
         Ok(())

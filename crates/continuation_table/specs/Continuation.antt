@@ -8,10 +8,10 @@ use Rattle.kb_geometry.specs.Board.{cols_of, rows_of}
 use Rattle.kb_geometry.specs.Capture.{other_side}
 use Rattle.kb_geometry.specs.Symmetry.{inverse_number, moved, point_of, symmetry_of}
 use Rattle.game_tree.specs.Tree.{Tree, first_child_of, node_at}
-use Rattle.capture_board.specs.Deltas.{Deltas, position_at}
+use Rattle.capture_board.specs.Deltas.{Deltas}
 use Rattle.pattern_images.specs.declared.hit.Next.{Next}
-use Rattle.pattern_images.specs.Holds.{Holds}
 use Rattle.pattern_images.specs.Placements.{Covers, Placement}
+use Rattle.line_matcher.specs.Occurrences.{HoldsAt}
 
 -- the node that many first children below a node
 abbrev pub below : Tree → ℕ → ℕ → Option ℕ
@@ -29,10 +29,6 @@ pub record HasMoveInside (tree : Tree) (placement : Placement) (n : ℕ) : Type 
   pub colour : Colour
   pub point : Point
   pub move : IsMoveInside tree placement n colour point
-
--- the placement holds at the node
-abbrev pub HoldsAt : Deltas → Placement → ℕ → Type 0
-HoldsAt changes placement n = Holds changes.shape (position_at changes n) placement
 
 -- The colour in the pattern's own colours: labels from 8 on exchange them.
 abbrev pub own_colour : ℕ → Colour → Colour

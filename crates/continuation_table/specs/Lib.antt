@@ -1,5 +1,6 @@
 -- Words that contracts of public functions rest on.
 pub mod Continuation
+pub mod Places
 pub mod Table
 -- Words of private functions.
 pub mod Counting

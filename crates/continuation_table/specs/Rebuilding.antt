@@ -1,13 +1,10 @@
--- Words of the private functions that find a placement by its place, and that rebuild the position
--- at a node.
-use Rattle.std.specs.Prelude.{◌≡◌, ℕ, ◌<◌, ◌⊎◌, List, Option, Some, None, is_some, slice_index_or, slice_set, if◌then◌else◌}
+-- Words of the private functions that rebuild the position at a node.
+use Rattle.std.specs.Prelude.{ℕ, List, Option, Some, None, is_some, slice_index_or, slice_set, if◌then◌else◌}
 use Rattle.std.specs.Option.{option_map_or}
 use Rattle.kb_geometry.specs.declared.stone.Cell.{Cell}
 use Rattle.kb_geometry.specs.declared.stone.Cell.TheVariants as stone
 use Rattle.kb_geometry.specs.declared.stone.Change.{Change}
 use Rattle.kb_geometry.specs.Capture.{Position, cell_at}
-use Rattle.kb_geometry.specs.Symmetry.{number_of_label}
-use Rattle.pattern_images.specs.declared.hit.Place.{Place}
 
 -- the cells that are known of some points, with those of a position on all others
 abbrev pub cell_over : List (Option Cell) → Position → ℕ → Cell
@@ -21,9 +18,3 @@ known_cell known p = option_map_or (λ c. c) (slice_index_or known p None) stone
 abbrev pub noted : List (Option Cell) → Change → List (Option Cell)
 noted known c = if is_some (slice_index_or known c.point None) then known else slice_set known
     c.point (Some c.new)
-
--- the order of places: by row, then by column, then by label
-abbrev pub IsPlaceBefore : Place → Place → Type 0
-IsPlaceBefore a b = (a.y < b.y)
-    ⊎ ((a.y ≡ b.y) × ((a.x < b.x)
-    ⊎ ((a.x ≡ b.x) × (number_of_label a.label < number_of_label b.label))))

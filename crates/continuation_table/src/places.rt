@@ -4,8 +4,9 @@ ghost use Rattle.capture_board.specs.Deltas.{node_count};
 ghost use Rattle.pattern_images.specs.Grid.{cell_in};
 ghost use Rattle.pattern_images.specs.Holds.{Allows, number_under};
 ghost use Rattle.pattern_images.specs.ImageList.{IsPlaceOf, placement_at};
-ghost use Rattle.continuation_table.specs.Continuation.{HoldsAt};
-ghost use Rattle.continuation_table.specs.Rebuilding.{IsPlaceBefore, known_cell};
+ghost use Rattle.line_matcher.specs.Occurrences.{HoldsAt};
+ghost use Rattle.continuation_table.specs.Places.{AreBeforePlace, IsPlaceBefore};
+ghost use Rattle.continuation_table.specs.Rebuilding.{known_cell};
 
 use crate::allowing::allows;
 use crate::known_cells::KnownCells;
@@ -13,11 +14,14 @@ use capture_board::NodeDeltas;
 use kb_geometry::Point;
 use pattern_images::{Images, Place};
 
-/// The number of the placement with this place, where there is one. It takes as many comparisons as
-/// the logarithm of the count of placements.
+/// The number of the placement with this place, where there is one. In each case it is how many
+/// placements have a place before this one, by row, then by column, then by label. So where no
+/// placement has the place, the number may be that of another one, or the count of placements. It
+/// takes as many comparisons as the logarithm of that count.
 pub fn number_of_place(images: &Images, place: Place) -> usize
-    ensures { (i : ℕ) → i < length images.now.placements →
+    ensures there { (i : ℕ) → i < length images.now.placements →
         IsPlaceOf (placement_at images.now.placements i) place → result ≡ i }
+    ensures before { AreBeforePlace images.now.placements place result }
 {
     let mut from = 0;
     let mut to = images.len();

@@ -4,7 +4,7 @@ use Rattle.std.specs.Prelude.{Contains}
 use Rattle.std.proofs.lemmas.Bool.{cases_lt}
 use Rattle.std.proofs.lemmas.List.{get_or-append-add, get_or_append_left}
 use Rattle.corner_index.specs.Corners.{keys_of}
-use Rattle.corner_index.specs.CornerGames.{AreEntriesOf, Entry, HaveGamesBelow, IsIndexOf, IsJoined, entries_in, entry}
+use Rattle.corner_index.specs.CornerGames.{AreEntriesOf, Entry, HaveGamesBelow, IsIndexOf, IsIndexOfBoth, entries_in, entry}
 
 -- what holds of the entries of each corner
 pub four : (P : ℕ → List Entry → Type 0) (a b c d : List Entry) → P 0 a → P 1 b → P 2 c → P 3 d → (corner : ℕ) → corner < 4 → P corner (entries_in (a ∷ b ∷ c ∷ d ∷ []) corner)
@@ -27,7 +27,7 @@ AreEntriesOf-one keys corner own entries same are key g = (
 )
 
 -- the entries of two lists of games, one behind the other
-pub IsIndexOf-joined : (a b joined : List (List Entry)) (first : ℕ) → IsJoined a b first joined → (one other : List (List (List ℕ))) → IsIndexOf one a → length one ≡ first → IsIndexOf other b → IsIndexOf (one ++ other) joined
+pub IsIndexOf-joined : (a b joined : List (List Entry)) (first : ℕ) → IsIndexOfBoth a b first joined → (one other : List (List (List ℕ))) → IsIndexOf one a → length one ≡ first → IsIndexOf other b → IsIndexOf (one ++ other) joined
 IsIndexOf-joined a b joined first are one other one_is long other_is corner lt key g =
     let both : length (one ++ other) ≡ length one + length other = length-append one other in (
       λ c. elim ((are corner lt key g).0 c) [

@@ -6,7 +6,7 @@ use Rattle.std.proofs.Math.Seq.{get_or-append_seam}
 use Rattle.std.proofs.lemmas.Bool.{cases_lt}
 use Rattle.std.proofs.lemmas.List.{get_or-replicate, get_or_append_left, get_or_default, length-append, length-replicate}
 use Rattle.std.proofs.lemmas.List.Kept.{AllPairs-from_increasing}
-use Rattle.corner_index.specs.CornerGames.{AreBelow, AreJoined, entry}
+use Rattle.corner_index.specs.CornerGames.{AreBelow, AreEntriesOfBoth, entry}
 use Rattle.corner_index.specs.Entries.{AreAllBelow, AreListsJoined, AreOrdered, StandsBelow, entries_of}
 use Rattle.corner_index.proofs.GamesWith.{stands, stood}
 
@@ -216,7 +216,7 @@ module _ (a_keys a_games b_keys b_games : List ℕ) (first : ℕ) where
 
 -- ---- seen as entries
 
-pub entries-joined : (a_keys a_games b_keys b_games : List ℕ) (first : ℕ) (keys games : List ℕ) → AreListsJoined a_keys a_games b_keys b_games first keys games → AreJoined (entries_of a_keys a_games) (entries_of b_keys b_games) first (entries_of keys games)
+pub entries-joined : (a_keys a_games b_keys b_games : List ℕ) (first : ℕ) (keys games : List ℕ) → AreListsJoined a_keys a_games b_keys b_games first keys games → AreEntriesOfBoth (entries_of a_keys a_games) (entries_of b_keys b_games) first (entries_of keys games)
 entries-joined a_keys a_games b_keys b_games first keys games are key g = (
   λ c. elim ((are key g).0 (stands keys games key g c)) [
     | inl there ↦ inl (stood a_keys a_games key g there)

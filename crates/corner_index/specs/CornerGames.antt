@@ -35,12 +35,12 @@ abbrev pub HaveGamesBelow : List (List Entry) → ℕ → Type 0
 HaveGamesBelow index count = (corner : ℕ) → corner < 4 → AreBelow (entries_in index corner) count
 
 -- the entries are those of two lists, where the games of the second are moved on by so many
-abbrev pub AreJoined : List Entry → List Entry → ℕ → List Entry → Type 0
-AreJoined a b first joined = (key g : ℕ) → Contains joined (entry key g)
+abbrev pub AreEntriesOfBoth : List Entry → List Entry → ℕ → List Entry → Type 0
+AreEntriesOfBoth a b first joined = (key g : ℕ) → Contains joined (entry key g)
     ↔ (Contains a (entry key g)
     ⊎ ((h : ℕ) × Contains b (entry key h) × (g ≡ first + h)))
 
 -- those of each corner
-abbrev pub IsJoined : List (List Entry) → List (List Entry) → ℕ → List (List Entry) → Type 0
-IsJoined a b first joined = (corner : ℕ) → corner < 4 →
-    AreJoined (entries_in a corner) (entries_in b corner) first (entries_in joined corner)
+abbrev pub IsIndexOfBoth : List (List Entry) → List (List Entry) → ℕ → List (List Entry) → Type 0
+IsIndexOfBoth a b first joined = (corner : ℕ) → corner < 4 →
+    AreEntriesOfBoth (entries_in a corner) (entries_in b corner) first (entries_in joined corner)

@@ -1,7 +1,7 @@
 // Which games had which number in one corner.
 ghost use Rattle.std.specs.Prelude.{◌≡◌, ℕ, ◌<◌, ◌-◌, ◌↔◌, [], Contains, IfOk};
 ghost use Rattle.std.specs.List.Sorted.{IsStrictlyIncreasing};
-ghost use Rattle.corner_index.specs.CornerGames.{AreBelow, AreJoined, entry};
+ghost use Rattle.corner_index.specs.CornerGames.{AreBelow, AreEntriesOfBoth, entry};
 ghost use Rattle.corner_index.specs.Entries.{AreRising, IsFirstBehind, IsFirstFrom};
 
 use crate::entry_lists::{EntryLists, joined, of_one_game};
@@ -59,7 +59,7 @@ impl CornerGames {
     ) -> Result<CornerGames, NoMemory>
         requires before { AreBelow a.now first }
         requires fits { AreBelow b.now (400000 - first) }
-        ensures { IfOk result (AreJoined a.now b.now first) }
+        ensures { IfOk result (AreEntriesOfBoth a.now b.now first) }
     {
         Ok(CornerGames {
             lists: joined(alloc, &a.lists, &b.lists, first)?,

@@ -18,7 +18,7 @@ ghost use Rattle.std.specs.List.Sorted.{IsStrictlyIncreasing};
 ghost use Rattle.corner_index.specs.CornerGames.{
   HaveGamesBelow,
   IsIndexOf,
-  IsJoined,
+  IsIndexOfBoth,
   entries_in,
   entry,
 };
@@ -101,7 +101,7 @@ impl CornerIndex {
     ) -> Result<CornerIndex, NoMemory>
         requires before { HaveGamesBelow a.now first }
         requires fits { HaveGamesBelow b.now (400000 - first) }
-        ensures joined { IfOk result (IsJoined a.now b.now first) }
+        ensures joined { IfOk result (IsIndexOfBoth a.now b.now first) }
         ensures index { IfOk result (λ joined. (one other : List (List (List ℕ))) →
             IsIndexOf one a.now → length one ≡ first → IsIndexOf other b.now →
             IsIndexOf (one ++ other) joined) }

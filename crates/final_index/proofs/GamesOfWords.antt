@@ -16,7 +16,7 @@ use Rattle.kb_bits.proofs.Ascending.{same_from_members}
 use Rattle.final_index.specs.declared.ever_sets.EverSets.{EverSets}
 use Rattle.final_index.specs.Ever.{set_of}
 use Rattle.final_index.specs.Planes.{HadThere, PlaneGames}
-use Rattle.final_index.specs.PlaneWords.{AreJoined, ArePlaneWords, AreSetsNoted, IsJoined, bit_in, start_of, game_in, games_in, points_with}
+use Rattle.final_index.specs.PlaneWords.{HaveBitsOfBoth, ArePlaneWords, AreSetsNoted, HasBitsOfBoth, bit_in, start_of, game_in, games_of_words, points_with}
 
 -- each of the words is 0
 zero_words : (n k : ℕ) → slice_index (replicate n 0) k ≡ 0
@@ -113,44 +113,44 @@ module _ (points present : ℕ) (words : List ℕ) (g : ℕ) (present' : ℕ) (w
 -- ---- the games
 
 module _ (points present : ℕ) (words : List ℕ) (count : ℕ) where
-  pub length-games_in : length (games_in points present words count) ≡ count
-  unfolding games_in
-  length-games_in = length-map-range_with_len (game_in points present words) 0 count
+  pub length-games_of_words : length (games_of_words points present words count) ≡ count
+  unfolding games_of_words
+  length-games_of_words = length-map-range_with_len (game_in points present words) 0 count
 
-  games_in-at : (k : ℕ) (d : Option EverSets) → k < count → get_or (games_in points present words count) k d ≡ game_in points present words k
-  unfolding games_in
-  games_in-at k d lt = get_or-map-range_with_len (game_in points present words) 0 count k k d lt (omega arith)
+  games_of_words-at : (k : ℕ) (d : Option EverSets) → k < count → get_or (games_of_words points present words count) k d ≡ game_in points present words k
+  unfolding games_of_words
+  games_of_words-at k d lt = get_or-map-range_with_len (game_in points present words) 0 count k k d lt (omega arith)
 
-  games_in-is : (games : List (Option EverSets)) → length games ≡ count → ((k : ℕ) → k < count → get_or games k None ≡ game_in points present words k) → games_in points present words count ≡ games
-  unfolding games_in
-  games_in-is games long all = sym (fill_by_all (game_in points present words) games count None long all)
+  games_of_words-is : (games : List (Option EverSets)) → length games ≡ count → ((k : ℕ) → k < count → get_or games k None ≡ game_in points present words k) → games_of_words points present words count ≡ games
+  unfolding games_of_words
+  games_of_words-is games long all = sym (fill_by_all (game_in points present words) games count None long all)
 
 -- ---- what the planes are seen as
 
 pub same_view : (shape : Shape) (games games' : List (Option EverSets)) → games ≡ games' → ◌≡◌ {A = PlaneGames} (record { shape = shape; games = games }) (record { shape = shape; games = games' })
 same_view shape games games' e = rw e refl
 
-module _ (shape : Shape) (points present : ℕ) (words : List ℕ) (count : ℕ) (now : PlaneGames) (seen : ◌≡◌ {A = PlaneGames} (record { shape = shape; games = games_in points present words count }) now) where
+module _ (shape : Shape) (points present : ℕ) (words : List ℕ) (count : ℕ) (now : PlaneGames) (seen : ◌≡◌ {A = PlaneGames} (record { shape = shape; games = games_of_words points present words count }) now) where
   pub count-seen : count ≡ length now.games
-  count-seen = sym (length-games_in points present words count) ∙ ap (λ (p : PlaneGames). length p.games) seen
+  count-seen = sym (length-games_of_words points present words count) ∙ ap (λ (p : PlaneGames). length p.games) seen
 
   pub count-few : length now.games < 64 → count < 64
   count-few few = omega (arith, count-seen)
 
-  pub push-seen : (game : Option EverSets) (games : List (Option EverSets)) → games ≡ games_in points present words count ++ game ∷ [] →
+  pub push-seen : (game : Option EverSets) (games : List (Option EverSets)) → games ≡ games_of_words points present words count ++ game ∷ [] →
       ◌≡◌ {A = PlaneGames} (record { shape = shape; games = games }) (record { shape = now.shape; games = now.games ++ game ∷ [] })
-  push-seen game games e = subst (λ (p : PlaneGames). ◌≡◌ {A = PlaneGames} (record { shape = shape; games = games }) (record { shape = p.shape; games = p.games ++ game ∷ [] })) seen (same_view shape games (games_in points present words count ++ game ∷ []) e)
+  push-seen game games e = subst (λ (p : PlaneGames). ◌≡◌ {A = PlaneGames} (record { shape = shape; games = games }) (record { shape = p.shape; games = p.games ++ game ∷ [] })) seen (same_view shape games (games_of_words points present words count ++ game ∷ []) e)
 
-  module _ (shape' : Shape) (points' present' : ℕ) (words' : List ℕ) (count' : ℕ) (other : PlaneGames) (seen' : ◌≡◌ {A = PlaneGames} (record { shape = shape'; games = games_in points' present' words' count' }) other) where
+  module _ (shape' : Shape) (points' present' : ℕ) (words' : List ℕ) (count' : ℕ) (other : PlaneGames) (seen' : ◌≡◌ {A = PlaneGames} (record { shape = shape'; games = games_of_words points' present' words' count' }) other) where
     pub count-both : length now.games + length other.games ≤ 64 → count + count' ≤ 64
-    count-both few = omega (arith, count-seen, length-games_in points' present' words' count', ap (λ (p : PlaneGames). length p.games) seen')
+    count-both few = omega (arith, count-seen, length-games_of_words points' present' words' count', ap (λ (p : PlaneGames). length p.games) seen')
 
     pub same-shape : now.shape ≡ other.shape → shape ≡ shape'
     same-shape e = ap (λ (p : PlaneGames). p.shape) seen ∙ e ∙ sym (ap (λ (p : PlaneGames). p.shape) seen')
 
-    pub join-seen : (games : List (Option EverSets)) → games ≡ games_in points present words count ++ games_in points' present' words' count' →
+    pub join-seen : (games : List (Option EverSets)) → games ≡ games_of_words points present words count ++ games_of_words points' present' words' count' →
         ◌≡◌ {A = PlaneGames} (record { shape = shape; games = games }) (record { shape = now.shape; games = now.games ++ other.games })
-    join-seen games e = subst₂ (λ (p q : PlaneGames). ◌≡◌ {A = PlaneGames} (record { shape = shape; games = games }) (record { shape = p.shape; games = p.games ++ q.games })) seen seen' (same_view shape games (games_in points present words count ++ games_in points' present' words' count') e)
+    join-seen games e = subst₂ (λ (p q : PlaneGames). ◌≡◌ {A = PlaneGames} (record { shape = shape; games = games }) (record { shape = p.shape; games = p.games ++ q.games })) seen seen' (same_view shape games (games_of_words points present words count ++ games_of_words points' present' words' count') e)
 
 -- ---- what the functions make
 
@@ -167,25 +167,25 @@ module _ (points count : ℕ) (few : count ≤ 64) (words : List ℕ) (none : wo
     there = λ k g e. absurd (omega (arith, e, no_bit k g));
   }
 
-  pub games_in-none : games_in points 0 words count ≡ replicate count None
-  games_in-none = games_in-is points 0 words count (replicate count None) (length-replicate {A = Option EverSets} count None)
+  pub games_of_words-none : games_of_words points 0 words count ≡ replicate count None
+  games_of_words-none = games_of_words-is points 0 words count (replicate count None) (length-replicate {A = Option EverSets} count None)
       (λ k lt. get_or-replicate {A = Option EverSets} count k None None lt ∙ sym (game_in-absent points 0 words k (λ e. omega (arith, e, bit_at-zero k))))
 
 module _ (points count present : ℕ) (words : List ℕ) (are : ArePlaneWords points count present words) where
   -- the bit of a game in a word tells whether it had the cell
-  pub HadThere-bits : (g : ℕ) (stone : Cell) (p : ℕ) → p < points → (bit_in points words g stone p ≡ 1) ↔ HadThere (games_in points present words count) g stone p
+  pub HadThere-bits : (g : ℕ) (stone : Cell) (p : ℕ) → p < points → (bit_in points words g stone p ≡ 1) ↔ HadThere (games_of_words points present words count) g stone p
   HadThere-bits g stone p lt =
       elim (cases_lt g count) [
-        | inl below ↦ subst (λ (game : Option EverSets). (bit_in points words g stone p ≡ 1) ↔ IsSomeAnd game (λ sets. Contains (set_of sets stone) p)) (sym (games_in-at points present words count g None below))
+        | inl below ↦ subst (λ (game : Option EverSets). (bit_in points words g stone p ≡ 1) ↔ IsSomeAnd game (λ sets. Contains (set_of sets stone) p)) (sym (games_of_words-at points present words count g None below))
             (told_by_bit points present words g (λ k. are.there k g) stone p lt)
         | inr past ↦
-            let nothing = get_or_past (games_in points present words count) g None (omega (arith, length-games_in points present words count)) in (
+            let nothing = get_or_past (games_of_words points present words count) g None (omega (arith, length-games_of_words points present words count)) in (
               λ one. absurd (omega (arith, are.counted g (are.there (start_of points stone + p) g one))),
               λ h. absurd (subst (λ (game : Option EverSets). IsSomeAnd game (λ sets. Contains (set_of sets stone) p)) nothing h),
             )
       ]
 
-  pub HadThere-seen : (shape : Shape) (now : PlaneGames) → ◌≡◌ {A = PlaneGames} (record { shape = shape; games = games_in points present words count }) now → (g : ℕ) (stone : Cell) (p : ℕ) → p < points →
+  pub HadThere-seen : (shape : Shape) (now : PlaneGames) → ◌≡◌ {A = PlaneGames} (record { shape = shape; games = games_of_words points present words count }) now → (g : ℕ) (stone : Cell) (p : ℕ) → p < points →
       (word : ℕ) → slice_index words (start_of points stone + p) ≡ word → (bit_at word g ≡ 1) ↔ HadThere now.games g stone p
   HadThere-seen shape now seen g stone p lt word is =
       subst (λ (w : ℕ). (bit_at w g ≡ 1) ↔ HadThere now.games g stone p) is
@@ -201,15 +201,15 @@ module _ (points count present : ℕ) (words : List ℕ) (are : ArePlaneWords po
       there = are.there;
     }
 
-    pub games_in-left_out : games_in points present words (count + 1) ≡ games_in points present words count ++ None ∷ []
-    games_in-left_out =
-        let long = length-games_in points present words count in
-        games_in-is points present words (count + 1) (games_in points present words count ++ None ∷ []) (length_push (games_in points present words count) None ∙ ap (λ (n : ℕ). n + 1) long)
+    pub games_of_words-left_out : games_of_words points present words (count + 1) ≡ games_of_words points present words count ++ None ∷ []
+    games_of_words-left_out =
+        let long = length-games_of_words points present words count in
+        games_of_words-is points present words (count + 1) (games_of_words points present words count ++ None ∷ []) (length_push (games_of_words points present words count) None ∙ ap (λ (n : ℕ). n + 1) long)
         (λ k lt. elim (cases_lt k count) [
-          | inl below ↦ get_or_append_left (games_in points present words count) (None ∷ []) None k (omega arith) ∙ games_in-at points present words count k None below
+          | inl below ↦ get_or_append_left (games_of_words points present words count) (None ∷ []) None k (omega arith) ∙ games_of_words-at points present words count k None below
           | inr last ↦
-              let here : length (games_in points present words count) ≡ k = omega arith in
-              ap (λ (j : ℕ). get_or (games_in points present words count ++ None ∷ []) j None) (sym here) ∙ get_or-append_seam (games_in points present words count) None [] None
+              let here : length (games_of_words points present words count) ≡ k = omega arith in
+              ap (λ (j : ℕ). get_or (games_of_words points present words count ++ None ∷ []) j None) (sym here) ∙ get_or-append_seam (games_of_words points present words count) None [] None
               ∙ sym (game_in-absent points present words k (λ e. omega (arith, are.counted k e)))
         ])
 
@@ -273,23 +273,23 @@ module _ (points count present : ℕ) (words : List ℕ) (are : ArePlaneWords po
         ],
       )
 
-      pub games_in-added : games_in points present' words' (count + 1) ≡ games_in points present words count ++ Some sets ∷ []
-      games_in-added =
-          let long = length-games_in points present words count in
-          games_in-is points present' words' (count + 1) (games_in points present words count ++ Some sets ∷ []) (length_push (games_in points present words count) (Some sets) ∙ ap (λ (n : ℕ). n + 1) long)
+      pub games_of_words-added : games_of_words points present' words' (count + 1) ≡ games_of_words points present words count ++ Some sets ∷ []
+      games_of_words-added =
+          let long = length-games_of_words points present words count in
+          games_of_words-is points present' words' (count + 1) (games_of_words points present words count ++ Some sets ∷ []) (length_push (games_of_words points present words count) (Some sets) ∙ ap (λ (n : ℕ). n + 1) long)
           (λ k lt. elim (cases_lt k count) [
-            | inl below ↦ get_or_append_left (games_in points present words count) (Some sets ∷ []) None k (omega arith) ∙ games_in-at points present words count k None below ∙ earlier k below
+            | inl below ↦ get_or_append_left (games_of_words points present words count) (Some sets ∷ []) None k (omega arith) ∙ games_of_words-at points present words count k None below ∙ earlier k below
             | inr last ↦
-                let here : length (games_in points present words count) ≡ k = omega arith in
+                let here : length (games_of_words points present words count) ≡ k = omega arith in
                 let at : count ≡ k = omega arith in
-                ap (λ (j : ℕ). get_or (games_in points present words count ++ Some sets ∷ []) j None) (sym here) ∙ get_or-append_seam (games_in points present words count) (Some sets) [] None
+                ap (λ (j : ℕ). get_or (games_of_words points present words count ++ Some sets ∷ []) j None) (sym here) ∙ get_or-append_seam (games_of_words points present words count) (Some sets) [] None
                 ∙ sym (game_in-is points present' words' count present-now sets up added_bits) ∙ ap (game_in points present' words') at
           ])
 
 -- ---- the games of two
 
 module _ (points count present : ℕ) (words : List ℕ) (are : ArePlaneWords points count present words) (count' present' : ℕ) (words' : List ℕ) (are' : ArePlaneWords points count' present' words') (few : count + count' ≤ 64)
-    (both : ℕ) (joined : IsJoined present present' count both) (words'' : List ℕ) (all : AreJoined words words' count words'') (long : length words'' ≡ length words) where
+    (both : ℕ) (joined : HasBitsOfBoth present present' count both) (words'' : List ℕ) (all : HaveBitsOfBoth words words' count words'') (long : length words'' ≡ length words) where
   pub ArePlaneWords-joined : ArePlaneWords points (count + count') both words''
   ArePlaneWords-joined = record {
     room = long ∙ are.room;
@@ -332,16 +332,16 @@ module _ (points count present : ℕ) (words : List ℕ) (are : ArePlaneWords po
         (λ e. (joined g).1 (inr (i, at, e)), second_present)
         (λ stone p. (λ e. (all (start_of points stone + p) g).1 (inr (i, at, e)), second_bit (start_of points stone + p)))
 
-  pub games_in-joined : games_in points both words'' (count + count') ≡ games_in points present words count ++ games_in points present' words' count'
-  games_in-joined =
-      let first = length-games_in points present words count in
-      let second = length-games_in points present' words' count' in
-      games_in-is points both words'' (count + count') (games_in points present words count ++ games_in points present' words' count')
-      (length-append (games_in points present words count) (games_in points present' words' count') ∙ ap₂ (λ (m n : ℕ). m + n) first second)
+  pub games_of_words-joined : games_of_words points both words'' (count + count') ≡ games_of_words points present words count ++ games_of_words points present' words' count'
+  games_of_words-joined =
+      let first = length-games_of_words points present words count in
+      let second = length-games_of_words points present' words' count' in
+      games_of_words-is points both words'' (count + count') (games_of_words points present words count ++ games_of_words points present' words' count')
+      (length-append (games_of_words points present words count) (games_of_words points present' words' count') ∙ ap₂ (λ (m n : ℕ). m + n) first second)
       (λ k lt. elim (cases_lt k count) [
-        | inl below ↦ get_or_append_left (games_in points present words count) (games_in points present' words' count') None k (omega arith) ∙ games_in-at points present words count k None below ∙ of_first k below
-        | inr from ↦ get_or-append_right (games_in points present words count) (games_in points present' words' count') count k None first from
-            ∙ games_in-at points present' words' count' (k - count) None (omega arith) ∙ of_second k (k - count) (omega arith)
+        | inl below ↦ get_or_append_left (games_of_words points present words count) (games_of_words points present' words' count') None k (omega arith) ∙ games_of_words-at points present words count k None below ∙ of_first k below
+        | inr from ↦ get_or-append_right (games_of_words points present words count) (games_of_words points present' words' count') count k None first from
+            ∙ games_of_words-at points present' words' count' (k - count) None (omega arith) ∙ of_second k (k - count) (omega arith)
       ])
 
 pub ascend-all : (sets : EverSets) → IsStrictlyIncreasing sets.empty → IsStrictlyIncreasing sets.black → IsStrictlyIncreasing sets.white → (stone : Cell) → IsStrictlyIncreasing (set_of sets stone)

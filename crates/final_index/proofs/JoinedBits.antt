@@ -4,7 +4,7 @@ use Rattle.std.specs.Int.{bit_at}
 use Rattle.std.proofs.lemmas.Nat.{shr_split}
 use Rattle.std.proofs.lemmas.Nat.Bits.{bit_at-zero, bit_at-lt, bit_at_or, bit_at_cat_low, bit_at_cat_high, bit_at_above}
 use Rattle.std.proofs.lemmas.Bool.{cases_lt, cases_eq}
-use Rattle.final_index.specs.PlaneWords.{IsJoined}
+use Rattle.final_index.specs.PlaneWords.{HasBitsOfBoth}
 
 -- the low bits of a number stay where the others are cut off
 bit_at-mod : (n w i : ℕ) → i < w → bit_at (n % 2 ^ w) i ≡ bit_at n i
@@ -47,8 +47,8 @@ module _ (b by : ℕ) where
       ]
 
 module _ (a b by : ℕ) where
-  pub IsJoined-or : ((i : ℕ) → bit_at b i ≡ 1 → i + by < 64) → IsJoined a b by (bit_or a (b * 2 ^ by % 2 ^ 64))
-  IsJoined-or room i =
+  pub HasBitsOfBoth-or : ((i : ℕ) → bit_at b i ≡ 1 → i + by < 64) → HasBitsOfBoth a b by (bit_or a (b * 2 ^ by % 2 ^ 64))
+  HasBitsOfBoth-or room i =
       let both = bit_at_or a (b * 2 ^ by % 2 ^ 64) i in
       let few = bit_at-lt a i in
       let few' = bit_at-lt (b * 2 ^ by % 2 ^ 64) i in (
@@ -70,4 +70,4 @@ module _ (a b by : ℕ) where
 -- the first so many words are joined
 pub record AreJoinedBelow (a b : List ℕ) (by end : ℕ) (both : List ℕ) : Type 0 where
   pub count : length both ≡ end
-  pub joined : (k : ℕ) → k < end → IsJoined (slice_index a k) (slice_index b k) by (slice_index both k)
+  pub joined : (k : ℕ) → k < end → HasBitsOfBoth (slice_index a k) (slice_index b k) by (slice_index both k)

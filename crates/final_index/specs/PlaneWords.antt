@@ -31,8 +31,8 @@ game_in points present words g = if bit_at present g == 1 then Some (record {
 }) else None
 
 -- the games of the words, so many
-unfoldable pub games_in : ℕ → ℕ → List ℕ → ℕ → List (Option EverSets)
-games_in points present words count =
+unfoldable pub games_of_words : ℕ → ℕ → List ℕ → ℕ → List (Option EverSets)
+games_of_words points present words count =
     map (game_in points present words) (range_with_len 0 count)
 
 -- The words of so many games, for a board with so many points: a game that isn't present has no bit.
@@ -65,11 +65,11 @@ pub record AreSetsNoted (points : ℕ) (sets : EverSets) (g : ℕ)
       ⊎ ((i ≡ g) × ((stone : Cell) × IsWordIn points points stone (set_of sets stone) k)))
 
 -- the bits of one word, and behind them those of another
-abbrev pub IsJoined : ℕ → ℕ → ℕ → ℕ → Type 0
-IsJoined a b by both = (i : ℕ) → (bit_at both i ≡ 1) ↔
+abbrev pub HasBitsOfBoth : ℕ → ℕ → ℕ → ℕ → Type 0
+HasBitsOfBoth a b by both = (i : ℕ) → (bit_at both i ≡ 1) ↔
     ((bit_at a i ≡ 1) ⊎ ((j : ℕ) × (i ≡ j + by) × (bit_at b j ≡ 1)))
 
 -- each word has the bits of one list's word, and behind them those of the other's
-abbrev pub AreJoined : List ℕ → List ℕ → ℕ → List ℕ → Type 0
-AreJoined a b by both = (k : ℕ) →
-    IsJoined (slice_index a k) (slice_index b k) by (slice_index both k)
+abbrev pub HaveBitsOfBoth : List ℕ → List ℕ → ℕ → List ℕ → Type 0
+HaveBitsOfBoth a b by both = (k : ℕ) →
+    HasBitsOfBoth (slice_index a k) (slice_index b k) by (slice_index both k)

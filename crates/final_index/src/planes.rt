@@ -31,10 +31,10 @@ ghost use Rattle.kb_geometry.specs.Board.{point_count};
 ghost use Rattle.final_index.specs.Ever.{set_of};
 ghost use Rattle.final_index.specs.Planes.{HadThere};
 ghost use Rattle.final_index.specs.PlaneWords.{
-  AreJoined,
   AreNoted,
   AreSetsNoted,
-  IsJoined,
+  HasBitsOfBoth,
+  HaveBitsOfBoth,
   start_of,
 };
 
@@ -63,13 +63,13 @@ pub struct Planes {
 impl Model for Planes {
     ghost use Rattle.kb_geometry.specs.Board.{point_count};
     ghost use Rattle.final_index.specs.Planes.{PlaneGames};
-    ghost use Rattle.final_index.specs.PlaneWords.{ArePlaneWords, games_in};
+    ghost use Rattle.final_index.specs.PlaneWords.{ArePlaneWords, games_of_words};
 
     ghost Value = { PlaneGames };
 
     ghost view = { λ p. record {
       shape = p.shape;
-      games = games_in (point_count p.shape) p.present p.words.items p.count;
+      games = games_of_words (point_count p.shape) p.present p.words.items p.count;
     } };
 
     ghost invariant = { λ p. ArePlaneWords (point_count p.shape) p.count p.present p.words.items };
@@ -312,7 +312,7 @@ fn joined_words(alloc: Global, a: &[u64], b: &[u64], by: usize) -> Result<Vec<u6
     requires same { length a.now ≡ length b.now }
     requires most { by ≤ 64 }
     requires room { (k i : ℕ) → bit_at (slice_index b.now k) i ≡ 1 → i + by < 64 }
-    ensures words { IfOk result (λ both. AreJoined a.now b.now by both.items) }
+    ensures words { IfOk result (λ both. HaveBitsOfBoth a.now b.now by both.items) }
     ensures count { IfOk result (λ both. length both.items ≡ length a.now) }
 {
     let mut words = Vec::with_capacity(alloc, a.len())?;
@@ -326,7 +326,7 @@ fn joined_words(alloc: Global, a: &[u64], b: &[u64], by: usize) -> Result<Vec<u6
 fn joined(a: u64, b: u64, by: usize) -> u64
     requires most { by ≤ 64 }
     requires room { (i : ℕ) → bit_at b i ≡ 1 → i + by < 64 }
-    ensures { IsJoined a b by result }
+    ensures { HasBitsOfBoth a b by result }
 {
     if by == 64 { a } else { a | b << by }
 }

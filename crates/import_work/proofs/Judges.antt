@@ -11,7 +11,7 @@ use Rattle.import_work.specs.Course.{FileReport, games_from, trees_in}
 use Rattle.import_work.specs.Found.{IsFound}
 use Rattle.import_work.specs.Judged.{AreFound, AreJudged, AreJudgedAs, IsFoundFile, IsJudged, IsJudgedAs}
 use Rattle.import_work.specs.Judged as judge
-use Rattle.import_work.specs.Outcome.{HaveGames, nodes_of, refused, with_games}
+use Rattle.import_work.specs.Outcome.{HaveGames, nodes_of_trees, refused, with_games}
 use Rattle.import_work.specs.Reads.{AreTexts, FileText, IsTextOf, text_names}
 use Rattle.import_work.specs.declared.batch.FileLine.{FileLine}
 use Rattle.import_work.specs.declared.found.Found.TheVariants as found
@@ -42,7 +42,7 @@ pub record IsTextWithGames (name : List ℕ) (bytes : Option (List ℕ)) (own : 
   pub bytes_are : bytes ≡ Some content
   pub have : HaveGames content trees
   pub own_are : own ≡ games_from name 0 trees
-  pub nodes_are : nodes ≡ nodes_of trees
+  pub nodes_are : nodes ≡ nodes_of_trees trees
   pub few : nodes ≤ 4294967296
 
 games-not_unread : (own : Vec Game Global) (nodes : ℕ) → found.Games own nodes ≡ found.Unread → ⊥

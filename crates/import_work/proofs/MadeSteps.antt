@@ -13,7 +13,7 @@ use Rattle.import_work.specs.ImportFields.{state_with}
 use Rattle.import_work.specs.Imports.{IsStep}
 use Rattle.import_work.specs.Log.{Segment}
 use Rattle.import_work.specs.Made.{AreAddedFirst, HasRoomForMade, made_game, made_games}
-use Rattle.import_work.specs.Outcome.{HasRoom, IsAddedBy, games_after, nodes_after, nodes_of, with_games}
+use Rattle.import_work.specs.Outcome.{HasRoom, IsAddedBy, games_after, nodes_after, nodes_of_trees, with_games}
 use Rattle.import_work.specs.Rooms.{AreWithinLimits}
 use Rattle.import_work.specs.declared.import.Work.TheVariants as work
 use Rattle.import_work.specs.declared.outcome.Counts.{Counts}
@@ -28,7 +28,7 @@ module _ (start first : ℕ) (before : Counts) where
   game-more n = map-range_with_len_more (made_game start) first n (first + n) refl
 
   -- a made game has 201 nodes
-  one-game : (number : ℕ) → nodes_of (made_tree start number ∷ []) ≡ 201
+  one-game : (number : ℕ) → nodes_of_trees (made_tree start number ∷ []) ≡ 201
   one-game number = omega (arith, made-nodes start number)
 
   -- the counts with made games
@@ -46,13 +46,13 @@ module _ (start first : ℕ) (before : Counts) where
       let one : n + 1 ≡ suc n = omega arith in
       let own = counts_with n in
       let games : own.games + length (t ∷ []) ≡ before.games + suc n = omega arith in
-      let nodes : own.nodes + nodes_of (t ∷ []) ≡ before.nodes + suc n * 201 = omega (arith, one-game number) in
+      let nodes : own.nodes + nodes_of_trees (t ∷ []) ≡ before.nodes + suc n * 201 = omega (arith, one-game number) in
       ap (λ k. with_games before (trees_in (made_games start first k))) (sym one)
       ∙ ap (λ gs. with_games before (trees_in gs)) (game-more n)
       ∙ ap (with_games before) (trees_in-append (made_games start first n) (made_game start number ∷ []))
       ∙ sym (with_games-append before (trees_in (made_games start first n)) (t ∷ []))
       ∙ ap (λ (c : Counts). with_games c (t ∷ [])) (counts-made n)
-      ∙ ap (λ g. record { games = g; nodes = own.nodes + nodes_of (t ∷ []) }) games
+      ∙ ap (λ g. record { games = g; nodes = own.nodes + nodes_of_trees (t ∷ []) }) games
       ∙ ap (λ d. record { games = before.games + suc n; nodes = d }) nodes
 
   -- these files are so many made games, of which the first so many are added

@@ -12,28 +12,28 @@ use Rattle.sgf_reader.specs.Faults.{IsRead}
 use Rattle.sgf_reader.specs.Grammar.{raw_game}
 use Rattle.sgf_reader.proofs.WithinLimits.{read-within_limits}
 use Rattle.game_tree.specs.Trees.{AreTreesOf, IsTreeOf}
-use Rattle.import_work.specs.Outcome.{HaveGames, IsAddedBy, IsOutcome, counts_of, games_after, nodes_after, nodes_of, with_games}
+use Rattle.import_work.specs.Outcome.{HaveGames, IsAddedBy, IsOutcome, counts_of, games_after, nodes_after, nodes_of_trees, with_games}
 use Rattle.import_work.specs.Rooms.{AddsGames, AreAdded, IsAdded}
 use Rattle.import_work.specs.Batches.{IsTurnedAway}
 use Rattle.import_work.specs.Course.{games_from, trees_in}
 use Rattle.node_position.specs.Games.{Game}
 
 -- the nodes of one game more
-pub nodes_of-more : (trees : List Tree) (i : ℕ) (tree : Tree) → i < length trees → tree ≡ get_or trees i tree → nodes_of (take (i + 1) trees) ≡ nodes_of (take i trees) + node_count tree
-nodes_of-more trees i tree below is =
-    ap nodes_of (take_more trees i tree below ∙ ap (λ t. take i trees ++ t ∷ []) (sym is)) ∙ sum_by-append node_count (take i trees) (tree ∷ []) ∙ ap (λ n. nodes_of (take i trees) + n) (nodes_of-one tree)
+pub nodes_of_trees-more : (trees : List Tree) (i : ℕ) (tree : Tree) → i < length trees → tree ≡ get_or trees i tree → nodes_of_trees (take (i + 1) trees) ≡ nodes_of_trees (take i trees) + node_count tree
+nodes_of_trees-more trees i tree below is =
+    ap nodes_of_trees (take_more trees i tree below ∙ ap (λ t. take i trees ++ t ∷ []) (sym is)) ∙ sum_by-append node_count (take i trees) (tree ∷ []) ∙ ap (λ n. nodes_of_trees (take i trees) + n) (nodes_of_trees-one tree)
   where
-    nodes_of-one : (t : Tree) → nodes_of (t ∷ []) ≡ node_count t
-    nodes_of-one t = omega arith
+    nodes_of_trees-one : (t : Tree) → nodes_of_trees (t ∷ []) ≡ node_count t
+    nodes_of_trees-one t = omega arith
 
-nodes_of-append : (trees more : List Tree) → nodes_of (trees ++ more) ≡ nodes_of trees + nodes_of more
-nodes_of-append trees more = sum_by-append node_count trees more
+nodes_of_trees-append : (trees more : List Tree) → nodes_of_trees (trees ++ more) ≡ nodes_of_trees trees + nodes_of_trees more
+nodes_of_trees-append trees more = sum_by-append node_count trees more
 
 -- the counts with games, and with more games
 pub with_games-append : (before : Counts) (trees more : List Tree) → with_games (with_games before trees) more ≡ with_games before (trees ++ more)
 with_games-append before trees more =
     let games : before.games + length trees + length more ≡ before.games + length (trees ++ more) = rw length-append (omega arith) in
-    let nodes : before.nodes + nodes_of trees + nodes_of more ≡ before.nodes + nodes_of (trees ++ more) = rw nodes_of-append (omega arith) in
+    let nodes : before.nodes + nodes_of_trees trees + nodes_of_trees more ≡ before.nodes + nodes_of_trees (trees ++ more) = rw nodes_of_trees-append (omega arith) in
     cc
 
 pub with_games-none : (before : Counts) → with_games before [] ≡ before
@@ -151,7 +151,7 @@ turned_away before file.Unread trees added away = (added, sym (with_games-is bef
 counts_of-append : (trees more : List Tree) → with_games (counts_of trees) more ≡ counts_of (trees ++ more)
 counts_of-append trees more =
     let games : length trees + length more ≡ length (trees ++ more) = rw length-append refl in
-    let nodes : nodes_of trees + nodes_of more ≡ nodes_of (trees ++ more) = sym (nodes_of-append trees more) in
+    let nodes : nodes_of_trees trees + nodes_of_trees more ≡ nodes_of_trees (trees ++ more) = sym (nodes_of_trees-append trees more) in
     cc
 
 -- a base whose counts are known gets more games

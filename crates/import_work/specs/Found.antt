@@ -3,7 +3,7 @@
 use Rattle.std.specs.Prelude.{◌≡◌, ◌≤◌, ℕ, List, length, Option, Some, None}
 use Rattle.game_tree.specs.Tree.{Tree}
 use Rattle.import_work.specs.Course.{games_from}
-use Rattle.import_work.specs.Outcome.{HaveGames, IsFaulty, nodes_of}
+use Rattle.import_work.specs.Outcome.{HaveGames, IsFaulty, nodes_of_trees}
 use Rattle.import_work.specs.declared.found.Found.{Found}
 use Rattle.import_work.specs.declared.found.Found.TheVariants as found
 
@@ -12,7 +12,7 @@ abbrev pub AreGamesFound : List ℕ → List Tree → Found → Type 0
 AreGamesFound name trees found.Unread = ⊥
 AreGamesFound name trees (found.Refused of at) = ⊥
 AreGamesFound name trees (found.Games games nodes) =
-    (games.items ≡ games_from name 0 trees) × (nodes ≡ nodes_of trees) × (nodes ≤ 4294967296)
+    (games.items ≡ games_from name 0 trees) × (nodes ≡ nodes_of_trees trees) × (nodes ≤ 4294967296)
 
 -- this was found in a file of this name with these bytes
 abbrev pub IsFoundIn : List ℕ → List ℕ → Found → Type 0
@@ -20,7 +20,8 @@ IsFoundIn name bytes found.Unread = ⊥
 IsFoundIn name bytes (found.Refused of at) = IsFaulty bytes of at
 IsFoundIn name bytes (found.Games games nodes) =
     (trees : List Tree) × HaveGames bytes trees × (length trees ≤ 65536)
-    × (games.items ≡ games_from name 0 trees) × (nodes ≡ nodes_of trees) × (nodes ≤ 4294967296)
+    × (games.items ≡ games_from name 0 trees)
+    × (nodes ≡ nodes_of_trees trees) × (nodes ≤ 4294967296)
 
 -- this was found in a file of this name with these bytes, or in one that was not read
 abbrev pub IsFound : List ℕ → Option (List ℕ) → Found → Type 0

@@ -24,15 +24,15 @@ HaveGames bytes trees = (collection : Collection) × IsRead bytes collection
     × AreTreesOf bytes collection trees
 
 -- how many nodes these games have
-abbrev pub nodes_of : List Tree → ℕ
-nodes_of trees = sum_by node_count trees
+abbrev pub nodes_of_trees : List Tree → ℕ
+nodes_of_trees trees = sum_by node_count trees
 
 -- games and nodes, with those of these games
 abbrev pub games_after : Counts → List Tree → ℕ
 games_after before trees = before.games + length trees
 
 abbrev pub nodes_after : Counts → List Tree → ℕ
-nodes_after before trees = before.nodes + nodes_of trees
+nodes_after before trees = before.nodes + nodes_of_trees trees
 
 -- the counts of a base with these games more
 abbrev pub with_games : Counts → List Tree → Counts
@@ -43,7 +43,7 @@ with_games before trees = record {
 
 -- the counts of a base with these games
 abbrev pub counts_of : List Tree → Counts
-counts_of trees = record { games = length trees; nodes = nodes_of trees }
+counts_of trees = record { games = length trees; nodes = nodes_of_trees trees }
 
 -- there is room for these games in the base, which has at most 400,000 games and 67,108,864 nodes
 abbrev pub HasRoom : Counts → List Tree → Type 0

@@ -6,7 +6,7 @@ ghost use Rattle.import_work.specs.Batches.{line_reports};
 ghost use Rattle.import_work.specs.Course.{games_from};
 ghost use Rattle.import_work.specs.Found.{IsFound};
 ghost use Rattle.import_work.specs.Judged.{AreFound, AreJudgedAs, IsJudgedAs};
-ghost use Rattle.import_work.specs.Outcome.{HaveGames, nodes_of};
+ghost use Rattle.import_work.specs.Outcome.{HaveGames, nodes_of_trees};
 ghost use Rattle.import_work.specs.Reads.{FileText};
 
 use crate::batch::FileLine;
@@ -46,7 +46,7 @@ fn in_room(
 ) -> Result<(FileOutcome, Counts), NoMemory>
     requires { length games.old ≤ before.games }
     ensures judged { IfOk result (λ r. (name bytes : List ℕ) (trees : List Tree) →
-        HaveGames bytes trees → own.items ≡ games_from name 0 trees → nodes ≡ nodes_of trees →
+        HaveGames bytes trees → own.items ≡ games_from name 0 trees → nodes ≡ nodes_of_trees trees →
         nodes ≤ 4294967296 → IsJudgedAs (record { name = name; bytes = Some bytes }) before r.1 r.0
         games.old games.new) }
     ensures counted { IfOk result (λ r. length games.new ≤ r.1.games) }

@@ -2,7 +2,7 @@
 ghost use Rattle.std.specs.Prelude.{◌≡◌, ◌<◌, IfOk, length};
 ghost use Rattle.import_work.specs.declared.outcome.Parsed.TheVariants.{Refused};
 ghost use Rattle.import_work.specs.Parsed.{IsParsed};
-ghost use Rattle.import_work.specs.Outcome.{IsAddedBy, IsOutcome, nodes_of};
+ghost use Rattle.import_work.specs.Outcome.{IsAddedBy, IsOutcome, nodes_of_trees};
 
 use game_tree::{BuildError, GameTree, Setup, build_flat};
 use kb_geometry::NoMemory;
@@ -107,7 +107,7 @@ fn in_room(alloc: Global, trees: Vec<GameTree>, before: Counts) -> (FileOutcome,
 // How many nodes these games have.
 fn nodes_of(trees: &[GameTree]) -> u64
     requires { length trees.now < 4294967296 }
-    ensures value { result ≡ nodes_of trees.now }
+    ensures value { result ≡ nodes_of_trees trees.now }
     ensures most { result < 281474976710656 }
 {
     let mut nodes = 0;

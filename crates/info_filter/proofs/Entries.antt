@@ -7,7 +7,8 @@ use Rattle.std.proofs.lemmas.List.Elements.{All-head, All-tail}
 use Rattle.std.specs.declared.alloc.Global.{Global}
 use Rattle.std.specs.declared.vec.Vec.{Vec}
 use Rattle.info_filter.specs.Players.{Side, TableRow}
-use Rattle.info_filter.specs.Seats.{Entry, IsCountedAt, IsCountedFor, IsFirst, IsNext, IsOneSideMore, IsSeat, IsSideAdded, with_side_counted, is_same_name, one_if, row_of, table_rows_of, with_side}
+use Rattle.info_filter.specs.Seats.{Entry, IsCountedAt, IsCountedFor, IsFirst, IsNext, IsOneSideMore, IsSeat, is_same_name, row_of, table_rows_of}
+use Rattle.info_filter.specs.SidesCounted.{IsSideAdded, with_side_counted, one_if, with_side}
 use Rattle.indexmap.specs.IndexMap.{insert_entry}
 use Rattle.indexmap.specs.Layout.{set_value_at}
 use Rattle.info_filter.specs.declared.score.Score.{Score}

@@ -5,7 +5,7 @@ use Rattle.std.proofs.lemmas.List.Elements.{All-weaker}
 use Rattle.std.proofs.lemmas.List.Sums.{count_by-le-length}
 use Rattle.game_tree.specs.Information.{Information}
 use Rattle.info_filter.specs.Players.{ArePlayerRows, IsSeenBefore, IsPlayersTable, IsToldOfPlayer, Side, TableRow, is_side_of, sides_of}
-use Rattle.info_filter.specs.Seats.{IsSideAdded, with_side}
+use Rattle.info_filter.specs.SidesCounted.{IsSideAdded, with_side}
 use Rattle.info_filter.proofs.TableRows.{any_cases, any_head, any_not_all, any_nothing, any_tail, empty_or_not, no_rows, pairs_head, pairs_tail, side_added, told_side}
 
 -- ---- two lists in one order

@@ -7,7 +7,7 @@ use Rattle.std.proofs.lemmas.List.Elements.{All-append, All-cons, All-head, All-
 use Rattle.std.proofs.lemmas.List.Kept.{AllPairs-cons}
 use Rattle.std.proofs.lemmas.List.Sums.{sum_by-append, sum_by-cons}
 use Rattle.info_filter.specs.Players.{ArePlayerRows, IsSeenBefore, IsToldOfPlayer, Side, TableRow, is_side_of}
-use Rattle.info_filter.specs.Seats.{IsSideAdded, with_side_counted, one_if, with_side}
+use Rattle.info_filter.specs.SidesCounted.{IsSideAdded, with_side_counted, one_if, with_side}
 
 -- ---- names
 

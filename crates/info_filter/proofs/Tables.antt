@@ -3,7 +3,7 @@ use Rattle.std.proofs.Common.{◌≡◌, ◌+◌, ◌++◌, ◌≤◌, ℕ, Bool
 use Rattle.std.proofs.lemmas.List.Elements.{All-cons, All-head, All-nil, All-tail, All-weaker}
 use Rattle.game_tree.specs.Information.{Information}
 use Rattle.info_filter.specs.Players.{ArePlayerRows, IsPlayersTable, Side, TableRow, black_side, sides_of, white_side}
-use Rattle.info_filter.specs.Seats.{IsSideAdded, with_side_counted, with_side}
+use Rattle.info_filter.specs.SidesCounted.{IsGameAdded, IsSideAdded, with_side_counted, with_side}
 use Rattle.info_filter.proofs.Entries.{side_of}
 use Rattle.info_filter.proofs.TableRows.{empty_or_not, side_added, told_name}
 
@@ -16,10 +16,17 @@ sides_push : (games : List Information) (info : Information) → sides_of (games
 sides_push [] info = refl
 sides_push (game ∷ games) info = ap (λ (xs : List Side). black_side game ∷ white_side game ∷ xs) (sides_push games info)
 
-pub game_added : (games : List Information) (info : Information) (old between new : List TableRow) → IsSideAdded old (black_side info) between → IsSideAdded between (white_side info) new → IsPlayersTable games old → IsPlayersTable (games ++ info ∷ []) new
+game_added : (games : List Information) (info : Information) (old between new : List TableRow) → IsSideAdded old (black_side info) between → IsSideAdded between (white_side info) new → IsPlayersTable games old → IsPlayersTable (games ++ info ∷ []) new
 game_added games info old between new black white table =
     subst (λ (sides : List Side). ArePlayerRows sides new) (sym (sides_push games info))
     (side_added (sides_of games ++ black_side info ∷ []) between new (white_side info) white (side_added (sides_of games) old between (black_side info) black table))
+
+pub game_rows : (info : Information) (old rows between new : List TableRow) → old ≡ rows → IsSideAdded rows (black_side info) between → IsSideAdded between (white_side info) new → IsGameAdded old info new
+game_rows info old rows between new same black white = record { between = between; black = subst (λ (rs : List TableRow). IsSideAdded rs (black_side info) between) (sym same) black; white = white }
+
+-- the table of a list of games, with one game more
+pub table_more : (games : List Information) (info : Information) (old new : List TableRow) → IsGameAdded old info new → IsPlayersTable games old → IsPlayersTable (games ++ info ∷ []) new
+table_more games info old new added table = game_added games info old added.between new added.black added.white table
 
 -- ---- the number of games of a row, with one side more
 

@@ -3,6 +3,7 @@ pub mod Day
 pub mod Filter
 pub mod Players
 pub mod Rows
+pub mod SidesCounted
 -- Words of private functions.
 pub mod DateParts
 pub mod Seats

@@ -1,5 +1,5 @@
 -- Words of the private functions that keep the players' table.
-use Rattle.std.specs.Prelude.{◌≡◌, ◌≢◌, ℕ, ◌+◌, ◌<◌, Bool, if◌then◌else◌, List, [], ◌∷◌, map, length, Option, Some, None, slice_get}
+use Rattle.std.specs.Prelude.{◌≡◌, ◌≢◌, ℕ, ◌+◌, ◌<◌, Bool, List, [], map, length, Option, Some, None, slice_get}
 use Rattle.std.specs.List.{position_or_len}
 use Rattle.std.specs.Map.{keys_of, lookup}
 use Rattle.std.specs.Str.{bytes_eq}
@@ -7,7 +7,8 @@ use Rattle.std.specs.declared.alloc.Global.{Global}
 use Rattle.std.specs.declared.vec.Vec.{Vec}
 use Rattle.indexmap.specs.IndexMap.{insert_entry}
 use Rattle.indexmap.specs.Layout.{set_value_at}
-use Rattle.info_filter.specs.Players.{Side, TableRow}
+use Rattle.info_filter.specs.Players.{TableRow}
+use Rattle.info_filter.specs.SidesCounted.{one_if}
 use Rattle.info_filter.specs.declared.score.Score.{Score}
 use Rattle.info_filter.specs.declared.seat.Seat.{Seat}
 use Rattle.info_filter.specs.declared.seat.Seat.TheVariants as seat
@@ -27,36 +28,6 @@ row_of e = record { name = e.0.items; games = e.1.games; wins = e.1.wins; losses
 -- the rows of the entries
 abbrev pub table_rows_of : List Entry → List TableRow
 table_rows_of es = map row_of es
-
--- 1 if it is true, else 0
-abbrev pub one_if : Bool → ℕ
-one_if b = if b then 1 else 0
-
--- the row with one side more
-abbrev pub with_side_counted : TableRow → Side → TableRow
-with_side_counted row side = record {
-  name = row.name;
-  games = row.games + 1;
-  wins = row.wins + one_if side.won;
-  losses = row.losses + one_if side.lost;
-}
-
--- a row of this name that counts nothing yet
-abbrev pub new_row : List ℕ → TableRow
-new_row name = record { name = name; games = 0; wins = 0; losses = 0 }
-
--- the rows with one side more, which has a name: it is counted in the row of its name, or gets a
--- new one at the end
-abbrev pub with_side : List TableRow → Side → List TableRow
-with_side [] side = with_side_counted (new_row side.name) side ∷ []
-with_side (row ∷ rows) side =
-    if bytes_eq side.name row.name then with_side_counted row side ∷ rows
-    else row ∷ with_side rows side
-
--- the rows with one side more, which may have no name
-pub record IsSideAdded (old : List TableRow) (side : Side) (new : List TableRow) : Type 0 where
-  pub nameless : side.name ≡ [] → new ≡ old
-  pub named : side.name ≢ [] → new ≡ with_side old side
 
 -- the score with one side more
 pub record IsOneSideMore (won lost : Bool) (old new : Score) : Type 0 where

@@ -2,13 +2,8 @@
 ghost use Rattle.std.specs.Prelude.{◌+◌, ◌<◌, ◌≤◌, ℕ, List, length, All, IfOk};
 ghost use Rattle.indexmap.specs.IndexMap.{spare};
 ghost use Rattle.info_filter.specs.Players.{TableRow};
-ghost use Rattle.info_filter.specs.Seats.{
-  IsCountedAt,
-  IsCountedFor,
-  IsSeat,
-  IsSideAdded,
-  table_rows_of,
-};
+ghost use Rattle.info_filter.specs.Seats.{IsCountedAt, IsCountedFor, IsSeat, table_rows_of};
+ghost use Rattle.info_filter.specs.SidesCounted.{IsSideAdded};
 ghost use Rattle.info_filter.specs.declared.seat.Seat.{Seat};
 
 use crate::score::Score;

@@ -1,5 +1,6 @@
 -- Lists of keys, and what they stand for.
 use Rattle.std.proofs.Common.{◌≡◌, ◌↔◌, ◌⊎◌, ℕ, ◌+◌, ◌*◌, ◌/◌, ◌%◌, ◌<◌, ◌≤◌, inl, inr, List, [], ◌∷◌, ◌++◌, length, get_or, map, take, sym, ap, ◌∙◌, arith, subst, append_assoc}
+use mathlib.Core.List.{IsPrefix}
 use Rattle.std.specs.Prelude.{Contains}
 use Rattle.std.proofs.lemmas.List.{append-nil, get_or-map, length-map, map-append, map_more, take_all}
 use Rattle.std.proofs.lemmas.List.Elements.{Contains-append_cases, Contains-append_left, Contains-append_right, Contains-get_or}
@@ -102,6 +103,10 @@ module _ (placement known : ℕ) (nodes old new : List ℕ) (small : placement <
           (into-new (the_begun o.node placement known) (Contains-append_right (begun_list old) more (the_begun o.node placement known) (more-has o.node in_nodes)))
     ],
   )
+
+-- where keys begin with others, so does what they stand for
+pub begun-kept : (old new : List ℕ) (seen : List Begun) → begun_list old ≡ seen → IsPrefix old new → IsPrefix seen (begun_list new)
+begun-kept old new seen view (more, is) = (begun_list more, ap (λ (bs : List Begun). bs ++ begun_list more) (sym view) ∙ sym (map-append begun_of old more) ∙ ap begun_list is)
 
 -- ---- lists that are made one by one
 module _ {X Y : Type 0} (f : X → Y) (old : List Y) (xs : List X) where

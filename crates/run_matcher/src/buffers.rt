@@ -1,4 +1,6 @@
 // Lists that are kept from placement to placement.
+ghost use Rattle.std.specs.Prelude.{◌≡◌, []};
+
 use capture_index::Stretch;
 use std::alloc::Global;
 
@@ -16,7 +18,11 @@ pub struct Buffers {
 
 impl Buffers {
     /// Empty lists.
-    pub fn new(alloc: Global) -> Buffers {
+    pub fn new(alloc: Global) -> Buffers
+        ensures found { result.found.items ≡ [] }
+        ensures spare { result.spare.items ≡ [] }
+        ensures nodes { result.nodes.items ≡ [] }
+    {
         Buffers {
             found: Vec::new(alloc),
             spare: Vec::new(alloc),

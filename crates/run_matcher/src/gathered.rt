@@ -14,6 +14,7 @@ ghost use Rattle.std.specs.Prelude.{
   List,
   OnOk,
 };
+ghost use mathlib.Core.List.{IsPrefix};
 ghost use Rattle.capture_board.specs.Deltas.{AreDeltas, Deltas};
 ghost use Rattle.pattern_images.specs.Placements.{Placement};
 ghost use Rattle.line_matcher.specs.declared.occurrence.Occurrence.{Occurrence};
@@ -82,7 +83,8 @@ impl Gathered {
     /// Adds the occurrences of a placement: the nodes at which it begins to hold. Where
     /// `RunIndex::find` tells one stretch of nodes, the placement is known to hold to its end; where it
     /// tells several, nothing is known. The runs are those of a game on a board of the images' shape.
-    /// What is in the buffers doesn't count. The only error is `NoMemory`.
+    /// What is in the buffers doesn't count. The only error is `NoMemory`. After it too the list begins
+    /// with what was in it before.
     pub fn add(
         &mut self,
         runs: &RunIndex,
@@ -98,6 +100,7 @@ impl Gathered {
         ensures known { OnOk result ((deltas : Deltas) → AreDeltas deltas →
             runs.now ≡ positions_of deltas → (b : Begun) → Contains self.new b →
             Contains self.old b ⊎ GoesOnToHold deltas sought.now.images.now.placements b) }
+        ensures kept { IsPrefix self.old self.new }
     {
         runs.find(
             sought.base,
@@ -128,6 +131,7 @@ impl Gathered {
             ⊎ ((o.placement ≡ placement) × BeginsIn runs.now stretches.now o.node))) }
         ensures known { OnOk result ((b : Begun) → Contains self.new b →
             Contains self.old b ⊎ IsKnownIn stretches.now placement b) }
+        ensures kept { IsPrefix self.old self.new }
     {
         let _few = runs.node_count();
         nodes.clear();

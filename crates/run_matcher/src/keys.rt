@@ -18,6 +18,7 @@ ghost use Rattle.std.specs.Prelude.{
   map,
 };
 ghost use Rattle.std.specs.Ordering.{nat_cmp};
+ghost use mathlib.Core.List.{IsPrefix};
 ghost use Rattle.line_matcher.specs.Occurrences.{StandsBefore};
 ghost use Rattle.run_matcher.specs.GoingOn.{occurrences_of};
 ghost use Rattle.run_matcher.specs.Keys.{begun_of, key_of};
@@ -43,8 +44,9 @@ pub(crate) fn push_keys(
     requires nodes { All (λ n. n < 65536) nodes.now }
     requires placement { placement < 65536 }
     requires known { known ≤ 65536 }
-    ensures { OnOk result (keys.new.items ≡ keys.old.items
+    ensures added { OnOk result (keys.new.items ≡ keys.old.items
         ++ map (key_of placement known) nodes.now) }
+    ensures kept { IsPrefix keys.old.items keys.new.items }
 {
     for node in nodes {
         keys.push(key(*node, placement, known))?;

@@ -9,7 +9,7 @@ use Rattle.game_tree.specs.Tree.{IsTree, node_count}
 use Rattle.node_position.specs.Games.{Game}
 use Rattle.pattern_images.specs.declared.query.Query.{Query}
 use Rattle.search_engine.specs.KeptGames.{AreKept, HaveKeptNodes, IsKeptGame}
-use Rattle.search_engine.specs.Nodes.{nodes_of}
+use Rattle.segment_store.specs.Nodes.{nodes_of}
 use Rattle.search_engine.proofs.ToldKept.{told_kept_game}
 
 module _ (query : Query) where

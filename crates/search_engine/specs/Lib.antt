@@ -1,7 +1,6 @@
 -- Words that contracts of public functions rest on.
 pub mod Hits
 pub mod KeptGames
-pub mod Nodes
 pub mod Numbered
 pub mod Triples
 -- Words of private functions.

@@ -12,7 +12,7 @@ ghost use Rattle.search_engine.specs.KeptGames.{
   HaveKeptNodes,
   IsKeptGame,
 };
-ghost use Rattle.search_engine.specs.Nodes.{nodes_of};
+ghost use Rattle.segment_store.specs.Nodes.{nodes_of};
 ghost use Rattle.search_engine.specs.Triples.{AreHitsOfAllTriples};
 
 /// The hits of a search are exactly the triples of a game, a node and a placement where the filter accepts

@@ -5,7 +5,7 @@ use Rattle.std.specs.List.{slice_get}
 use Rattle.std.specs.Option.{IsSomeAnd}
 use Rattle.std.proofs.lemmas.Bool.{cases_lt}
 use Rattle.std.proofs.lemmas.List.{map-append, take-append-drop}
-use Rattle.corner_index.specs.CornerGames.{Entry, HaveGamesBelow, IsIndexOf, IsJoined}
+use Rattle.corner_index.specs.CornerGames.{Entry, HaveGamesBelow, IsIndexOf, IsIndexOfBoth}
 use Rattle.capture_board.specs.Deltas.{Deltas}
 use Rattle.node_position.specs.Games.{AreNodeChanges, Game}
 use Rattle.segment_store.specs.CornersOfGames.{AreCornersOfGames}
@@ -57,7 +57,7 @@ module _ (game : Game) (changes : Deltas) (keys : List (List ℕ)) (index : List
   )
 
 module _ (one other : List Game) (a b : List (List Entry)) (of_one : AreCornersOfGames one a) (of_other : AreCornersOfGames other b) where
-  pub AreCornersOfGames-joined : (joined : List (List Entry)) (first : ℕ) → first ≡ length one → IsJoined a b first joined → AreCornersOfGames (one ++ other) joined
+  pub AreCornersOfGames-joined : (joined : List (List Entry)) (first : ℕ) → first ≡ length one → IsIndexOfBoth a b first joined → AreCornersOfGames (one ++ other) joined
   AreCornersOfGames-joined joined first long are corner lt key g = (
     λ there. elim ((are corner lt key g).0 there) [
       | inl of_a ↦

@@ -3,4 +3,5 @@ pub mod Blocks
 pub mod BoardShapes
 pub mod CornersOfGames
 pub mod Finished
+pub mod Nodes
 pub mod Planes

@@ -5,18 +5,18 @@ use Rattle.std.proofs.lemmas.List.Sums.{sum_by-append}
 use Rattle.game_tree.specs.Tree.{node_count}
 use Rattle.node_position.specs.Games.{Game}
 use Rattle.import_work.specs.Course.{trees_in}
-use Rattle.import_work.specs.Outcome.{nodes_of}
+use Rattle.import_work.specs.Outcome.{nodes_of_trees}
 use Rattle.serial_run.proofs.RunLemmas.{taken_more}
 
 module _ {X : Type 0} (now : X → Game) where
   -- the nodes of these games
   abbrev nodes : List X → ℕ
-  nodes games = nodes_of (trees_in (map now games))
+  nodes games = nodes_of_trees (trees_in (map now games))
 
   nodes-append : (games more : List X) → nodes (games ++ more) ≡ nodes games + nodes more
   nodes-append games more =
-      ap (λ gs. nodes_of (trees_in gs)) (map-append now games more)
-      ∙ ap nodes_of (map-append (λ (g : Game). g.tree) (map now games) (map now more))
+      ap (λ gs. nodes_of_trees (trees_in gs)) (map-append now games more)
+      ∙ ap nodes_of_trees (map-append (λ (g : Game). g.tree) (map now games) (map now more))
       ∙ sum_by-append node_count (trees_in (map now games)) (trees_in (map now more))
 
   -- with one game more

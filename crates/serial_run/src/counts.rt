@@ -2,7 +2,7 @@
 ghost use Rattle.std.specs.Prelude.{◌≡◌, ◌≤◌, IfOk, map};
 ghost use Rattle.version_publisher.specs.Contents.{items_in};
 ghost use Rattle.import_work.specs.Course.{trees_in};
-ghost use Rattle.import_work.specs.Outcome.{counts_of, nodes_of};
+ghost use Rattle.import_work.specs.Outcome.{counts_of, nodes_of_trees};
 ghost use Rattle.import_work.specs.Rooms.{AreWithinLimits};
 
 use import_work::Counts;
@@ -26,8 +26,8 @@ pub(crate) fn counts_in(alloc: Global, version: &Version<Segment>) -> Result<Cou
 
 // The nodes of games, not more than a base may have.
 fn node_count(games: &[&FinishedGame]) -> u32
-    requires { nodes_of (trees_in (map (λ g. g.now) games.now)) ≤ 67108864 }
-    ensures { result ≡ nodes_of (trees_in (map (λ g. g.now) games.now)) }
+    requires { nodes_of_trees (trees_in (map (λ g. g.now) games.now)) ≤ 67108864 }
+    ensures { result ≡ nodes_of_trees (trees_in (map (λ g. g.now) games.now)) }
 {
     let mut nodes = 0;
     for game in games {

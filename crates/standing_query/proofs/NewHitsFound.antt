@@ -8,7 +8,7 @@ use Rattle.std.proofs.lemmas.List.Sums.{sum_by-append}
 use Rattle.game_tree.specs.Tree.{IsTree, node_count}
 use Rattle.node_position.specs.Games.{Game}
 use Rattle.pattern_images.specs.declared.hit.Hit.{Hit}
-use Rattle.standing_query.specs.Nodes.{nodes_of}
+use Rattle.segment_store.specs.Nodes.{nodes_of}
 use Rattle.standing_query.specs.Finding.{AreSame, GoesByParts, HasList, HasOneList}
 use Rattle.standing_query.specs.NewGames.{AreFoundTo}
 

@@ -2,7 +2,7 @@
 ghost use Rattle.std.specs.Prelude.{◌+◌, ◌≤◌, ℕ, IfOk, List, drop, length};
 ghost use Rattle.node_position.specs.Games.{Game};
 ghost use Rattle.pattern_images.specs.declared.hit.Hit.{Hit};
-ghost use Rattle.standing_query.specs.Nodes.{nodes_of};
+ghost use Rattle.segment_store.specs.Nodes.{nodes_of};
 ghost use Rattle.standing_query.specs.Finding.{AreSame, GoesByParts, HasList, HasOneList};
 
 use capture_board::Steps;

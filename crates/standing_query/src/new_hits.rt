@@ -13,7 +13,7 @@ ghost use Rattle.std.specs.Prelude.{
 };
 ghost use Rattle.node_position.specs.Games.{Game};
 ghost use Rattle.version_publisher.specs.Contents.{items_in};
-ghost use Rattle.standing_query.specs.Nodes.{nodes_of};
+ghost use Rattle.segment_store.specs.Nodes.{nodes_of};
 ghost use Rattle.standing_query.specs.Finding.{AreSame};
 ghost use Rattle.standing_query.specs.NewGames.{AreFoundTo};
 

@@ -12,7 +12,7 @@ ghost use Rattle.std.specs.Prelude.{
   take,
 };
 ghost use Rattle.version_publisher.specs.Contents.{items_in};
-ghost use Rattle.standing_query.specs.Nodes.{nodes_of};
+ghost use Rattle.segment_store.specs.Nodes.{nodes_of};
 ghost use Rattle.standing_query.specs.Finding.{AreSame};
 
 use crate::finder::Finder;

@@ -1,5 +1,6 @@
 use Rattle.std.proofs.Common.{◌≡◌, ℕ, ◌+◌, ◌<◌, ◌≤◌, List, bit_and, length, refl, sym, ap, ◌∙◌, subst, arith}
 use Rattle.std.specs.Prelude.{All, slice_range}
+use Rattle.kb_geometry.proofs.Prefixes.{refused_behind}
 use Rattle.pattern_images.specs.ImageList.{grid_at}
 use Rattle.capture_index.specs.Wants.{AreWantsOf, ClassesOn}
 use Rattle.final_index.proofs.KeptBits.{and-bit}
@@ -56,7 +57,7 @@ loop-row-preserved c =
     let same : row_at rows index ≡ row = ap (λ (rs : List PlacementRow). row_at rs index) (sym c.deref-row-items.ensures.value) in
     let start : c.loop-row.invariant.0 ≡ row.start = end-once rows index c.loop-row.invariant.0 (row_at rows index).start c.loop-row.invariant.1 (made.are_rows.parted index within) ∙ ap (λ (r : PlacementRow). r.start) same in
     let added = subst (λ (ns : List ℕ). IsRowAdded planes.games row.base c.of_class.result.wants.now there (slice_range ns row.start (row.start + row.count)) c.loop-row.found.items c.sieve_row.new.found.items)
-    c.deref.ensures.value c.in_ok-sieve_row.ensures in (
+    c.deref.ensures.value c.in_ok-sieve_row.ensures.ok in (
       row.start + row.count,
       end-of rows index (row.start + row.count) (ap (λ (r : PlacementRow). r.start + r.count) (sym same)),
       row-added images c.len-count.ensures.images planes c.requires.shape numbers made.in_range row (subst (IsRowIn images numbers) same (made.are_rows.each index within)) c.of_class.result.wants.now
@@ -66,8 +67,8 @@ loop-row-preserved c =
           (subst (λ (n : ℕ). AreAddedTo planes images.placements there numbers n c.args.found.now.items c.loop-row.found.items) start c.loop-row.invariant.2) added,
     )
 
-pub returns : goal.returns
-returns c =
+pub returns-clause-ok : goal.returns-clause-ok
+returns-clause-ok c =
     let made = c.args.rows.now.made in
     let images = c.args.rows.now.images.now in
     let numbers = c.args.rows.now.numbers.items in
@@ -76,3 +77,6 @@ returns c =
     let whole = end-once rows (length rows) c.loop-row.invariant.0 (length numbers) (subst (λ (r : ℕ). EndAt rows r c.loop-row.invariant.0) all c.loop-row.invariant.1) made.are_rows.whole in
     added-end c.args.planes.now images.placements (bit_and c.args.asked c.present.result) numbers c.args.found.now.items c.args.asked c.present.result c.loop-row.found.items refl c.present.ensures made.in_range (number-found images numbers rows made)
     (subst (λ (n : ℕ). AreAddedTo c.args.planes.now images.placements (bit_and c.args.asked c.present.result) numbers n c.args.found.now.items c.loop-row.found.items) whole c.loop-row.invariant.2)
+
+pub returns-in_err-sieve_row-clause-refused : goal.returns-in_err-sieve_row-clause-refused
+returns-in_err-sieve_row-clause-refused c = refused_behind c.from_residual.result c.args.found.now.items c.loop-row.invariant.2.more c.loop-row.invariant.2.added c.in_err-sieve_row.ensures.refused

@@ -17,6 +17,6 @@ returns c =
     let query = c.args.matchers.now.query in
     let matcher = c.in-Some.matcher.now in
     let are = subst (λ (s : Shape). ArePlacements query s matcher.images.now.placements) c.shape.ensures c.in-Some.ensures.placements in
-    OnOk-then c.add_candidates.result c.add_candidates.ensures
+    OnOk-then c.add_candidates.result c.add_candidates.ensures.ok
     (AreAddedOn-found query c.args.matchers.now.shapes c.args.planes.now c.args.asked c.args.found.now.items c.add_candidates.new.found.items matcher.rows.images.now.placements
     (subst (λ (i : ImageList). ArePlacements query c.args.planes.now.shape i.placements) (sym matcher.in_rows) are))

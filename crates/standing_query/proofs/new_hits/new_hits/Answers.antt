@@ -5,7 +5,7 @@ use Rattle.node_position.specs.Games.{Game}
 use Rattle.pattern_images.specs.declared.hit.Hit.{Hit}
 use Rattle.version_publisher.specs.Contents.{items_in}
 use Rattle.standing_query.specs.NewGames.{AreFoundTo}
-use Rattle.standing_query.specs.Nodes.{nodes_of}
+use Rattle.segment_store.specs.Nodes.{nodes_of}
 use Rattle.standing_query.proofs.NewHitsFound.{found-nothing, nodes-both, nodes-front, same-back, same-self, same-then, to-same, to-start}
 use Rattle.standing_query.proofs.VersionParts.{items-cut, items-fit, items-more}
 use Rattle.standing_query.proofs.new_hits.new_hits.Goals as goal

@@ -3,7 +3,7 @@ use Rattle.std.specs.Arc.{arc_value}
 use Rattle.version_publisher.specs.Contents.{items_in}
 use Rattle.standing_query.specs.Finding.{AreSame}
 use Rattle.standing_query.specs.NewGames.{AreFoundTo}
-use Rattle.standing_query.specs.Nodes.{nodes_of}
+use Rattle.segment_store.specs.Nodes.{nodes_of}
 use Rattle.standing_query.proofs.new_hits.new_hits.Given as goal
 
 abbrev pub invariant-loop-part : goal.invariant-loop-part

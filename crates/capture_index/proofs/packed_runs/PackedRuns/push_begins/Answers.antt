@@ -7,5 +7,5 @@ use Rattle.capture_index.proofs.packed_runs.PackedRuns.push_begins.Goals as goal
 pub push_begins-requires-clause-ascending : goal.push_begins-requires-clause-ascending
 push_begins-requires-clause-ascending c = subst (λ (bs : List Branch). AreAscending bs) (sym c.branches.ensures) c.args.self.now.ascending
 
-pub returns : goal.returns
-returns c = subst (λ (bs : List Branch). HasBegun bs c.args.stretches.now c.args.nodes.now.items c.push_begins.new.nodes.items) c.branches.ensures c.in_ok-push_begins.ensures
+pub returns-clause-begun : goal.returns-clause-begun
+returns-clause-begun c = subst (λ (bs : List Branch). HasBegun bs c.args.stretches.now c.args.nodes.now.items c.push_begins.new.nodes.items) c.branches.ensures c.in_ok-push_begins.ensures.begun

@@ -5,5 +5,5 @@ use Rattle.capture_index.proofs.run_index.RunIndex.push_begins.Goals as goal
 pub push_begins-requires : goal.push_begins-requires
 push_begins-requires c = falling-apart _ c.args.stretches.now c.requires
 
-pub returns : goal.returns
-returns c = begun-seen c.self.inside.packed c.args.self.now c.self.view_is c.args.stretches.now c.args.nodes.now.items c.push_begins.new.nodes.items c.requires c.in_ok-push_begins.ensures
+pub returns-clause-begun : goal.returns-clause-begun
+returns-clause-begun c = begun-seen c.self.inside.packed c.args.self.now c.self.view_is c.args.stretches.now c.args.nodes.now.items c.push_begins.new.nodes.items c.requires c.in_ok-push_begins.ensures.begun

@@ -1,5 +1,5 @@
 use Rattle.std.proofs.Common.{◌-◌, List, [], ◌∷◌, sym, subst, arith}
-use Rattle.corner_index.specs.CornerGames.{AreJoined, Entry, HaveGamesBelow, IsJoined, entries_in}
+use Rattle.corner_index.specs.CornerGames.{AreEntriesOfBoth, Entry, HaveGamesBelow, IsIndexOfBoth, entries_in}
 use Rattle.corner_index.proofs.CornerLists.{IsIndexOf-joined, four}
 use Rattle.corner_index.proofs.corner_index.CornerIndex.join.Goals as goal
 
@@ -30,12 +30,12 @@ join-requires-4-clause-fits c = subst (λ (index : List (List Entry)). HaveGames
 abbrev lists : goal.In_ok-join-4 → List (List Entry)
 lists c = c.in_ok-join.field-0 ∷ c.in_ok-join-2.field-0 ∷ c.in_ok-join-3.field-0 ∷ c.in_ok-join-4.field-0 ∷ []
 
-all_joined : (c : goal.In_ok-join-4) → IsJoined c.args.a.now c.args.b.now c.args.first (lists c)
+all_joined : (c : goal.In_ok-join-4) → IsIndexOfBoth c.args.a.now c.args.b.now c.args.first (lists c)
 all_joined c =
     let a : List (List Entry) = c.a.inside.upper_left ∷ c.a.inside.upper_right ∷ c.a.inside.lower_left ∷ c.a.inside.lower_right ∷ [] in
     let b : List (List Entry) = c.b.inside.upper_left ∷ c.b.inside.upper_right ∷ c.b.inside.lower_left ∷ c.b.inside.lower_right ∷ [] in
-    let are : IsJoined a b c.args.first (lists c) = four (λ corner es. AreJoined (entries_in a corner) (entries_in b corner) c.args.first es) _ _ _ _ c.in_ok-join.ensures c.in_ok-join-2.ensures c.in_ok-join-3.ensures c.in_ok-join-4.ensures in
-    subst (λ (index : List (List Entry)). IsJoined index c.args.b.now c.args.first (lists c)) c.a.view_is (subst (λ (index : List (List Entry)). IsJoined a index c.args.first (lists c)) c.b.view_is are)
+    let are : IsIndexOfBoth a b c.args.first (lists c) = four (λ corner es. AreEntriesOfBoth (entries_in a corner) (entries_in b corner) c.args.first es) _ _ _ _ c.in_ok-join.ensures c.in_ok-join-2.ensures c.in_ok-join-3.ensures c.in_ok-join-4.ensures in
+    subst (λ (index : List (List Entry)). IsIndexOfBoth index c.args.b.now c.args.first (lists c)) c.a.view_is (subst (λ (index : List (List Entry)). IsIndexOfBoth a index c.args.first (lists c)) c.b.view_is are)
 
 pub returns-clause-joined : goal.returns-clause-joined
 returns-clause-joined c = all_joined c

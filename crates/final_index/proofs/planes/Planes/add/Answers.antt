@@ -2,7 +2,7 @@ use Rattle.std.proofs.Common.{Some, length, sym, ap, ◌∙◌}
 use Rattle.std.proofs.lemmas.List.{with_items_is}
 use Rattle.kb_geometry.specs.Board.{point_count}
 use Rattle.final_index.specs.Planes.{PlaneGames}
-use Rattle.final_index.proofs.GamesOfWords.{ArePlaneWords-added, ascend-all, count-few, games_in-added, push-seen}
+use Rattle.final_index.proofs.GamesOfWords.{ArePlaneWords-added, ascend-all, count-few, games_of_words-added, push-seen}
 use Rattle.final_index.proofs.planes.Planes.add.Goals as goal
 
 pub note_sets-requires-clause-few : goal.note_sets-requires-clause-few
@@ -28,6 +28,6 @@ returns c =
     let is = with_items_is c.self.inside.words c.note_sets.new.words (c.note_sets.ensures.room ∙ ap length c.deref_mut.ensures.value ∙ sym c.self.inside.words.ok.0) in
     let shape = ap (λ (p : PlaneGames). p.shape) c.self.view_is in
     rw is (push-seen c.self.inside.shape (point_count c.self.inside.shape) c.self.inside.present c.self.inside.words.items c.self.inside.count c.args.self.now c.self.view_is (Some c.args.sets.now) _
-    (games_in-added (point_count c.self.inside.shape) c.self.inside.count c.self.inside.present c.self.inside.words.items c.self.invariant few c.args.sets.now
+    (games_of_words-added (point_count c.self.inside.shape) c.self.inside.count c.self.inside.present c.self.inside.words.items c.self.invariant few c.args.sets.now
     (ascend-all c.args.sets.now c.members_ascend.ensures.ascending c.members_ascend-2.ensures.ascending c.members_ascend-3.ensures.ascending)
     (rw shape c.requires.on_board) c.note_sets.new.words (rw c.count-points.ensures.value at (rw c.deref_mut.ensures.value at c.note_sets.ensures))))

@@ -1,7 +1,7 @@
 use Rattle.std.proofs.Common.{ℕ, List, length, arith, sym, ap, ◌∙◌, subst₂}
 use Rattle.kb_geometry.specs.Board.{point_count}
-use Rattle.final_index.specs.PlaneWords.{AreJoined}
-use Rattle.final_index.proofs.GamesOfWords.{ArePlaneWords-joined, count-both, games_in-joined, join-seen, same-shape}
+use Rattle.final_index.specs.PlaneWords.{HaveBitsOfBoth}
+use Rattle.final_index.proofs.GamesOfWords.{ArePlaneWords-joined, count-both, games_of_words-joined, join-seen, same-shape}
 use Rattle.final_index.proofs.planes.Planes.join.Goals as goal
 
 pub joined_words-requires-clause-room : goal.joined_words-requires-clause-room
@@ -24,7 +24,7 @@ invariant_of-result c =
     c.b.inside.shape (point_count c.b.inside.shape) c.b.inside.present c.b.inside.words.items c.b.inside.count c.args.b.now c.b.view_is c.requires.same in
     ArePlaneWords-joined (point_count c.a.inside.shape) c.a.inside.count c.a.inside.present c.a.inside.words.items c.a.invariant
     c.b.inside.count c.b.inside.present c.b.inside.words.items (rw same c.b.invariant) few c.joined.result c.joined.ensures c.in_ok-words.words.items
-    (subst₂ (λ (xs ys : List ℕ). AreJoined xs ys c.a.inside.count c.in_ok-words.words.items) c.as_slice.ensures.value c.as_slice-2.ensures.value c.in_ok-words.ensures.words)
+    (subst₂ (λ (xs ys : List ℕ). HaveBitsOfBoth xs ys c.a.inside.count c.in_ok-words.words.items) c.as_slice.ensures.value c.as_slice-2.ensures.value c.in_ok-words.ensures.words)
     (c.in_ok-words.ensures.count ∙ ap length c.as_slice.ensures.value)
 
 pub returns : goal.returns
@@ -35,7 +35,7 @@ returns c =
     c.b.inside.shape (point_count c.b.inside.shape) c.b.inside.present c.b.inside.words.items c.b.inside.count c.args.b.now c.b.view_is c.requires.same in
     join-seen c.a.inside.shape (point_count c.a.inside.shape) c.a.inside.present c.a.inside.words.items c.a.inside.count c.args.a.now c.a.view_is
     c.b.inside.shape (point_count c.b.inside.shape) c.b.inside.present c.b.inside.words.items c.b.inside.count c.args.b.now c.b.view_is _
-    (rw (sym (ap point_count same)) (games_in-joined (point_count c.a.inside.shape) c.a.inside.count c.a.inside.present c.a.inside.words.items c.a.invariant
+    (rw (sym (ap point_count same)) (games_of_words-joined (point_count c.a.inside.shape) c.a.inside.count c.a.inside.present c.a.inside.words.items c.a.invariant
     c.b.inside.count c.b.inside.present c.b.inside.words.items (rw same c.b.invariant) few c.joined.result c.joined.ensures c.in_ok-words.words.items
-    (subst₂ (λ (xs ys : List ℕ). AreJoined xs ys c.a.inside.count c.in_ok-words.words.items) c.as_slice.ensures.value c.as_slice-2.ensures.value c.in_ok-words.ensures.words)
+    (subst₂ (λ (xs ys : List ℕ). HaveBitsOfBoth xs ys c.a.inside.count c.in_ok-words.words.items) c.as_slice.ensures.value c.as_slice-2.ensures.value c.in_ok-words.ensures.words)
     (c.in_ok-words.ensures.count ∙ ap length c.as_slice.ensures.value)))
