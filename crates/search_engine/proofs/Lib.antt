@@ -26,6 +26,7 @@ mod BlocksSearched
 mod SameShapes
 mod ShapeNumbers
 mod ShapesSought
+mod StepsTaken
 mod VersionGames
 pub mod WhereFound
 pub mod HitParts

@@ -52,28 +52,28 @@ pub fn search<R: Threads + Sync>(
 /// The hits of a query in the games of one part that a filter accepts. The games are numbered from
 /// `first`.
 ///
-/// Together at most 400,000 games are numbered. No node is entered, so the count of steps stays,
-/// which may grow by the number of all nodes of the games that are kept for the query. The only
-/// error is `NoMemory`.
+/// Together at most 400,000 games are numbered. A step is one node at which a placement begins to
+/// hold and to which the search goes. The count of steps only grows, by at most the number of all
+/// nodes of the games that are kept for the query. The only error is `NoMemory`.
 pub fn search_segment<L: Ledger>(
     alloc: Global,
     part: &Segment,
     first: u32,
     query: &Query,
     filter: &Filter,
-    _steps: &mut Steps<L>,
+    steps: &mut Steps<L>,
 ) -> Result<Vec<Hit>, NoMemory>
     requires { first + length part.now ≤ 400000 }
     ensures hits { IfOk result (λ hits.
         AreHitsFrom first query.now filter.now part.now hits.items) }
-    ensures ticks { (n : ℕ) → HaveKeptNodes query.now part.now n → _steps.new ≤ _steps.old + n }
-    ensures grows { _steps.old ≤ _steps.new }
+    ensures ticks { (n : ℕ) → HaveKeptNodes query.now part.now n → steps.new ≤ steps.old + n }
+    ensures grows { steps.old ≤ steps.new }
 {
     let items = items_of_part(alloc, part, first)?;
     let shapes = shapes_of(alloc, query, &items)?;
     let images = QueryImages::of(alloc, query, shapes)?;
     let matchers = Matchers::of(alloc, &images)?;
     let mut hits = Vec::new(alloc);
-    add_items_hits(alloc, &matchers, filter, &items, &mut hits)?;
+    add_items_hits(alloc, &matchers, filter, &items, &mut hits, steps)?;
     Ok(hits)
 }

@@ -2,14 +2,21 @@ use Rattle.std.proofs.Common.{◌≡◌, arith, subst}
 use Rattle.std.specs.Int.{bit_at}
 use Rattle.std.proofs.lemmas.Nat.Bits.{bit_at-zero}
 use Rattle.search_engine.proofs.GamesSearched.{AreHitsFrom-refused}
+use Rattle.search_engine.proofs.StepsTaken.{AreStepsIn-none}
 use Rattle.search_engine.proofs.search_items.add_block.Goals as goal
 
-pub returns-then-accepted-eq0 : goal.returns-then-accepted-eq0
-returns-then-accepted-eq0 c covered =
+pub returns-then-accepted-eq0-clause-hits : goal.returns-then-accepted-eq0-clause-hits
+returns-then-accepted-eq0-clause-hits g c covered =
     AreHitsFrom-refused c.args.item.now.first c.args.matchers.now.query c.args.filter.now c.args.hits.now.items c.args.item.now.block.now
     (λ k game at accepts.
     let bit = (c.accepted_games-accepted.ensures k game at).1 accepts in
     absurd (omega (arith, bit_at-zero k, subst (λ word. bit_at word k ≡ 1) c.if-accepted-eq0.true bit)))
 
 pub add_found-requires-clause-gathered : goal.add_found-requires-clause-gathered
-add_found-requires-clause-gathered c = c.in_ok-gather.ensures.gathered c.args.filter.now c.accepted_games-accepted.ensures
+add_found-requires-clause-gathered g c = c.in_ok-gather.ensures.gathered c.args.filter.now c.accepted_games-accepted.ensures
+
+pub returns-then-accepted-eq0-clause-steps : goal.returns-then-accepted-eq0-clause-steps
+returns-then-accepted-eq0-clause-steps g c = AreStepsIn-none c.args.matchers.now.query c.args.item.now.block.now c.args.steps.now
+
+pub returns-in_err-gather-clause-steps : goal.returns-in_err-gather-clause-steps
+returns-in_err-gather-clause-steps g c = AreStepsIn-none c.args.matchers.now.query c.args.item.now.block.now c.args.steps.now

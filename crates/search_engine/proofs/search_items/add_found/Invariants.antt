@@ -4,11 +4,13 @@ use Rattle.node_position.specs.Games.{Game}
 use Rattle.search_engine.specs.Gathering.{GoOnIn, HasOccurrences, begun_at, gathered_of}
 use Rattle.search_engine.specs.Hits.{AreHitsFrom}
 use Rattle.search_engine.specs.Searching.{AreCovered, AreHitsAdded}
+use Rattle.search_engine.specs.StepBounds.{AreStepsIn}
 use Rattle.search_engine.proofs.search_items.add_found.Given as goal
 
 abbrev pub invariant-loop-at : goal.invariant-loop-at
-invariant-loop-at l = record {
+invariant-loop-at g l = record {
   rest : (g : ℕ) (game : Game) → l.at ≤ g → slice_get l.item.block.now g ≡ Some game → HasOccurrences l.matchers.query l.filter l.matchers.shapes game.tree (gathered_of l.gathered g);
   known : (g : ℕ) (game : Game) → l.at ≤ g → slice_get l.item.block.now g ≡ Some game → GoOnIn l.matchers.query game.tree (begun_at l.gathered g);
   hits : AreCovered l.matchers.query l.matchers.shapes l.item.block.now → AreHitsAdded (AreHitsFrom l.item.first l.matchers.query l.filter (take l.at l.item.block.now)) l.fn.hits.items l.hits.items;
+  steps : AreStepsIn l.matchers.query (take l.at l.item.block.now) l.fn.steps l.steps;
 }
