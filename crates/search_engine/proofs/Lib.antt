@@ -1,4 +1,5 @@
 mod AddedHits
+mod CutLists
 mod FoundHits
 mod FoundCandidates
 mod GameBits

@@ -5,6 +5,7 @@ ghost use Rattle.std.specs.Prelude.{
   ◌<◌,
   ◌≤◌,
   ◌+◌,
+  ◌-◌,
   ◌∷◌,
   [],
   ℕ,
@@ -29,7 +30,7 @@ ghost use Rattle.search_engine.specs.Gathering.{
   gathered_of,
 };
 ghost use Rattle.search_engine.specs.Hits.{AreGameHits, AreHitsFrom};
-ghost use Rattle.search_engine.specs.Items.{games_of};
+ghost use Rattle.search_engine.specs.Items.{games_in, games_of};
 ghost use Rattle.search_engine.specs.Searching.{
   AreCovered,
   AreHitsAdded,
@@ -88,7 +89,8 @@ pub(crate) fn add_items_hits<L: Ledger>(
     Ok(())
 }
 
-// Adds the hits of the games of a block. Where the filter accepts none, nothing more is done.
+// Adds the hits of the games of a block that aren't left out. Where the filter accepts none of them,
+// nothing more is done.
 fn add_block<L: Ledger>(
     alloc: Global,
     matchers: &Matchers,
@@ -99,12 +101,12 @@ fn add_block<L: Ledger>(
     steps: &mut Steps<L>,
 ) -> Result<(), NoMemory>
     ensures hits { OnOk result
-        (AreCovered matchers.now.query matchers.now.shapes item.now.block.now → AreHitsAdded
-        (AreHitsFrom item.now.first matchers.now.query filter.now item.now.block.now)
+        (AreCovered matchers.now.query matchers.now.shapes (games_in item.now) → AreHitsAdded
+        (AreHitsFrom item.now.first matchers.now.query filter.now (games_in item.now))
         hits.old.items hits.new.items) }
-    ensures steps { AreStepsIn matchers.now.query item.now.block.now steps.old steps.new }
+    ensures steps { AreStepsIn matchers.now.query (games_in item.now) steps.old steps.new }
 {
-    let accepted = accepted_games(filter, item.block);
+    let accepted = accepted_games(filter, item.block, item.skip);
     if accepted == 0 {
         return Ok(());
     }
@@ -120,7 +122,7 @@ fn add_block<L: Ledger>(
     add_found(alloc, matchers, filter, item, gathered, hits, steps)
 }
 
-// Adds the hits of the games of a block, of which the occurrences were gathered.
+// Adds the hits of the games of a block that aren't left out, of which the occurrences were gathered.
 fn add_found<L: Ledger>(
     alloc: Global,
     matchers: &Matchers,
@@ -131,15 +133,15 @@ fn add_found<L: Ledger>(
     steps: &mut Steps<L>,
 ) -> Result<(), NoMemory>
     requires gathered { HaveOccurrences matchers.now.query filter.now matchers.now.shapes
-        item.now.block.now gathered.old }
+        item.now.skip item.now.block.now gathered.old }
     requires known { AllGoOn matchers.now.query item.now.block.now gathered.old }
     ensures hits { OnOk result
-        (AreCovered matchers.now.query matchers.now.shapes item.now.block.now → AreHitsAdded
-        (AreHitsFrom item.now.first matchers.now.query filter.now item.now.block.now)
+        (AreCovered matchers.now.query matchers.now.shapes (games_in item.now) → AreHitsAdded
+        (AreHitsFrom item.now.first matchers.now.query filter.now (games_in item.now))
         hits.old.items hits.new.items) }
-    ensures steps { AreStepsIn matchers.now.query item.now.block.now steps.old steps.new }
+    ensures steps { AreStepsIn matchers.now.query (games_in item.now) steps.old steps.new }
 {
-    for at in 0..item.block.len() {
+    for at in item.skip..item.block.len() {
         add_one(alloc, matchers, filter, item, at, gathered, hits, steps)?;
     }
     Ok(())
@@ -158,6 +160,7 @@ fn add_one<L: Ledger>(
     steps: &mut Steps<L>,
 ) -> Result<(), NoMemory>
     requires at { at < length item.now.block.now }
+    requires asked { item.now.skip ≤ at }
     requires gathered { (game : Game) → slice_get item.now.block.now at ≡ Some game →
         HasOccurrences matchers.now.query _filter.now matchers.now.shapes game.tree
         (gathered_of gathered.old at) }
@@ -166,7 +169,8 @@ fn add_one<L: Ledger>(
     ensures hits { OnOk result ((game : Game) → slice_get item.now.block.now at ≡ Some game →
         IsCovered matchers.now.query matchers.now.shapes game.tree.shape →
         AreHitsAdded
-        (AreGameHits matchers.now.query _filter.now (item.now.first + at) game.tree)
+        (AreGameHits matchers.now.query _filter.now (item.now.first + (at - item.now.skip))
+        game.tree)
         hits.old.items hits.new.items) }
     ensures others { OnOk result ((g : ℕ) → g ≢ at →
         begun_at gathered.new g ≡ begun_at gathered.old g) }
@@ -180,7 +184,7 @@ fn add_one<L: Ledger>(
     if gathered.is_empty(at) {
         return Ok(());
     }
-    let number = item.first + at as u32;
+    let number = item.first + (at - item.skip) as u32;
     let found = gathered.sorted(alloc, at)?;
     add_on_its_board(matchers, number, game, &found, hits, steps)?;
     Ok(())

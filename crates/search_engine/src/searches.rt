@@ -1,9 +1,10 @@
 // A search over a version, and over one part of it.
-ghost use Rattle.std.specs.Prelude.{◌≤◌, ◌+◌, ℕ, IfOk, length};
+ghost use Rattle.std.specs.Prelude.{◌≤◌, ◌+◌, ℕ, IfOk, drop, length};
 ghost use Rattle.version_publisher.specs.Contents.{items_in};
 ghost use Rattle.continuation_table.specs.Table.{IsTable};
 ghost use Rattle.search_engine.specs.Hits.{AreHits, AreHitsFrom};
 ghost use Rattle.search_engine.specs.KeptGames.{HaveKeptNodes};
+ghost use Rattle.search_engine.specs.Nodes.{nodes_of};
 
 use crate::answer::Answer;
 use crate::items::{items_of_part, items_of_version};
@@ -69,7 +70,35 @@ pub fn search_segment<L: Ledger>(
     ensures ticks { (n : ℕ) → HaveKeptNodes query.now part.now n → steps.new ≤ steps.old + n }
     ensures grows { steps.old ≤ steps.new }
 {
-    let items = items_of_part(alloc, part, first)?;
+    search_from(alloc, part, 0, first, query, filter, steps)
+}
+
+/// The hits of a query in the games of one part from the one with number `from` in the part on. Only
+/// these games are looked at, and they are numbered from `first`.
+///
+/// Together at most 400,000 games are numbered. A step is one node at which a placement begins to
+/// hold and to which the search goes. The count of steps only grows, by at most the number of the
+/// nodes of these games, and of those of them that are kept for the query. The only error is
+/// `NoMemory`.
+pub fn search_from<L: Ledger>(
+    alloc: Global,
+    part: &Segment,
+    from: u32,
+    first: u32,
+    query: &Query,
+    filter: &Filter,
+    steps: &mut Steps<L>,
+) -> Result<Vec<Hit>, NoMemory>
+    requires from { from ≤ length part.now }
+    requires fits { first + length (drop from part.now) ≤ 400000 }
+    ensures hits { IfOk result (λ hits.
+        AreHitsFrom first query.now filter.now (drop from part.now) hits.items) }
+    ensures ticks { steps.new ≤ steps.old + nodes_of (drop from part.now) }
+    ensures kept_ticks { (n : ℕ) → HaveKeptNodes query.now (drop from part.now) n →
+        steps.new ≤ steps.old + n }
+    ensures grows { steps.old ≤ steps.new }
+{
+    let items = items_of_part(alloc, part, from, first)?;
     let shapes = shapes_of(alloc, query, &items)?;
     let images = QueryImages::of(alloc, query, shapes)?;
     let matchers = Matchers::of(alloc, &images)?;

@@ -1,4 +1,4 @@
-use Rattle.std.proofs.Common.{◌≡◌, ◌+◌, ◌∙◌, ◌∷◌, [], Contains, List, ap, subst, sym}
+use Rattle.std.proofs.Common.{◌≡◌, ◌+◌, ◌-◌, ◌∙◌, ◌∷◌, [], Contains, List, ap, subst, sym}
 use Rattle.node_position.specs.Games.{Game}
 use Rattle.run_matcher.specs.GoingOn.{occurrences_of}
 use Rattle.run_matcher.specs.declared.begun.Begun.{Begun}
@@ -15,8 +15,8 @@ pub returns-then-is_empty-clause-hits : goal.returns-then-is_empty-clause-hits
 returns-then-is_empty-clause-hits g c = λ game at covered.
     let query = c.args.matchers.now.query in
     let same : c.get-game.result.now ≡ game = same_game c.args.item.now.block.now c.args.at c.get-game.result.now game c.get-game.ensures at in
-    subst (λ (h : Game). AreHitsAdded (AreGameHits query c.args._filter.now (c.args.item.now.first + c.args.at) h.tree) c.args.hits.now.items c.args.hits.now.items) same
-    (no_hits query c.args._filter.now c.args.matchers.now.shapes (c.args.item.now.first + c.args.at) c.get-game.result.now.tree (gathered_of c.args.gathered.now c.args.at) (c.requires.gathered c.get-game.result.now c.get-game.ensures) c.deltas-changes.result.now c.deltas-changes.ensures
+    subst (λ (h : Game). AreHitsAdded (AreGameHits query c.args._filter.now (c.args.item.now.first + (c.args.at - c.args.item.now.skip)) h.tree) c.args.hits.now.items c.args.hits.now.items) same
+    (no_hits query c.args._filter.now c.args.matchers.now.shapes (c.args.item.now.first + (c.args.at - c.args.item.now.skip)) c.get-game.result.now.tree (gathered_of c.args.gathered.now c.args.at) (c.requires.gathered c.get-game.result.now c.get-game.ensures) c.deltas-changes.result.now c.deltas-changes.ensures
     (c.is_empty.ensures.0 c.if-is_empty.true) (subst (λ (h : Game). IsCovered query c.args.matchers.now.shapes h.tree.shape) (sym same) covered) c.args.hits.now.items)
 
 pub add_on_its_board-requires-clause-there : goal.add_on_its_board-requires-clause-there
@@ -41,7 +41,7 @@ pub returns-clause-hits : goal.returns-clause-hits
 returns-clause-hits g c = λ game at covered.
     let asked = asked_with_some c.args.matchers.now.query c.args._filter.now c.args.matchers.now.shapes c.get-game.result.now.tree (gathered_of c.args.gathered.now c.args.at) (c.requires.gathered c.get-game.result.now c.get-game.ensures) c.deltas-changes.result.now c.deltas-changes.ensures c.is_empty.result c.is_empty.ensures c.if-is_empty.false in
     let same : c.get-game.result.now ≡ game = same_game c.args.item.now.block.now c.args.at c.get-game.result.now game c.get-game.ensures at in
-    subst (λ (h : Game). AreHitsAdded (AreGameHits c.args.matchers.now.query c.args._filter.now (c.args.item.now.first + c.args.at) h.tree) c.args.hits.now.items c.add_on_its_board.new.hits.items) same
+    subst (λ (h : Game). AreHitsAdded (AreGameHits c.args.matchers.now.query c.args._filter.now (c.args.item.now.first + (c.args.at - c.args.item.now.skip)) h.tree) c.args.hits.now.items c.add_on_its_board.new.hits.items) same
     (c.in_ok-add_on_its_board.ensures.hits c.args._filter.now asked.0)
 
 pub returns-then-is_empty-clause-steps : goal.returns-then-is_empty-clause-steps
