@@ -46,8 +46,8 @@ pub(crate) fn add_hits_in<L: Ledger>(
     add_hits(query, number, game, deltas, matcher, begun, hits, steps)
 }
 
-// Adds the hits of what occurs in a game with these changes. It goes to the nodes at which something
-// occurs, in their order, and each is one step.
+// Adds the hits of what occurs in a game with these changes. The nodes at which something occurs are
+// visited in their order, and each is one step.
 fn add_hits<L: Ledger>(
     query: &Query,
     number: u32,
@@ -71,9 +71,9 @@ fn add_hits<L: Ledger>(
     ensures ticks { steps.new ≤ steps.old + node_count game.now.tree }
     ensures grows { steps.old ≤ steps.new }
 {
-    let mut entered = 0;
+    let mut visited = 0;
     for one in begun {
-        entered = enter(one.occurrence.node, entered, steps);
+        visited = visit(one.occurrence.node, visited, steps);
         if looks_at(query, game.tree(), one.occurrence.node) {
             hits.push(hit_of(number, game, deltas, matcher, *one))?;
         }
@@ -81,16 +81,16 @@ fn add_hits<L: Ledger>(
     Ok(())
 }
 
-// Goes to a node, which is one step, unless it or one behind it was gone to. Those that were have
-// numbers below `entered`, and the answer is the same bound with this one among them.
-fn enter<L: Ledger>(node: u32, entered: u64, steps: &mut Steps<L>) -> u64
-    ensures within { (n : ℕ) → node < n → entered ≤ n → result ≤ n }
-    ensures ticks { steps.new + entered ≤ steps.old + result }
+// Visits a node, which is one step, unless it or one behind it was visited. Those that were have
+// numbers below `visited`, and the answer is such a bound with this one among them.
+fn visit<L: Ledger>(node: u32, visited: u64, steps: &mut Steps<L>) -> u64
+    ensures within { (n : ℕ) → node < n → visited ≤ n → result ≤ n }
+    ensures ticks { steps.new + visited ≤ steps.old + result }
     ensures grows { steps.old ≤ steps.new }
 {
     let node = u64::from(node);
-    if node < entered {
-        return entered;
+    if node < visited {
+        return visited;
     }
     steps.tick();
     node + 1

@@ -53,8 +53,8 @@ pub fn search<R: Threads + Sync>(
 /// The hits of a query in the games of one part that a filter accepts. The games are numbered from
 /// `first`.
 ///
-/// Together at most 400,000 games are numbered. A step is one node at which a placement begins to
-/// hold and to which the search goes. The count of steps only grows, by at most the number of all
+/// Together at most 400,000 games are numbered. A step is one node that is visited for its hits: one
+/// at which a placement begins to hold. The count of steps only grows, by at most the number of all
 /// nodes of the games that are kept for the query. The only error is `NoMemory`.
 pub fn search_segment<L: Ledger>(
     alloc: Global,
@@ -73,13 +73,12 @@ pub fn search_segment<L: Ledger>(
     search_from(alloc, part, 0, first, query, filter, steps)
 }
 
-/// The hits of a query in the games of one part from the one with number `from` in the part on. Only
-/// these games are looked at, and they are numbered from `first`.
+/// The hits of a query in the games of one part from the one with number `from` in the part on that a
+/// filter accepts. These games are numbered from `first`.
 ///
-/// Together at most 400,000 games are numbered. A step is one node at which a placement begins to
-/// hold and to which the search goes. The count of steps only grows, by at most the number of the
-/// nodes of these games, and of those of them that are kept for the query. The only error is
-/// `NoMemory`.
+/// Together at most 400,000 games are numbered. Steps are counted as in [`search_segment`]. The count
+/// only grows, by at most the number of the nodes of these games, and by at most that of those of
+/// them that are kept for the query. The only error is `NoMemory`.
 pub fn search_from<L: Ledger>(
     alloc: Global,
     part: &Segment,

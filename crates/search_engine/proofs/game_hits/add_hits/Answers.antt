@@ -88,9 +88,9 @@ loop-one-preserved g c =
                 (λ looks. let no : false ≡ true = sym w.if-looks_at.false ∙ c.looks_at.ensures.1 (subst (λ (t : Tree). LooksAt c.args.query.now t o.node) (sym c.tree.ensures) looks) in absurd cc)
                 (ap (λ v. v.items) w.hits-is)
           ];
-      within = c.enter-entered.ensures.within (node_count c.args.game.now.tree) node c.loop-one.invariant.within;
-      ticks = omega (arith, c.enter-entered.ensures.ticks, c.loop-one.invariant.ticks);
-      grows = omega (arith, c.enter-entered.ensures.grows, c.loop-one.invariant.grows);
+      within = c.visit-visited.ensures.within (node_count c.args.game.now.tree) node c.loop-one.invariant.within;
+      ticks = omega (arith, c.visit-visited.ensures.ticks, c.loop-one.invariant.ticks);
+      grows = omega (arith, c.visit-visited.ensures.grows, c.loop-one.invariant.grows);
     }
 
 pub returns-clause-hits : goal.returns-clause-hits
@@ -111,7 +111,7 @@ returns-in_err-push-clause-ticks g c =
     let k = c.loop-one.one-index in
     let lt = c.loop-one-test.true in
     let node = node_in_tree c.args.game.now.tree c.args.deltas.now c.requires.changes c.args.matcher.now.images.now.placements (occurrences_of begun) c.requires.occurrences k (one begun k lt).occurrence (within begun k lt) (read begun k lt) in
-    omega (arith, c.enter-entered.ensures.within (node_count c.args.game.now.tree) node c.loop-one.invariant.within, c.enter-entered.ensures.ticks, c.loop-one.invariant.ticks)
+    omega (arith, c.visit-visited.ensures.within (node_count c.args.game.now.tree) node c.loop-one.invariant.within, c.visit-visited.ensures.ticks, c.loop-one.invariant.ticks)
 
 pub returns-in_err-push-clause-grows : goal.returns-in_err-push-clause-grows
-returns-in_err-push-clause-grows g c = omega (arith, c.enter-entered.ensures.grows, c.loop-one.invariant.grows)
+returns-in_err-push-clause-grows g c = omega (arith, c.visit-visited.ensures.grows, c.loop-one.invariant.grows)

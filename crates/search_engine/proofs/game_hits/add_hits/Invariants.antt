@@ -8,7 +8,7 @@ use Rattle.search_engine.proofs.game_hits.add_hits.Given as goal
 abbrev pub invariant-loop-one : goal.invariant-loop-one
 invariant-loop-one g l = record {
   hits : AreHitsAdded (AreHitsOf l.query l.number l.game.tree l.deltas l.matcher.images.now.placements (take l.one-index (occurrences_of l.begun))) l.fn.hits.items l.hits.items;
-  within : l.entered ≤ node_count l.game.tree;
-  ticks : l.steps ≤ l.fn.steps + l.entered;
+  within : l.visited ≤ node_count l.game.tree;
+  ticks : l.steps ≤ l.fn.steps + l.visited;
   grows : l.fn.steps ≤ l.steps;
 }
