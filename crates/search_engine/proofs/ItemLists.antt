@@ -75,8 +75,8 @@ module _ (base from : ℕ) (games : List Game) where
         subst (λ gs. AreItems base (games ++ gs) items) same so_far
 
     -- another one
-    pub AreItems-cut : (first : ℕ) → first ≡ base + length games → (new : List Item) (i : Item) → i.first ≡ first + (at - from) → i.skip ≡ from - at → i.block.now ≡ block → new ≡ items ++ i ∷ [] → AreItems base (games ++ drop from (before ++ block)) new
-    AreItems-cut first is new i numbered skip same pushed =
+    pub AreItems-cut : (first : ℕ) → first ≡ base + length games → (new : List Item) (i : Item) → new ≡ items ++ i ∷ [] → i.first ≡ first + (at - from) → i.skip ≡ from - at → i.block.now ≡ block → AreItems base (games ++ drop from (before ++ block)) new
+    AreItems-cut first is new i pushed numbered skip same =
         let own : games_in i ≡ drop (from - at) block = ap (λ n. drop n i.block.now) skip ∙ ap (λ gs. drop (from - at) gs) same in
         let all : (games ++ drop from before) ++ games_in i ≡ games ++ drop from (before ++ block) =
         append_assoc games (drop from before) (games_in i) ∙ ap (λ gs. games ++ (drop from before ++ gs)) own ∙ ap (λ gs. games ++ gs) (sym behind) in
