@@ -25,19 +25,19 @@ IsWithBit-same word at set not = record {
 
 -- ---- which games a filter accepts
 
--- the bits of the first so many games tell whether the filter accepts them, and no other bit is set
-pub record AreAcceptedTo (filter : Filter) (games : List Game) (k word : ℕ) : Type 0 where
-  pub told : (g : ℕ) (game : Game) → g < k → slice_get games g ≡ Some game → (bit_at word g ≡ 1) ↔ Accepts filter game.tree.info
+-- the bits of the first so many games behind some tell whether the filter accepts them, and no later bit is set
+pub record AreAcceptedTo (filter : Filter) (skip : ℕ) (games : List Game) (k word : ℕ) : Type 0 where
+  pub told : (g : ℕ) (game : Game) → skip ≤ g → g < k → slice_get games g ≡ Some game → (bit_at word g ≡ 1) ↔ Accepts filter game.tree.info
   pub none : (g : ℕ) → k ≤ g → bit_at word g ≢ 1
 
-module _ (filter : Filter) (games : List Game) where
-  pub AreAcceptedTo-start : AreAcceptedTo filter games 0 0
-  AreAcceptedTo-start = record { told = λ g game lt at. absurd (omega (arith, lt)); none = λ g le e. absurd (omega (arith, bit_at-zero g, e)) }
+module _ (filter : Filter) (skip : ℕ) (games : List Game) where
+  pub AreAcceptedTo-start : AreAcceptedTo filter skip games skip 0
+  AreAcceptedTo-start = record { told = λ g game low lt at. absurd (omega (arith, low, lt)); none = λ g le e. absurd (omega (arith, bit_at-zero g, e)) }
 
-  pub AreAcceptedTo-more : (k word new : ℕ) (game : Game) (set : Type 0) → slice_get games k ≡ Some game → set ↔ Accepts filter game.tree.info → AreAcceptedTo filter games k word → IsWithBit word k set new → AreAcceptedTo filter games (k + 1) new
+  pub AreAcceptedTo-more : (k word new : ℕ) (game : Game) (set : Type 0) → slice_get games k ≡ Some game → set ↔ Accepts filter game.tree.info → AreAcceptedTo filter skip games k word → IsWithBit word k set new → AreAcceptedTo filter skip games (k + 1) new
   AreAcceptedTo-more k word new game set at is so_far with_bit = record {
-    told = λ g other lt there. elim (cases_eq g k) [
-      | inr ne ↦ (λ e. (so_far.told g other (omega (arith, lt, ne)) there).0 (sym (with_bit.others g ne) ∙ e), λ a. with_bit.others g ne ∙ (so_far.told g other (omega (arith, lt, ne)) there).1 a)
+    told = λ g other low lt there. elim (cases_eq g k) [
+      | inr ne ↦ (λ e. (so_far.told g other low (omega (arith, lt, ne)) there).0 (sym (with_bit.others g ne) ∙ e), λ a. with_bit.others g ne ∙ (so_far.told g other low (omega (arith, lt, ne)) there).1 a)
       | inl same ↦
           let one : slice_get games k ≡ Some other = subst (λ n. slice_get games n ≡ Some other) same there in
           let equal : game ≡ other = sym (get_or_from_slice_get games k game game at) ∙ get_or_from_slice_get games k other game one in
@@ -50,11 +50,11 @@ module _ (filter : Filter) (games : List Game) where
     none = λ g le e. so_far.none g (omega (arith, le)) (sym (with_bit.others g (λ same. absurd (omega (arith, le, same)))) ∙ e);
   }
 
-  pub AreAcceptedTo-all : (k word : ℕ) → length games ≤ k → AreAcceptedTo filter games k word → AreAccepted filter games word
-  AreAcceptedTo-all k word le so_far g game at = so_far.told g game (omega (arith, le, slice_get_within games g game at)) at
+  pub AreAcceptedTo-all : (k word : ℕ) → length games ≤ k → AreAcceptedTo filter skip games k word → AreAccepted filter skip games word
+  AreAcceptedTo-all k word le so_far g game low at = so_far.told g game low (omega (arith, le, slice_get_within games g game at)) at
 
   -- without a condition all are accepted
-  pub AreAccepted-without : (conditions : List Condition) → conditions ≡ filter.conditions → length conditions ≡ 0 → length games ≤ 64 → AreAccepted filter games (2 ^ 64 - 1)
-  AreAccepted-without conditions are none few g game at =
+  pub AreAccepted-without : (conditions : List Condition) → conditions ≡ filter.conditions → length conditions ≡ 0 → length games ≤ 64 → AreAccepted filter skip games (2 ^ 64 - 1)
+  AreAccepted-without conditions are none few g game low at =
       let lt : g < 64 = omega (arith, few, slice_get_within games g game at) in
       (λ _ k d within. absurd (omega (arith, within, none, ap length are)), λ _. bit_at_ones 64 g lt)

@@ -20,8 +20,11 @@ use Rattle.info_filter.specs.Filter.{Accepts}
 use Rattle.line_matcher.specs.declared.occurrence.Occurrence.{Occurrence}
 use Rattle.line_matcher.specs.Occurrences.{HoldsAt, Occurs, begins_at, holds_at, occurrences_in}
 use Rattle.line_matcher.proofs.HoldsLaw.{holds-decides}
+use Rattle.line_matcher.proofs.OccurrenceLaw.{occurrences-are}
+use Rattle.candidate_sieve.proofs.OccurrencesKept.{occurs-kept}
 use Rattle.search_engine.specs.Gathering.{HasOccurrences}
 use Rattle.search_engine.specs.Hits.{AreGameHits, AreHitsOf}
+use Rattle.search_engine.specs.KeptGames.{IsKeptGame}
 use Rattle.search_engine.specs.Searching.{AreHitsAdded, IsCovered}
 use Rattle.search_engine.proofs.AddedHits.{AreHitsAdded-none}
 use Rattle.search_engine.proofs.HitsExist.{asks-or-not}
@@ -73,6 +76,20 @@ module _ (query : Query) (filter : Filter) (shapes : List Shape) (game : tree.Tr
   -- a game in whose list is an occurrence was asked for, on a board on which the query looks
   pub asked_with_some : (test : Bool) → (IsTrue test ↔ (gathered ≡ [])) → test ≡ false → Accepts filter game.info × Contains shapes game.shape
   asked_with_some test told is = let some = some_in gathered (λ none. false≢true (sym is ∙ told.1 none)) in let h = (has changes of some.0).0 some.1 in (h.0, h.1)
+
+  -- and it is kept for the query
+  pub kept_with_some : (test : Bool) → (IsTrue test ↔ (gathered ≡ [])) → test ≡ false → IsKeptGame query game
+  kept_with_some test told is =
+      let some = some_in gathered (λ none. false≢true (sym is ∙ told.1 none)) in
+      let occurs = ((has changes of some.0).0 some.1).2 in
+      let placements = some_list query game.shape in
+      record {
+        changes = changes;
+        are_changes = of;
+        placements = placements.0;
+        are_placements = placements.1;
+        kept = occurs-kept changes placements.0 some.0 ((occurrences-are changes placements.0 some.0).0 (occurs placements.0 placements.1));
+      }
 
   -- the list has the occurrences of a game that was asked for
   pub has_exactly : Accepts filter game.info → Contains shapes game.shape → (placements : List Placement) → ArePlacements query game.shape placements → (o : Occurrence) → Contains gathered o ↔ Contains (occurrences_in changes placements) o

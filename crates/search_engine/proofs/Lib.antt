@@ -1,4 +1,5 @@
 mod AddedHits
+mod CutLists
 mod FoundHits
 mod FoundCandidates
 mod GameBits
@@ -26,6 +27,7 @@ mod BlocksSearched
 mod SameShapes
 mod ShapeNumbers
 mod ShapesSought
+mod StepsTaken
 mod VersionGames
 pub mod WhereFound
 pub mod HitParts

@@ -1,15 +1,15 @@
 -- The shapes of the boards on which a query looks, one after another.
-use Rattle.std.proofs.Common.{◌≡◌, ℕ, zero, suc, inl, inr, ◌+◌, ◌<◌, List, [], ◌∷◌, ◌++◌, get_or, length, map, take, sym, ap, ◌∙◌, subst, arith}
+use Rattle.std.proofs.Common.{◌≡◌, ℕ, zero, suc, inl, inr, ◌+◌, ◌<◌, List, [], ◌∷◌, ◌++◌, drop, get_or, length, map, take, sym, ap, ◌∙◌, subst, arith}
 use Rattle.std.specs.Prelude.{Contains}
-use Rattle.std.proofs.lemmas.List.{get_or-map, length-map, map-append, take_more}
-use Rattle.std.proofs.lemmas.List.Elements.{All-push, Contains-append_cases, Contains-append_left, Contains-push}
+use Rattle.std.proofs.lemmas.List.{get_or-map, length-map, map-append, take-append-drop, take_more}
+use Rattle.std.proofs.lemmas.List.Elements.{All-push, Contains-append_cases, Contains-append_left, Contains-append_right, Contains-push}
 use Rattle.kb_geometry.specs.declared.shape.Shape.{Shape}
 use Rattle.node_position.specs.Games.{Game}
 use Rattle.pattern_images.specs.declared.query.Query.{Query}
 use Rattle.pattern_images.specs.Query.{IsForBoard}
 use Rattle.segment_store.specs.BoardShapes.{HaveShapes}
 use Rattle.search_engine.specs.declared.item.Item.{Item}
-use Rattle.search_engine.specs.Items.{games_of}
+use Rattle.search_engine.specs.Items.{games_in, games_of}
 use Rattle.search_engine.specs.Searching.{AreCovered, AreShapesAdded}
 use Rattle.search_engine.proofs.ItemLists.{games_to_next}
 
@@ -66,12 +66,23 @@ module _ (query : Query) where
   pub AreShapesAdded-of_games : (games : List Game) (shapes old new : List Shape) → HaveShapes games shapes → AreShapesAdded query shapes old new → AreShapesAdded query (shapes_in games) old new
   AreShapesAdded-of_games games shapes old new have are = record { asked = are.asked; kept = are.kept; added = λ s there looks. are.added s ((have s).1 there) looks }
 
+  -- the shapes of games, or of some more, are these
+  pub AreShapesAdded-of_last : (skip : ℕ) (games : List Game) (shapes old new : List Shape) → HaveShapes games shapes → AreShapesAdded query shapes old new → AreShapesAdded query (shapes_in (drop skip games)) old new
+  AreShapesAdded-of_last skip games shapes old new have are =
+      let all = AreShapesAdded-of_games games shapes old new have are in
+      let parts : shapes_in (take skip games) ++ shapes_in (drop skip games) ≡ shapes_in games = sym (map-append (λ (g : Game). g.tree.shape) (take skip games) (drop skip games)) ∙ ap shapes_in (take-append-drop skip games) in
+      record {
+        asked = all.asked;
+        kept = all.kept;
+        added = λ s there. all.added s (subst (λ ss. Contains ss s) parts (Contains-append_right (shapes_in (take skip games)) (shapes_in (drop skip games)) s there));
+      }
+
   -- one block more
   pub AreShapesAdded-block : (items : List Item) (k : ℕ) (i : Item) (shapes old mid new : List Shape) → k < length items → i ≡ get_or items k i → HaveShapes i.block.now shapes → AreShapesAdded query (shapes_in (games_of (take k items))) old mid → AreShapesAdded query shapes mid new → AreShapesAdded query (shapes_in (games_of (take (k + 1) items))) old new
   AreShapesAdded-block items k i shapes old mid new lt at have so_far added =
       let before = games_of (take k items) in
-      subst (λ ss. AreShapesAdded query ss old new) (sym (ap shapes_in (games_to_next items k i lt at) ∙ map-append (λ (g : Game). g.tree.shape) before i.block.now))
-      (AreShapesAdded-both (shapes_in before) (shapes_in i.block.now) old mid new so_far (AreShapesAdded-of_games i.block.now shapes mid new have added))
+      subst (λ ss. AreShapesAdded query ss old new) (sym (ap shapes_in (games_to_next items k i lt at) ∙ map-append (λ (g : Game). g.tree.shape) before (games_in i)))
+      (AreShapesAdded-both (shapes_in before) (shapes_in (games_in i)) old mid new so_far (AreShapesAdded-of_last i.skip i.block.now shapes mid new have added))
 
   -- the shapes of the boards of all games are there
   pub AreCovered-added : (games : List Game) (old new : List Shape) → AreShapesAdded query (shapes_in games) old new → AreCovered query new games

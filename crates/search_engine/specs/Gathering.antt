@@ -1,6 +1,6 @@
 -- What is gathered of the games of a block, while its planes are gone over: words of the private
 -- functions that search a block.
-use Rattle.std.specs.Prelude.{◌≡◌, ℕ, ◌<◌, ◌⊎◌, ◌↔◌, [], Contains, List, Some, slice_index_or}
+use Rattle.std.specs.Prelude.{◌≡◌, ℕ, ◌<◌, ◌≤◌, ◌⊎◌, ◌↔◌, [], Contains, List, Some, slice_index_or}
 use Rattle.std.specs.Int.{bit_at}
 use Rattle.std.specs.List.{slice_get}
 use Rattle.kb_geometry.specs.declared.shape.Shape.{Shape}
@@ -56,11 +56,11 @@ begun_at lists g = slice_index_or lists g []
 abbrev pub gathered_of : List (List Begun) → ℕ → List Occurrence
 gathered_of lists g = occurrences_of (begun_at lists g)
 
--- the list of each game has exactly its occurrences, if the filter accepts it and its board's shape
--- is among these, and none else
-abbrev pub HaveOccurrences : Query → Filter → List Shape → List Game → List (List Begun) →
+-- the list of each game behind the first `skip` has exactly its occurrences, if the filter accepts it
+-- and its board's shape is among these, and none else
+abbrev pub HaveOccurrences : Query → Filter → List Shape → ℕ → List Game → List (List Begun) →
     Type 0
-HaveOccurrences query filter shapes games lists = (g : ℕ) (game : Game) →
+HaveOccurrences query filter shapes skip games lists = (g : ℕ) (game : Game) → skip ≤ g →
     slice_get games g ≡ Some game →
     HasOccurrences query filter shapes game.tree (gathered_of lists g)
 

@@ -1,12 +1,16 @@
 -- Blocks of games in a row.
-use Rattle.std.specs.Prelude.{◌≡◌, ℕ, ◌+◌, ◌<◌, List, length, take, slice_index_or}
+use Rattle.std.specs.Prelude.{◌≡◌, ℕ, ◌+◌, ◌<◌, List, drop, length, take, slice_index_or}
 use Rattle.std.specs.List.{flat_map}
 use Rattle.node_position.specs.Games.{Game}
 use Rattle.search_engine.specs.declared.item.Item.{Item}
 
--- the games of blocks, one block after another
+-- the games of a block that aren't left out
+abbrev pub games_in : Item → List Game
+games_in item = drop item.skip item.block.now
+
+-- those of blocks, one block after another
 abbrev pub games_of : List Item → List Game
-games_of items = flat_map (λ (i : Item). i.block.now) items
+games_of items = flat_map games_in items
 
 -- the games of these blocks are numbered from a first number on, one block after another
 abbrev pub AreNumberedFrom : ℕ → List Item → Type 0

@@ -10,3 +10,4 @@ pub mod ImagesMade
 pub mod Items
 pub mod Searching
 pub mod ShapePlaces
+pub mod StepBounds

@@ -1,5 +1,5 @@
 // The occurrences in the games of a block.
-ghost use Rattle.std.specs.Prelude.{OnOk};
+ghost use Rattle.std.specs.Prelude.{OnOk, ℕ};
 ghost use Rattle.info_filter.specs.declared.filter.Filter.{Filter};
 ghost use Rattle.segment_store.specs.Planes.{ArePlanesOn};
 ghost use Rattle.search_engine.specs.BlockCandidates.{AreAccepted};
@@ -24,8 +24,10 @@ pub(crate) fn gather(
     buffers: &mut Buffers,
     gathered: &mut GameOccurrences,
 ) -> Result<(), NoMemory>
-    ensures gathered { OnOk result ((filter : Filter) → AreAccepted filter block.now asked →
-        HaveOccurrences matchers.now.query filter matchers.now.shapes block.now gathered.new) }
+    ensures gathered { OnOk result ((filter : Filter) (skip : ℕ) →
+        AreAccepted filter skip block.now asked →
+        HaveOccurrences matchers.now.query filter matchers.now.shapes skip block.now
+        gathered.new) }
     ensures known { OnOk result (AllGoOn matchers.now.query block.now gathered.new) }
 {
     let _count = block.len();

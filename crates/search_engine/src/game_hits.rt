@@ -1,5 +1,5 @@
 // The hits of a query in one game.
-ghost use Rattle.std.specs.Prelude.{◌≡◌, ◌↔◌, ◌<◌, ◌≤◌, ℕ, Contains, IsTrue, OnOk, length};
+ghost use Rattle.std.specs.Prelude.{◌≡◌, ◌+◌, ◌↔◌, ◌<◌, ◌≤◌, ℕ, Contains, IsTrue, OnOk, length};
 ghost use Rattle.game_tree.specs.Tree.{node_count};
 ghost use Rattle.node_position.specs.Games.{AreNodeChanges};
 ghost use Rattle.pattern_images.specs.Placements.{ArePlacements};
@@ -11,7 +11,7 @@ ghost use Rattle.search_engine.specs.Gathering.{AreOccurrencesIn, GoOnIn};
 ghost use Rattle.search_engine.specs.Hits.{AreHitsIn, AreHitsOf, IsHit, LooksAt};
 ghost use Rattle.search_engine.specs.Searching.{AreHitsAdded};
 
-use capture_board::NodeDeltas;
+use capture_board::{NodeDeltas, Steps};
 use continuation_table::next_below;
 use game_tree::GameTree;
 use kb_geometry::NoMemory;
@@ -19,30 +19,35 @@ use line_matcher::Occurrence;
 use pattern_images::{Hit, Query};
 use run_matcher::{Begun, RunMatcher};
 use segment_store::FinishedGame;
+use std::sync::ledger::Ledger;
 
 // Adds the hits of what occurs in the game with this number, on whose board the query looks.
-pub(crate) fn add_hits_in(
+pub(crate) fn add_hits_in<L: Ledger>(
     query: &Query,
     number: u32,
     game: &FinishedGame,
     matcher: &RunMatcher,
     begun: &[Begun],
     hits: &mut Vec<Hit>,
+    steps: &mut Steps<L>,
 ) -> Result<(), NoMemory>
     requires shape { matcher.now.images.now.shape ≡ game.now.tree.shape }
     requires images { ArePlacements query.now game.now.tree.shape
         matcher.now.images.now.placements }
     requires occurrences { AreOccurrencesIn query.now game.now.tree (occurrences_of begun.now) }
     requires known { GoOnIn query.now game.now.tree begun.now }
-    ensures { OnOk result (AreHitsAdded (AreHitsIn query.now number game.now.tree)
+    ensures hits { OnOk result (AreHitsAdded (AreHitsIn query.now number game.now.tree)
         hits.old.items hits.new.items) }
+    ensures ticks { steps.new ≤ steps.old + node_count game.now.tree }
+    ensures grows { steps.old ≤ steps.new }
 {
     let deltas = game.deltas();
-    add_hits(query, number, game, deltas, matcher, begun, hits)
+    add_hits(query, number, game, deltas, matcher, begun, hits, steps)
 }
 
-// Adds the hits of what occurs in a game with these changes.
-fn add_hits(
+// Adds the hits of what occurs in a game with these changes. The nodes at which something occurs are
+// visited in their order, and each is one step.
+fn add_hits<L: Ledger>(
     query: &Query,
     number: u32,
     game: &FinishedGame,
@@ -50,6 +55,7 @@ fn add_hits(
     matcher: &RunMatcher,
     begun: &[Begun],
     hits: &mut Vec<Hit>,
+    steps: &mut Steps<L>,
 ) -> Result<(), NoMemory>
     requires changes { AreNodeChanges game.now.tree deltas.now }
     requires shape { matcher.now.images.now.shape ≡ game.now.tree.shape }
@@ -57,17 +63,36 @@ fn add_hits(
         matcher.now.images.now.placements }
     requires known { (b : Begun) → Contains begun.now b →
         GoesOnToHold deltas.now matcher.now.images.now.placements b }
-    ensures { OnOk result (AreHitsAdded
+    ensures hits { OnOk result (AreHitsAdded
         (AreHitsOf query.now number game.now.tree deltas.now
         matcher.now.images.now.placements (occurrences_of begun.now))
         hits.old.items hits.new.items) }
+    ensures ticks { steps.new ≤ steps.old + node_count game.now.tree }
+    ensures grows { steps.old ≤ steps.new }
 {
+    let mut visited = 0;
     for one in begun {
+        visited = visit(one.occurrence.node, visited, steps);
         if looks_at(query, game.tree(), one.occurrence.node) {
             hits.push(hit_of(number, game, deltas, matcher, *one))?;
         }
     }
     Ok(())
+}
+
+// Visits a node, which is one step, unless it or one behind it was visited. Those that were have
+// numbers below `visited`, and the answer is such a bound with this one among them.
+fn visit<L: Ledger>(node: u32, visited: u64, steps: &mut Steps<L>) -> u64
+    ensures within { (n : ℕ) → node < n → visited ≤ n → result ≤ n }
+    ensures ticks { steps.new + visited ≤ steps.old + result }
+    ensures grows { steps.old ≤ steps.new }
+{
+    let node = u64::from(node);
+    if node < visited {
+        return visited;
+    }
+    steps.tick();
+    node + 1
 }
 
 // Whether the query looks at a node.

@@ -1,12 +1,14 @@
 // A block of games among those of a version.
-ghost use Rattle.std.specs.Prelude.{◌+◌, ◌≤◌, length};
+ghost use Rattle.std.specs.Prelude.{◌+◌, ◌≤◌, drop, length};
 
 use segment_store::Block;
 
-// A block of games, and the number that its first game has in the version.
+// A block of games of which the first so many are left out, and the number that the first of the
+// others has in the version.
 #[derive(Clone, Copy, Debug)]
 pub(crate) struct Item<'a> {
     pub(crate) first: u32,
     pub(crate) block: &'a Block,
-    pub(crate) ghost fits: { first + length block.now ≤ 400000 },
+    pub(crate) skip: usize,
+    pub(crate) ghost fits: { first + length (drop skip block.now) ≤ 400000 },
 }

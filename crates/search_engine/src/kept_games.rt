@@ -25,7 +25,7 @@ ghost use Rattle.search_engine.specs.BlockCandidates.{
   AreInRangeFor,
   IsListed,
 };
-ghost use Rattle.search_engine.specs.Items.{AreNumberedFrom, games_of};
+ghost use Rattle.search_engine.specs.Items.{AreNumberedFrom, games_in, games_of};
 ghost use Rattle.search_engine.specs.KeptGames.{AreKept, IsKeptGame};
 ghost use Rattle.search_engine.specs.Searching.{AreCovered, IsCovered};
 
@@ -38,7 +38,7 @@ use crate::shapes::shapes_of;
 use candidate_sieve::meets_corners;
 use kb_geometry::NoMemory;
 use pattern_images::{Images, Query};
-use segment_store::{Block, FinishedGame, Segment};
+use segment_store::{FinishedGame, Segment};
 use std::alloc::Global;
 use version_publisher::Version;
 
@@ -76,23 +76,25 @@ fn kept_of_items(alloc: Global, matchers: &Matchers, items: &[Item]) -> Result<u
             &mut candidates,
             &mut placements,
         )?;
-        count += kept_of_block(matchers, item.block, &placements);
+        count += kept_of_block(matchers, item, &placements);
     }
     Ok(count)
 }
 
-// How many games of a block are kept. For each game the placements are told of which each cell was
-// allowed.
-fn kept_of_block(matchers: &Matchers, block: &Block, placements: &GamePlacements) -> u32
-    requires in_range { AreInRange matchers.now.query block.now (IsListed placements.now) }
-    requires allowed { AreAllowed matchers.now.query matchers.now.shapes block.now (2 ^ 64 - 1)
+// How many games of a block are kept, but for those that are left out. For each game the placements
+// are told of which each cell was allowed.
+fn kept_of_block(matchers: &Matchers, item: &Item, placements: &GamePlacements) -> u32
+    requires in_range { AreInRange matchers.now.query item.now.block.now
         (IsListed placements.now) }
-    ensures kept { AreCovered matchers.now.query matchers.now.shapes block.now →
-        AreKept matchers.now.query block.now result }
-    ensures most { result ≤ length block.now }
+    requires allowed { AreAllowed matchers.now.query matchers.now.shapes item.now.block.now
+        (2 ^ 64 - 1) (IsListed placements.now) }
+    ensures kept { AreCovered matchers.now.query matchers.now.shapes (games_in item.now) →
+        AreKept matchers.now.query (games_in item.now) result }
+    ensures most { result ≤ length (games_in item.now) }
 {
+    let block = item.block;
     let mut count = 0;
-    for at in 0..block.len() {
+    for at in item.skip..block.len() {
         count += u32::from(is_kept(matchers, block.get(at), placements.of_game(at)));
     }
     count

@@ -34,5 +34,5 @@ pub use laws::{
     a_game_with_a_hit_is_kept, games_have_one_count_of_kept, games_have_one_count_of_kept_nodes,
     games_have_one_list_of_hits, hits_of_two_parts_are_those_of_each,
 };
-pub use searches::{search, search_segment};
+pub use searches::{search, search_from, search_segment};
 pub use version_games::{find_game, game_count, games};

@@ -1,5 +1,5 @@
 // A search in pieces, side by side.
-ghost use Rattle.std.specs.Prelude.{◌≤◌, ◌<◌, ◌*◌, [], IfOk, OnOk};
+ghost use Rattle.std.specs.Prelude.{◌≡◌, ◌≤◌, ◌<◌, ◌*◌, [], IfOk, OnOk};
 ghost use Rattle.search_engine.specs.Hits.{AreHits};
 ghost use Rattle.search_engine.specs.Items.{AreNumberedFrom, games_of};
 ghost use Rattle.search_engine.specs.Searching.{
@@ -12,11 +12,14 @@ ghost use Rattle.search_engine.specs.Searching.{
 use crate::item::Item;
 use crate::matchers::Matchers;
 use crate::search_items::add_items_hits;
+use capture_board::Steps;
 use info_filter::Filter;
 use kb_geometry::NoMemory;
 use pattern_images::Hit;
 use std::alloc::Global;
 use std::cmp::{max, min};
+use std::marker::Brand;
+use std::sync::ledger::{Blank, Ledger};
 use std::thread;
 use std::thread::Threads;
 
@@ -66,7 +69,7 @@ pub(crate) fn piece_size(items: usize, games: usize) -> usize
     max(1, items.div_ceil(pieces))
 }
 
-// The hits of the games of some blocks.
+// The hits of the games of some blocks. Nobody asks for the steps.
 fn piece_hits(
     alloc: Global,
     matchers: &Matchers,
@@ -76,8 +79,26 @@ fn piece_hits(
     ensures { IfOk result (λ hits. AreItemHitsAdded matchers.now.query filter.now
         matchers.now.shapes items.now [] hits.items) }
 {
+    counted_hits::<Brand>(alloc, matchers, filter, items, Blank::new(1))
+}
+
+// The same, with steps that are counted in a ledger of their own.
+fn counted_hits<L: Ledger>(
+    alloc: Global,
+    matchers: &Matchers,
+    filter: &Filter,
+    items: &[Item],
+    blank: Blank,
+) -> Result<Vec<Hit>, NoMemory>
+    requires name { blank.name ≡ L.name }
+    requires parts { blank.parts ≡ L.parts }
+    requires some { 0 < blank.parts }
+    ensures { IfOk result (λ hits. AreItemHitsAdded matchers.now.query filter.now
+        matchers.now.shapes items.now [] hits.items) }
+{
+    let mut steps = Steps::<L>::new(blank);
     let mut hits = Vec::new(alloc);
-    add_items_hits(alloc, matchers, filter, items, &mut hits)?;
+    add_items_hits(alloc, matchers, filter, items, &mut hits, &mut steps)?;
     Ok(hits)
 }
 

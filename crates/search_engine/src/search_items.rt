@@ -1,6 +1,21 @@
 // The hits in the games of blocks, one block after another.
-ghost use Rattle.std.specs.Prelude.{◌≡◌, ◌≢◌, ◌<◌, ◌+◌, ℕ, Contains, OnOk, Some, length};
+ghost use Rattle.std.specs.Prelude.{
+  ◌≡◌,
+  ◌≢◌,
+  ◌<◌,
+  ◌≤◌,
+  ◌+◌,
+  ◌-◌,
+  ◌∷◌,
+  [],
+  ℕ,
+  Contains,
+  OnOk,
+  Some,
+  length,
+};
 ghost use Rattle.std.specs.List.{slice_get};
+ghost use Rattle.game_tree.specs.Tree.{node_count};
 ghost use Rattle.info_filter.specs.declared.filter.Filter.{Filter};
 ghost use Rattle.info_filter.specs.Filter.{Accepts};
 ghost use Rattle.node_position.specs.Games.{Game};
@@ -15,12 +30,14 @@ ghost use Rattle.search_engine.specs.Gathering.{
   gathered_of,
 };
 ghost use Rattle.search_engine.specs.Hits.{AreGameHits, AreHitsFrom};
+ghost use Rattle.search_engine.specs.Items.{games_in, games_of};
 ghost use Rattle.search_engine.specs.Searching.{
   AreCovered,
   AreHitsAdded,
   AreItemHitsAdded,
   IsCovered,
 };
+ghost use Rattle.search_engine.specs.StepBounds.{AreStepsIn};
 
 use crate::accepted::accepted_games;
 use crate::block_occurrences::gather;
@@ -29,12 +46,14 @@ use crate::game_occurrences::GameOccurrences;
 use crate::item::Item;
 use crate::matchers::Matchers;
 use candidate_sieve::Candidate;
+use capture_board::Steps;
 use info_filter::Filter;
 use kb_geometry::NoMemory;
 use pattern_images::Hit;
 use run_matcher::{Begun, Buffers};
 use segment_store::FinishedGame;
 use std::alloc::Global;
+use std::sync::ledger::Ledger;
 
 // What a piece of a search works with, kept from block to block.
 #[derive(Debug, Drop)]
@@ -46,15 +65,17 @@ struct Room {
 }
 
 // Adds the hits of the games of blocks that a filter accepts.
-pub(crate) fn add_items_hits(
+pub(crate) fn add_items_hits<L: Ledger>(
     alloc: Global,
     matchers: &Matchers,
     filter: &Filter,
     items: &[Item],
     hits: &mut Vec<Hit>,
+    steps: &mut Steps<L>,
 ) -> Result<(), NoMemory>
-    ensures { OnOk result (AreItemHitsAdded matchers.now.query filter.now
+    ensures hits { OnOk result (AreItemHitsAdded matchers.now.query filter.now
         matchers.now.shapes items.now hits.old.items hits.new.items) }
+    ensures steps { AreStepsIn matchers.now.query (games_of items.now) steps.old steps.new }
 {
     let mut room = Room {
         words: Vec::new(alloc),
@@ -63,26 +84,29 @@ pub(crate) fn add_items_hits(
         gathered: GameOccurrences::new(alloc)?,
     };
     for item in items {
-        add_block(alloc, matchers, filter, item, &mut room, hits)?;
+        add_block(alloc, matchers, filter, item, &mut room, hits, steps)?;
     }
     Ok(())
 }
 
-// Adds the hits of the games of a block. Where the filter accepts none, nothing more is done.
-fn add_block(
+// Adds the hits of the games of a block that aren't left out. Where the filter accepts none of them,
+// nothing more is done.
+fn add_block<L: Ledger>(
     alloc: Global,
     matchers: &Matchers,
     filter: &Filter,
     item: &Item,
     room: &mut Room,
     hits: &mut Vec<Hit>,
+    steps: &mut Steps<L>,
 ) -> Result<(), NoMemory>
-    ensures { OnOk result
-        (AreCovered matchers.now.query matchers.now.shapes item.now.block.now → AreHitsAdded
-        (AreHitsFrom item.now.first matchers.now.query filter.now item.now.block.now)
+    ensures hits { OnOk result
+        (AreCovered matchers.now.query matchers.now.shapes (games_in item.now) → AreHitsAdded
+        (AreHitsFrom item.now.first matchers.now.query filter.now (games_in item.now))
         hits.old.items hits.new.items) }
+    ensures steps { AreStepsIn matchers.now.query (games_in item.now) steps.old steps.new }
 {
-    let accepted = accepted_games(filter, item.block);
+    let accepted = accepted_games(filter, item.block, item.skip);
     if accepted == 0 {
         return Ok(());
     }
@@ -95,35 +119,37 @@ fn add_block(
     gather(
         matchers, item.block, accepted, words, candidates, buffers, gathered,
     )?;
-    add_found(alloc, matchers, filter, item, gathered, hits)
+    add_found(alloc, matchers, filter, item, gathered, hits, steps)
 }
 
-// Adds the hits of the games of a block, of which the occurrences were gathered.
-fn add_found(
+// Adds the hits of the games of a block that aren't left out, of which the occurrences were gathered.
+fn add_found<L: Ledger>(
     alloc: Global,
     matchers: &Matchers,
     filter: &Filter,
     item: &Item,
     gathered: &mut GameOccurrences,
     hits: &mut Vec<Hit>,
+    steps: &mut Steps<L>,
 ) -> Result<(), NoMemory>
     requires gathered { HaveOccurrences matchers.now.query filter.now matchers.now.shapes
-        item.now.block.now gathered.old }
+        item.now.skip item.now.block.now gathered.old }
     requires known { AllGoOn matchers.now.query item.now.block.now gathered.old }
-    ensures { OnOk result (AreCovered matchers.now.query matchers.now.shapes item.now.block.now →
-        AreHitsAdded
-        (AreHitsFrom item.now.first matchers.now.query filter.now item.now.block.now)
+    ensures hits { OnOk result
+        (AreCovered matchers.now.query matchers.now.shapes (games_in item.now) → AreHitsAdded
+        (AreHitsFrom item.now.first matchers.now.query filter.now (games_in item.now))
         hits.old.items hits.new.items) }
+    ensures steps { AreStepsIn matchers.now.query (games_in item.now) steps.old steps.new }
 {
-    for at in 0..item.block.len() {
-        add_one(alloc, matchers, filter, item, at, gathered, hits)?;
+    for at in item.skip..item.block.len() {
+        add_one(alloc, matchers, filter, item, at, gathered, hits, steps)?;
     }
     Ok(())
 }
 
 // Adds the hits of the game at a place of a block, of which the occurrences were gathered. The
 // filter is only told of by the contract: a game that it refuses has none gathered.
-fn add_one(
+fn add_one<L: Ledger>(
     alloc: Global,
     matchers: &Matchers,
     _filter: &Filter,
@@ -131,8 +157,10 @@ fn add_one(
     at: usize,
     gathered: &mut GameOccurrences,
     hits: &mut Vec<Hit>,
+    steps: &mut Steps<L>,
 ) -> Result<(), NoMemory>
     requires at { at < length item.now.block.now }
+    requires asked { item.now.skip ≤ at }
     requires gathered { (game : Game) → slice_get item.now.block.now at ≡ Some game →
         HasOccurrences matchers.now.query _filter.now matchers.now.shapes game.tree
         (gathered_of gathered.old at) }
@@ -141,10 +169,13 @@ fn add_one(
     ensures hits { OnOk result ((game : Game) → slice_get item.now.block.now at ≡ Some game →
         IsCovered matchers.now.query matchers.now.shapes game.tree.shape →
         AreHitsAdded
-        (AreGameHits matchers.now.query _filter.now (item.now.first + at) game.tree)
+        (AreGameHits matchers.now.query _filter.now (item.now.first + (at - item.now.skip))
+        game.tree)
         hits.old.items hits.new.items) }
     ensures others { OnOk result ((g : ℕ) → g ≢ at →
         begun_at gathered.new g ≡ begun_at gathered.old g) }
+    ensures steps { (game : Game) → slice_get item.now.block.now at ≡ Some game →
+        AreStepsIn matchers.now.query (game ∷ []) steps.old steps.new }
 {
     let _count = item.block.len();
     let game = item.block.get(at);
@@ -153,31 +184,42 @@ fn add_one(
     if gathered.is_empty(at) {
         return Ok(());
     }
-    let number = item.first + at as u32;
+    let number = item.first + (at - item.skip) as u32;
     let found = gathered.sorted(alloc, at)?;
-    add_on_its_board(matchers, number, game, &found, hits)?;
+    add_on_its_board(matchers, number, game, &found, hits, steps)?;
     Ok(())
 }
 
 // Adds the hits of the game with this number, whose occurrences these are, by the matcher for its
 // board.
-fn add_on_its_board(
+fn add_on_its_board<L: Ledger>(
     matchers: &Matchers,
     number: u32,
     game: &FinishedGame,
     begun: &[Begun],
     hits: &mut Vec<Hit>,
+    steps: &mut Steps<L>,
 ) -> Result<(), NoMemory>
     requires there { Contains matchers.now.shapes game.now.tree.shape }
     requires occurrences { AreOccurrencesIn matchers.now.query game.now.tree
         (occurrences_of begun.now) }
     requires known { GoOnIn matchers.now.query game.now.tree begun.now }
-    ensures { OnOk result ((filter : Filter) → Accepts filter game.now.tree.info →
+    ensures hits { OnOk result ((filter : Filter) → Accepts filter game.now.tree.info →
         AreHitsAdded (AreGameHits matchers.now.query filter number game.now.tree)
         hits.old.items hits.new.items) }
+    ensures ticks { steps.new ≤ steps.old + node_count game.now.tree }
+    ensures grows { steps.old ≤ steps.new }
 {
     let Some(matcher) = matchers.find(game.tree().shape()) else {
         return Ok(());
     };
-    add_hits_in(matchers.query(), number, game, &matcher.runs, begun, hits)
+    add_hits_in(
+        matchers.query(),
+        number,
+        game,
+        &matcher.runs,
+        begun,
+        hits,
+        steps,
+    )
 }

@@ -1,9 +1,10 @@
 // A search over a version, and over one part of it.
-ghost use Rattle.std.specs.Prelude.{◌≤◌, ◌+◌, ℕ, IfOk, length};
+ghost use Rattle.std.specs.Prelude.{◌≤◌, ◌+◌, ℕ, IfOk, drop, length};
 ghost use Rattle.version_publisher.specs.Contents.{items_in};
 ghost use Rattle.continuation_table.specs.Table.{IsTable};
 ghost use Rattle.search_engine.specs.Hits.{AreHits, AreHitsFrom};
 ghost use Rattle.search_engine.specs.KeptGames.{HaveKeptNodes};
+ghost use Rattle.search_engine.specs.Nodes.{nodes_of};
 
 use crate::answer::Answer;
 use crate::items::{items_of_part, items_of_version};
@@ -52,28 +53,55 @@ pub fn search<R: Threads + Sync>(
 /// The hits of a query in the games of one part that a filter accepts. The games are numbered from
 /// `first`.
 ///
-/// Together at most 400,000 games are numbered. No node is entered, so the count of steps stays,
-/// which may grow by the number of all nodes of the games that are kept for the query. The only
-/// error is `NoMemory`.
+/// Together at most 400,000 games are numbered. A step is one node that is visited for its hits: one
+/// at which a placement begins to hold. The count of steps only grows, by at most the number of all
+/// nodes of the games that are kept for the query. The only error is `NoMemory`.
 pub fn search_segment<L: Ledger>(
     alloc: Global,
     part: &Segment,
     first: u32,
     query: &Query,
     filter: &Filter,
-    _steps: &mut Steps<L>,
+    steps: &mut Steps<L>,
 ) -> Result<Vec<Hit>, NoMemory>
     requires { first + length part.now ≤ 400000 }
     ensures hits { IfOk result (λ hits.
         AreHitsFrom first query.now filter.now part.now hits.items) }
-    ensures ticks { (n : ℕ) → HaveKeptNodes query.now part.now n → _steps.new ≤ _steps.old + n }
-    ensures grows { _steps.old ≤ _steps.new }
+    ensures ticks { (n : ℕ) → HaveKeptNodes query.now part.now n → steps.new ≤ steps.old + n }
+    ensures grows { steps.old ≤ steps.new }
 {
-    let items = items_of_part(alloc, part, first)?;
+    search_from(alloc, part, 0, first, query, filter, steps)
+}
+
+/// The hits of a query in the games of one part from the one with number `from` in the part on that a
+/// filter accepts. These games are numbered from `first`.
+///
+/// Together at most 400,000 games are numbered. Steps are counted as in [`search_segment`]. The count
+/// only grows, by at most the number of the nodes of these games, and by at most that of those of
+/// them that are kept for the query. The only error is `NoMemory`.
+pub fn search_from<L: Ledger>(
+    alloc: Global,
+    part: &Segment,
+    from: u32,
+    first: u32,
+    query: &Query,
+    filter: &Filter,
+    steps: &mut Steps<L>,
+) -> Result<Vec<Hit>, NoMemory>
+    requires from { from ≤ length part.now }
+    requires fits { first + length (drop from part.now) ≤ 400000 }
+    ensures hits { IfOk result (λ hits.
+        AreHitsFrom first query.now filter.now (drop from part.now) hits.items) }
+    ensures ticks { steps.new ≤ steps.old + nodes_of (drop from part.now) }
+    ensures kept_ticks { (n : ℕ) → HaveKeptNodes query.now (drop from part.now) n →
+        steps.new ≤ steps.old + n }
+    ensures grows { steps.old ≤ steps.new }
+{
+    let items = items_of_part(alloc, part, from, first)?;
     let shapes = shapes_of(alloc, query, &items)?;
     let images = QueryImages::of(alloc, query, shapes)?;
     let matchers = Matchers::of(alloc, &images)?;
     let mut hits = Vec::new(alloc);
-    add_items_hits(alloc, &matchers, filter, &items, &mut hits)?;
+    add_items_hits(alloc, &matchers, filter, &items, &mut hits, steps)?;
     Ok(hits)
 }

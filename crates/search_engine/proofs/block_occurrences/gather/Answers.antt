@@ -25,5 +25,5 @@ gather_on_shape-requires c =
     subst (λ (q : PlaneGames). ArePlanesOn c.args.block.now q) (sym c.planes-item.is) (c.planes-planes-items.ensures.each c.loop-planes.planes-index p c.loop-planes-test.true)
 
 pub returns-clause-gathered : goal.returns-clause-gathered
-returns-clause-gathered c = λ filter accepted.
-    on_planes-all c.args.matchers.now.query c.args.matchers.now.shapes c.args.block.now c.args.asked c.planes-planes-items.result.now c.loop-planes.planes-index (omega (arith, c.loop-planes-test.false)) c.planes-planes-items.ensures filter c.loop-planes.gathered accepted c.loop-planes.invariant.gathered
+returns-clause-gathered c = λ filter skip accepted.
+    on_planes-all c.args.matchers.now.query c.args.matchers.now.shapes c.args.block.now c.args.asked c.planes-planes-items.result.now c.loop-planes.planes-index (omega (arith, c.loop-planes-test.false)) c.planes-planes-items.ensures filter skip c.loop-planes.gathered accepted c.loop-planes.invariant.gathered

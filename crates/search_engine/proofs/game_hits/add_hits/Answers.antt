@@ -27,10 +27,15 @@ module _ (begun : List Begun) (k : ℕ) (lt : k < length begun) where
   read = sym (get_or-map (λ (b : Begun). b.occurrence) begun k none one.occurrence lt)
 
 pub loop-one-init : goal.loop-one-init
-loop-one-init c = AreHitsAdded-none (AreHitsOf c.args.query.now c.args.number c.args.game.now.tree c.args.deltas.now c.args.matcher.now.images.now.placements []) c.args.hits.now.items AreHitsOf.nothing
+loop-one-init g c = record {
+  hits = AreHitsAdded-none (AreHitsOf c.args.query.now c.args.number c.args.game.now.tree c.args.deltas.now c.args.matcher.now.images.now.placements []) c.args.hits.now.items AreHitsOf.nothing;
+  within = omega arith;
+  ticks = omega arith;
+  grows = omega arith;
+}
 
 pub looks_at-requires : goal.looks_at-requires
-looks_at-requires c =
+looks_at-requires g c =
     let begun = c.args.begun.now in
     let k = c.loop-one.one-index in
     let lt = c.loop-one-test.true in
@@ -38,51 +43,75 @@ looks_at-requires c =
     (node_in_tree c.args.game.now.tree c.args.deltas.now c.requires.changes c.args.matcher.now.images.now.placements (occurrences_of begun) c.requires.occurrences k (one begun k lt).occurrence (within begun k lt) (read begun k lt))
 
 pub hit_of-requires-clause-node : goal.hit_of-requires-clause-node
-hit_of-requires-clause-node c =
+hit_of-requires-clause-node g c =
     let begun = c.args.begun.now in
     let k = c.loop-one.one-index in
     let lt = c.loop-one-test.true in
     node_in_tree c.args.game.now.tree c.args.deltas.now c.requires.changes c.args.matcher.now.images.now.placements (occurrences_of begun) c.requires.occurrences k (one begun k lt).occurrence (within begun k lt) (read begun k lt)
 
 pub hit_of-requires-clause-placement : goal.hit_of-requires-clause-placement
-hit_of-requires-clause-placement c =
+hit_of-requires-clause-placement g c =
     let begun = c.args.begun.now in
     let k = c.loop-one.one-index in
     let lt = c.loop-one-test.true in
     (is_there c.args.game.now.tree c.args.deltas.now c.requires.changes c.args.matcher.now.images.now.placements (occurrences_of begun) c.requires.occurrences k (one begun k lt).occurrence (within begun k lt) (read begun k lt)).placement
 
 pub hit_of-requires-clause-holds : goal.hit_of-requires-clause-holds
-hit_of-requires-clause-holds c =
+hit_of-requires-clause-holds g c =
     let begun = c.args.begun.now in
     let k = c.loop-one.one-index in
     let lt = c.loop-one-test.true in
     (is_there c.args.game.now.tree c.args.deltas.now c.requires.changes c.args.matcher.now.images.now.placements (occurrences_of begun) c.requires.occurrences k (one begun k lt).occurrence (within begun k lt) (read begun k lt)).holds
 
 pub hit_of-requires-clause-known : goal.hit_of-requires-clause-known
-hit_of-requires-clause-known c =
+hit_of-requires-clause-known g c =
     c.requires.known (get_or c.args.begun.now c.loop-one.one-index none) (Contains-get_or c.args.begun.now c.loop-one.one-index none c.loop-one-test.true)
 
 pub loop-one-preserved : goal.loop-one-preserved
-loop-one-preserved c =
+loop-one-preserved g c =
     let begun = c.args.begun.now in
     let k = c.loop-one.one-index in
     let lt = c.loop-one-test.true in
     let o = (one begun k lt).occurrence in
-    elim c.if-looks_at.branch [
-      | then-looks_at+in_ok-push w ↦
-          AreHitsAdded-hit c.args.query.now c.args.number c.args.game.now.tree c.args.deltas.now c.args.matcher.now.images.now.placements (occurrences_of begun) c.args.hits.now.items c.loop-one.hits.items k o (within begun k lt) (read begun k lt)
-          c.if-looks_at.hits.items w.hit_of.result c.loop-one.invariant
-          (subst (λ (t : Tree). LooksAt c.args.query.now t o.node) c.tree.ensures (c.looks_at.ensures.0 w.if-looks_at.true))
-          w.hit_of.ensures (ap (λ v. v.items) w.hits-is ∙ w.in_ok-push.ensures.items)
-      | else-looks_at w ↦
-          AreHitsAdded-left_out c.args.query.now c.args.number c.args.game.now.tree c.args.deltas.now c.args.matcher.now.images.now.placements (occurrences_of begun) c.args.hits.now.items c.loop-one.hits.items k o (within begun k lt) (read begun k lt)
-          c.if-looks_at.hits.items c.loop-one.invariant
-          (λ looks. let no : false ≡ true = sym w.if-looks_at.false ∙ c.looks_at.ensures.1 (subst (λ (t : Tree). LooksAt c.args.query.now t o.node) (sym c.tree.ensures) looks) in absurd cc)
-          (ap (λ v. v.items) w.hits-is)
-    ]
+    let node = node_in_tree c.args.game.now.tree c.args.deltas.now c.requires.changes c.args.matcher.now.images.now.placements (occurrences_of begun) c.requires.occurrences k o (within begun k lt) (read begun k lt) in
+    record {
+      hits =
+          elim c.if-looks_at.branch [
+            | then-looks_at+in_ok-push w ↦
+                AreHitsAdded-hit c.args.query.now c.args.number c.args.game.now.tree c.args.deltas.now c.args.matcher.now.images.now.placements (occurrences_of begun) c.args.hits.now.items c.loop-one.hits.items k o (within begun k lt) (read begun k lt)
+                c.if-looks_at.hits.items w.hit_of.result c.loop-one.invariant.hits
+                (subst (λ (t : Tree). LooksAt c.args.query.now t o.node) c.tree.ensures (c.looks_at.ensures.0 w.if-looks_at.true))
+                w.hit_of.ensures (ap (λ v. v.items) w.hits-is ∙ w.in_ok-push.ensures.items)
+            | else-looks_at w ↦
+                AreHitsAdded-left_out c.args.query.now c.args.number c.args.game.now.tree c.args.deltas.now c.args.matcher.now.images.now.placements (occurrences_of begun) c.args.hits.now.items c.loop-one.hits.items k o (within begun k lt) (read begun k lt)
+                c.if-looks_at.hits.items c.loop-one.invariant.hits
+                (λ looks. let no : false ≡ true = sym w.if-looks_at.false ∙ c.looks_at.ensures.1 (subst (λ (t : Tree). LooksAt c.args.query.now t o.node) (sym c.tree.ensures) looks) in absurd cc)
+                (ap (λ v. v.items) w.hits-is)
+          ];
+      within = c.visit-visited.ensures.within (node_count c.args.game.now.tree) node c.loop-one.invariant.within;
+      ticks = omega (arith, c.visit-visited.ensures.ticks, c.loop-one.invariant.ticks);
+      grows = omega (arith, c.visit-visited.ensures.grows, c.loop-one.invariant.grows);
+    }
 
-pub returns : goal.returns
-returns c =
+pub returns-clause-hits : goal.returns-clause-hits
+returns-clause-hits g c =
     let all = occurrences_of c.args.begun.now in
     subst (λ os. AreHitsAdded (AreHitsOf c.args.query.now c.args.number c.args.game.now.tree c.args.deltas.now c.args.matcher.now.images.now.placements os) c.args.hits.now.items c.loop-one.hits.items)
-    (take_all c.loop-one.one-index all (omega (arith, c.loop-one-test.false, length-map c.args.begun.now (λ (b : Begun). b.occurrence)))) c.loop-one.invariant
+    (take_all c.loop-one.one-index all (omega (arith, c.loop-one-test.false, length-map c.args.begun.now (λ (b : Begun). b.occurrence)))) c.loop-one.invariant.hits
+
+pub returns-clause-ticks : goal.returns-clause-ticks
+returns-clause-ticks g c = omega (arith, c.loop-one.invariant.within, c.loop-one.invariant.ticks)
+
+pub returns-clause-grows : goal.returns-clause-grows
+returns-clause-grows g c = c.loop-one.invariant.grows
+
+pub returns-in_err-push-clause-ticks : goal.returns-in_err-push-clause-ticks
+returns-in_err-push-clause-ticks g c =
+    let begun = c.args.begun.now in
+    let k = c.loop-one.one-index in
+    let lt = c.loop-one-test.true in
+    let node = node_in_tree c.args.game.now.tree c.args.deltas.now c.requires.changes c.args.matcher.now.images.now.placements (occurrences_of begun) c.requires.occurrences k (one begun k lt).occurrence (within begun k lt) (read begun k lt) in
+    omega (arith, c.visit-visited.ensures.within (node_count c.args.game.now.tree) node c.loop-one.invariant.within, c.visit-visited.ensures.ticks, c.loop-one.invariant.ticks)
+
+pub returns-in_err-push-clause-grows : goal.returns-in_err-push-clause-grows
+returns-in_err-push-clause-grows g c = omega (arith, c.visit-visited.ensures.grows, c.loop-one.invariant.grows)

@@ -1,11 +1,14 @@
-use Rattle.std.proofs.Common.{take}
+use Rattle.std.proofs.Common.{◌+◌, ◌≤◌, take}
+use Rattle.game_tree.specs.Tree.{node_count}
 use Rattle.run_matcher.specs.GoingOn.{occurrences_of}
 use Rattle.search_engine.specs.Hits.{AreHitsOf}
 use Rattle.search_engine.specs.Searching.{AreHitsAdded}
 use Rattle.search_engine.proofs.game_hits.add_hits.Given as goal
 
 abbrev pub invariant-loop-one : goal.invariant-loop-one
-invariant-loop-one l =
-    AreHitsAdded
-    (AreHitsOf l.query l.number l.game.tree l.deltas l.matcher.images.now.placements (take l.one-index (occurrences_of l.begun)))
-    l.fn.hits.items l.hits.items
+invariant-loop-one g l = record {
+  hits : AreHitsAdded (AreHitsOf l.query l.number l.game.tree l.deltas l.matcher.images.now.placements (take l.one-index (occurrences_of l.begun))) l.fn.hits.items l.hits.items;
+  within : l.visited ≤ node_count l.game.tree;
+  ticks : l.steps ≤ l.fn.steps + l.visited;
+  grows : l.fn.steps ≤ l.steps;
+}

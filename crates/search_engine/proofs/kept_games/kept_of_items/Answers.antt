@@ -1,8 +1,7 @@
 use Rattle.std.proofs.Common.{arith, subst}
 use Rattle.std.proofs.lemmas.List.{take_all}
 use Rattle.node_position.specs.Games.{Game}
-use Rattle.search_engine.specs.declared.item.Item.{Item}
-use Rattle.search_engine.specs.Items.{games_of}
+use Rattle.search_engine.specs.Items.{games_in, games_of}
 use Rattle.search_engine.specs.KeptGames.{AreKept}
 use Rattle.search_engine.specs.Searching.{IsCovered}
 use Rattle.search_engine.proofs.BlocksSearched.{All-of_part}
@@ -22,7 +21,7 @@ loop-item-preserved c =
     let query = c.args.matchers.now.query in
     let items = c.args.items.now in
     let k = c.loop-item.item-index in
-    let here = c.kept_of_block-count.ensures.kept (All-of_part (λ (g : Game). IsCovered query c.args.matchers.now.shapes g.tree.shape) (λ (j : Item). j.block.now) items k c.item-item.result c.loop-item-test.true c.item-item.is c.requires.covered) in
+    let here = c.kept_of_block-count.ensures.kept (All-of_part (λ (g : Game). IsCovered query c.args.matchers.now.shapes g.tree.shape) games_in items k c.item-item.result c.loop-item-test.true c.item-item.is c.requires.covered) in
     record {
       kept = AreKept-block query items k c.item-item.result c.loop-item.count c.kept_of_block-count.result c.loop-item-test.true c.item-item.is c.loop-item.invariant.kept here;
       most = omega (arith, c.loop-item.invariant.most, c.kept_of_block-count.ensures.most, games_longer items k c.item-item.result c.loop-item-test.true c.item-item.is);

@@ -1,12 +1,31 @@
-use Rattle.std.proofs.Common.{arith}
+use Rattle.std.proofs.Common.{◌+◌, arith, take}
+use Rattle.search_engine.specs.Items.{games_of}
 use Rattle.search_engine.proofs.BlocksSearched.{so_far-all, so_far-more, so_far-none}
+use Rattle.search_engine.proofs.StepsTaken.{AreStepsIn-block, AreStepsIn-items, AreStepsIn-none}
 use Rattle.search_engine.proofs.search_items.add_items_hits.Goals as goal
 
+pub returns-in_err-new-clause-steps : goal.returns-in_err-new-clause-steps
+returns-in_err-new-clause-steps g c = AreStepsIn-none c.args.matchers.now.query (games_of c.args.items.now) c.args.steps.now
+
 pub loop-item-init : goal.loop-item-init
-loop-item-init c = so_far-none c.args.matchers.now.query c.args.filter.now c.args.matchers.now.shapes c.args.items.now c.args.hits.now.items
+loop-item-init g c = record {
+  hits = so_far-none c.args.matchers.now.query c.args.filter.now c.args.matchers.now.shapes c.args.items.now c.args.hits.now.items;
+  steps = AreStepsIn-none c.args.matchers.now.query (games_of (take 0 c.args.items.now)) c.args.steps.now;
+}
 
 pub loop-item-preserved : goal.loop-item-preserved
-loop-item-preserved c = so_far-more c.args.matchers.now.query c.args.filter.now c.args.matchers.now.shapes c.args.items.now c.loop-item.item-index c.item-item.result c.args.hits.now.items c.loop-item.hits.items c.add_block.new.hits.items c.loop-item-test.true c.item-item.is c.loop-item.invariant c.in_ok-add_block.ensures
+loop-item-preserved g c = record {
+  hits = so_far-more c.args.matchers.now.query c.args.filter.now c.args.matchers.now.shapes c.args.items.now c.loop-item.item-index c.item-item.result c.args.hits.now.items c.loop-item.hits.items c.add_block.new.hits.items c.loop-item-test.true c.item-item.is c.loop-item.invariant.hits c.in_ok-add_block.ensures.hits;
+  steps = AreStepsIn-block c.args.matchers.now.query c.args.items.now c.loop-item.item-index c.item-item.result c.args.steps.now c.loop-item.steps c.add_block.new.steps c.loop-item-test.true c.item-item.is c.loop-item.invariant.steps c.add_block.ensures.steps;
+}
 
-pub returns : goal.returns
-returns c = so_far-all c.args.matchers.now.query c.args.filter.now c.args.matchers.now.shapes c.args.items.now c.loop-item.item-index c.args.hits.now.items c.loop-item.hits.items (omega (arith, c.loop-item-test.false)) c.loop-item.invariant
+pub returns-in_err-add_block-clause-steps : goal.returns-in_err-add_block-clause-steps
+returns-in_err-add_block-clause-steps g c =
+    AreStepsIn-items c.args.matchers.now.query c.args.items.now (c.loop-item.item-index + 1) c.args.steps.now c.add_block.new.steps
+    (AreStepsIn-block c.args.matchers.now.query c.args.items.now c.loop-item.item-index c.item-item.result c.args.steps.now c.loop-item.steps c.add_block.new.steps c.loop-item-test.true c.item-item.is c.loop-item.invariant.steps c.add_block.ensures.steps)
+
+pub returns-clause-hits : goal.returns-clause-hits
+returns-clause-hits g c = so_far-all c.args.matchers.now.query c.args.filter.now c.args.matchers.now.shapes c.args.items.now c.loop-item.item-index c.args.hits.now.items c.loop-item.hits.items (omega (arith, c.loop-item-test.false)) c.loop-item.invariant.hits
+
+pub returns-clause-steps : goal.returns-clause-steps
+returns-clause-steps g c = AreStepsIn-items c.args.matchers.now.query c.args.items.now c.loop-item.item-index c.args.steps.now c.loop-item.steps c.loop-item.invariant.steps

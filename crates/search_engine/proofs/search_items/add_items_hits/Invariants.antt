@@ -1,5 +1,11 @@
+use Rattle.std.proofs.Common.{take}
+use Rattle.search_engine.specs.Items.{games_of}
+use Rattle.search_engine.specs.StepBounds.{AreStepsIn}
 use Rattle.search_engine.proofs.BlocksSearched.{so_far}
 use Rattle.search_engine.proofs.search_items.add_items_hits.Given as goal
 
 abbrev pub invariant-loop-item : goal.invariant-loop-item
-invariant-loop-item l = so_far l.matchers.query l.filter l.matchers.shapes l.items l.item-index l.fn.hits.items l.hits.items
+invariant-loop-item g l = record {
+  hits : so_far l.matchers.query l.filter l.matchers.shapes l.items l.item-index l.fn.hits.items l.hits.items;
+  steps : AreStepsIn l.matchers.query (games_of (take l.item-index l.items)) l.fn.steps l.steps;
+}

@@ -11,23 +11,23 @@ use Rattle.search_engine.proofs.AddedHits.{OnOk-then}
 use Rattle.search_engine.proofs.GameHits.{AreGameHits-asked}
 use Rattle.search_engine.proofs.search_items.add_on_its_board.Goals as goal
 
-pub returns-in_default : goal.returns-in_default
-returns-in_default c =
+pub returns-in_default-clause-hits : goal.returns-in_default-clause-hits
+returns-in_default-clause-hits g c =
     let shape = c.shape.ensures.value ∙ ap (λ (t : Tree). t.shape) c.tree.ensures in
     absurd (c.in_default.ensures.none (subst (Contains c.args.matchers.now.shapes) (sym shape) c.requires.there))
 
 pub add_hits_in-requires-clause-occurrences : goal.add_hits_in-requires-clause-occurrences
-add_hits_in-requires-clause-occurrences c = subst (λ (q : Query). AreOccurrencesIn q c.args.game.now.tree (occurrences_of c.args.begun.now)) (sym c.query.ensures) c.requires.occurrences
+add_hits_in-requires-clause-occurrences g c = subst (λ (q : Query). AreOccurrencesIn q c.args.game.now.tree (occurrences_of c.args.begun.now)) (sym c.query.ensures) c.requires.occurrences
 
 pub add_hits_in-requires-clause-known : goal.add_hits_in-requires-clause-known
-add_hits_in-requires-clause-known c = subst (λ (q : Query). GoOnIn q c.args.game.now.tree c.args.begun.now) (sym c.query.ensures) c.requires.known
+add_hits_in-requires-clause-known g c = subst (λ (q : Query). GoOnIn q c.args.game.now.tree c.args.begun.now) (sym c.query.ensures) c.requires.known
 
-pub returns : goal.returns
-returns c =
+pub returns-clause-hits : goal.returns-clause-hits
+returns-clause-hits g c =
     let query = c.args.matchers.now.query in
     let tree = c.args.game.now.tree in
     let shape = c.shape.ensures.value ∙ ap (λ (t : Tree). t.shape) c.tree.ensures in
     let board = subst (IsForBoard query) shape c.in-Some.ensures.asked in
-    OnOk-then c.add_hits_in.result c.add_hits_in.ensures
+    OnOk-then c.add_hits_in.result c.add_hits_in.ensures.hits
     (λ added filter accepts. AreGameHits-asked query filter c.args.number tree c.args.hits.now.items c.add_hits_in.new.hits.items (board, accepts)
     (subst (λ (q : Query). AreHitsAdded (AreHitsIn q c.args.number tree) c.args.hits.now.items c.add_hits_in.new.hits.items) c.query.ensures added))

@@ -1,7 +1,0 @@
-use Rattle.std.proofs.Common.{subst}
-use Rattle.search_engine.specs.Searching.{AreItemHitsAdded}
-use Rattle.search_engine.proofs.pieces.piece_hits.Goals as goal
-
-pub returns : goal.returns
-returns c =
-    subst (λ old. AreItemHitsAdded c.args.matchers.now.query c.args.filter.now c.args.matchers.now.shapes c.args.items.now old c.add_items_hits.new.hits.items) c.new-hits.ensures.items c.in_ok-add_items_hits.ensures
