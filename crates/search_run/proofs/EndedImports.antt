@@ -18,7 +18,7 @@ use Rattle.import_work.specs.declared.report.Report.{Report}
 use Rattle.import_work.specs.declared.report.ReportBody.TheVariants as report
 use Rattle.import_work.specs.declared.source.Source.{Source}
 use Rattle.import_work.proofs.FileLemmas.{rose_by_none}
-use Rattle.import_work.proofs.ImportsExist.{import-found}
+use Rattle.import_work.proofs.ImportsExist.{lossless-found}
 use Rattle.import_work.proofs.GivenSegments.{adds_up}
 use Rattle.import_work.proofs.Losses.{loses}
 use Rattle.import_work.proofs.RoomLemmas.{length-trees}
@@ -132,7 +132,7 @@ module _ (told : Option (List File)) (job : ImportJob) (some : 1 ≤ job.batch) 
 -- an import that couldn't be opened has found something by which nothing is lost
 pub not_opened : (told : Option (List File)) (job : ImportJob) (log : List Segment) (faults now : ℕ) → faults ≤ now → IfTold told (λ files. EndsWithFirst files job log log faults now)
 not_opened told job log faults now later = λ files here.
-    let found = import-found files job.source (counts_of (trees_in (games_in log))) in record {
+    let found = lossless-found files job.source (counts_of (trees_in (games_in log))) in record {
       finds = record {
         entry = nothing_lost;
         finding = found.0;

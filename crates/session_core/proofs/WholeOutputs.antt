@@ -28,7 +28,7 @@ use Rattle.import_work.specs.declared.source.Source.TheVariants as source
 use Rattle.session_core.specs.Sources.{statement_of}
 use Rattle.session_core.specs.ImportTexts.{import_line_text}
 use Rattle.import_work.proofs.Losses.{losses_of-append}
-use Rattle.import_work.proofs.ImportsExist.{HasTree, import-found, imported-trees}
+use Rattle.import_work.proofs.ImportsExist.{HasTree, imported-trees, lossless-found}
 use Rattle.session_core.proofs.StateLemmas.{floor-joined, floor-named, greatest-le, last_named, log_grows, opens-passed}
 
 -- ---- prefixes
@@ -102,7 +102,7 @@ module _ (files : List File) (rules : Rules) where
 
   import-passes : (s : State) (line : ℕ) (from : Source) (text : List ℕ) → text ≡ waiting_text s ++ import_line_text line from → Passes s line (statement_of from) text
   import-passes s line from text of =
-      let found = import-found files from (counts_of (trees_in (games_in s.log))) in
+      let found = lossless-found files from (counts_of (trees_in (games_in s.log))) in
       let next = after_import rules s line found.0 in
       (nothing_lost ∷ [], next, opens-passed files rules s line from (nothing_lost ∷ []) text next (nothing_lost, found.0, refl, found.1, of, refl), refl)
 
