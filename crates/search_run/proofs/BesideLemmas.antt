@@ -24,7 +24,7 @@ use Rattle.session_core.specs.Lawful.{AreSearched, HasPrinted, IsNamed, IsPassed
 use Rattle.session_core.specs.SessionState.{SessionState}
 use Rattle.search_run.specs.Run.{beside_rules}
 use Rattle.search_run.specs.Seen.{HaveSeenOf, IsLookedAt, IsVersionOf}
-use Rattle.serial_run.specs.Steps.{AreAnsweredFrom, IsKept, IsTextByKept, IsTextTo, LeavesBase, import_at, kept_at}
+use Rattle.serial_run.specs.Steps.{AreAnsweredFrom, IsKeptOfState, IsTextByKept, IsTextTo, LeavesBase, import_at, kept_at}
 use Rattle.session_core.specs.ImportTexts.{import_line_text}
 use Rattle.import_segments.proofs.PushedSegments.{items_in-games_in}
 use Rattle.serial_run.proofs.StatementLemmas.{AreAnsweredFrom-searched, AreNamed, greatest_of}
@@ -163,7 +163,7 @@ module _ (batch : ℕ) (WasSeen IsSeen : List Segment → Type 0) (floor : ℕ) 
       let log : List Segment = began.log ++ segments_of batch finding in
       let r = h entry finding imported (weaker log is_seen) in
       let s = r.state in
-      let kept : IsKept (as_seen s seen) (kept_at version None) session = record {
+      let kept : IsKeptOfState (as_seen s seen) (kept_at version None) session = record {
         version = of.number;
         games = of.games ∙ items_in-games_in seen;
         waiting = refl;
