@@ -19,7 +19,7 @@ use Rattle.import_work.specs.declared.report.Report.{Report}
 use Rattle.import_work.specs.declared.source.Source.{Source}
 use Rattle.import_work.proofs.FileLemmas.{RoseBy-then}
 use Rattle.import_work.proofs.Losses.{losses_of-append}
-use Rattle.search_run.specs.Beside.{EndsWith, HasAnsweredAll, HasRunTo, IsJoined, IsJobOf, StandsStill}
+use Rattle.search_run.specs.Beside.{EndsWith, HasAnsweredAll, HasRunTo, IsImportJoined, IsJobOf, StandsStill}
 use Rattle.session_core.specs.Lawful.{HasPrinted, Rules, waiting_text}
 use Rattle.session_core.specs.SessionState.{SessionState}
 use Rattle.import_segments.specs.Merged.{AreMerged}
@@ -56,7 +56,7 @@ module _ (files : List File) (batch line : ℕ) (from : Source) (job : ImportJob
     found = subst (λ (l : List Segment). IsImported files from (counts_of (trees_in (games_in l))) ends.finds.entry ends.finds.finding) (sym h.log_is)
         (subst (λ p. IsImported files p (counts_of (trees_in (games_in log))) ends.finds.entry ends.finds.finding) ordered.source_is ends.finds.imported)
 
-    pub joined-run : floor ≡ length log → HasAnsweredAll WasSeen floor session answered IsSeen session_now ((before ++ h.run.text) ++ own) written → IsSeen log_now → IsJoined log_now (Ok told) after → HasRunTo (beside_rules batch) files start (done ++ import_at line from ∷ answered) after session_now log_now before written first third
+    pub joined-run : floor ≡ length log → HasAnsweredAll WasSeen floor session answered IsSeen session_now ((before ++ h.run.text) ++ own) written → IsSeen log_now → IsImportJoined log_now (Ok told) after → HasRunTo (beside_rules batch) files start (done ++ import_at line from ∷ answered) after session_now log_now before written first third
     joined-run floor_is all seen joined =
         let run = h.run in
         let finding = ends.finds.finding in

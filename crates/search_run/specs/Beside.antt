@@ -159,7 +159,7 @@ pub record IsJobOf (job : ImportJob) (batch line : ℕ) (source : Source) (kept 
 
 -- What is kept when an import was joined whose publisher has this log: the last version, and the
 -- report that waits.
-pub record IsJoined (log : List Segment) (report : Result Report NoMemory) (kept : Kept)
+pub record IsImportJoined (log : List Segment) (report : Result Report NoMemory) (kept : Kept)
     : Type 0 where
   pub told : Report
   pub report_is : report ≡ Ok told

@@ -34,7 +34,7 @@ ghost use Rattle.search_run.specs.Beside.{
   HasAnsweredAll,
   HasEnded,
   HasRunTo,
-  IsJoined,
+  IsImportJoined,
   IsJobOf,
   MayBegin,
   StandsStill,
@@ -532,7 +532,7 @@ fn join<J: OpenName, R: Wait>(
     requires limits { IsWithinLimits publisher.now.log }
     requires few { IfOk report (λ r. games_reported r.body ≤ 400000) }
     ensures seen { HaveSeen searchers.old.own searchers.old.block.items publisher.now.log }
-    ensures joined { IfOk result (λ r. IsJoined publisher.now.log report r.0) }
+    ensures joined { IfOk result (λ r. IsImportJoined publisher.now.log report r.0) }
     ensures answered { IfOk result (λ r. answered ≡ Ok r.1) }
     ensures own { IfOk result (λ r. searchers.new.own.seen ≡ publisher.now.log) }
     ensures sink_fault { IsErrOf result Stopped.SinkFault → IsErrOf answered Stopped.SinkFault }
