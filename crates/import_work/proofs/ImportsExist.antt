@@ -13,7 +13,7 @@ use Rattle.node_position.specs.Games.{Game}
 use Rattle.made_games.specs.Made.{made_tree}
 use Rattle.made_games.proofs.MadeMoves.{made-tree}
 use Rattle.import_work.specs.Course.{AreMade, AreNames, AreRead, Files, Finding, FindsBy, ImportCourse, ImportFile, IsImported, Made, TooMany, Unlisted, games_from, games_of_files, import_file, made_file, made_name, names_found, nothing_lost, trees_in}
-use Rattle.import_work.specs.Log.{games_in, segments_of}
+use Rattle.import_work.specs.Log.{games_of_segments, segments_of}
 use Rattle.import_work.specs.Outcome.{IsAddedBy, with_games}
 use Rattle.import_work.specs.declared.outcome.Counts.{Counts}
 use Rattle.import_work.specs.declared.outcome.FileOutcome.{FileOutcome}
@@ -217,13 +217,13 @@ first-trees files n are =
     are)
 
 -- the games of files in batches
-batch-trees : (files : List ImportFile) (batch : ℕ) → All HasTree (games_of_files files) → All HasTree (games_in (segments_of batch (Files files)))
+batch-trees : (files : List ImportFile) (batch : ℕ) → All HasTree (games_of_files files) → All HasTree (games_of_segments (segments_of batch (Files files)))
 batch-trees files batch are =
     let count = (length files + (batch - 1)) / batch in
     subst (All HasTree) (sym (pieces_joined files batch count)) (first-trees files (count * batch) are)
 
 -- the games that an import adds are trees
-pub imported-trees : (all : List File) (from : Source) (before : Counts) (entry : ImportCourse) (batch : ℕ) (finding : Finding) → IsImported all from before entry finding → All HasTree (games_in (segments_of batch finding))
+pub imported-trees : (all : List File) (from : Source) (before : Counts) (entry : ImportCourse) (batch : ℕ) (finding : Finding) → IsImported all from before entry finding → All HasTree (games_of_segments (segments_of batch finding))
 imported-trees all from before entry batch Unlisted is = All-nil HasTree
 imported-trees all from before entry batch (TooMany names) is = All-nil HasTree
 imported-trees all (source.Under path) before entry batch (Files files) is = batch-trees files batch (read-trees-all all path before files entry.unread is.read)

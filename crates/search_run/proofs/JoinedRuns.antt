@@ -13,7 +13,7 @@ use Rattle.version_publisher.specs.declared.state.PublisherState.{PublisherState
 use Rattle.version_publisher.specs.declared.state.SearcherState.{SearcherState}
 use Rattle.node_position.specs.Games.{Game}
 use Rattle.import_work.specs.Course.{IsImported, losses_of, trees_in}
-use Rattle.import_work.specs.Log.{Segment, games_in, segments_of}
+use Rattle.import_work.specs.Log.{Segment, games_of_segments, segments_of}
 use Rattle.import_work.specs.Outcome.{counts_of}
 use Rattle.import_work.specs.declared.report.Report.{Report}
 use Rattle.import_work.specs.declared.source.Source.{Source}
@@ -31,7 +31,7 @@ use Rattle.session_core.specs.Sources.{IsNoImport}
 use Rattle.session_core.specs.ImportTexts.{import_line_text, report_text}
 use Rattle.search_run.specs.declared.importer.ImportJob.{ImportJob}
 use Rattle.search_run.proofs.BesideLemmas.{prints-first}
-use Rattle.import_segments.proofs.PushedSegments.{items_in-games_in}
+use Rattle.import_segments.proofs.PushedSegments.{items_in-games_of_segments}
 use Rattle.serial_run.proofs.RunLemmas.{HasRun-more, HasRun-start, no_loss, taken_more}
 use Rattle.serial_run.proofs.StatementLemmas.{waiting_is}
 use Rattle.session_core.proofs.StateLemmas.{log_kept}
@@ -52,9 +52,9 @@ module _ (files : List File) (batch line : ℕ) (from : Source) (job : ImportJob
     log_is : log_now ≡ h.run.state.log ++ segments_of batch ends.finds.finding
     log_is = ends.grown ∙ ap (λ b. log ++ segments_of b ends.finds.finding) ordered.batch_is ∙ ap (λ (l : List Segment). l ++ segments_of batch ends.finds.finding) (sym h.log_is)
 
-    found : IsImported files from (counts_of (trees_in (games_in h.run.state.log))) ends.finds.entry ends.finds.finding
-    found = subst (λ (l : List Segment). IsImported files from (counts_of (trees_in (games_in l))) ends.finds.entry ends.finds.finding) (sym h.log_is)
-        (subst (λ p. IsImported files p (counts_of (trees_in (games_in log))) ends.finds.entry ends.finds.finding) ordered.source_is ends.finds.imported)
+    found : IsImported files from (counts_of (trees_in (games_of_segments h.run.state.log))) ends.finds.entry ends.finds.finding
+    found = subst (λ (l : List Segment). IsImported files from (counts_of (trees_in (games_of_segments l))) ends.finds.entry ends.finds.finding) (sym h.log_is)
+        (subst (λ p. IsImported files p (counts_of (trees_in (games_of_segments log))) ends.finds.entry ends.finds.finding) ordered.source_is ends.finds.imported)
 
     pub joined-run : floor ≡ length log → HasAnsweredAll WasSeen floor session answered IsSeen session_now ((before ++ h.run.text) ++ own) written → IsSeen log_now → IsImportJoined log_now (Ok told) after → HasRunTo (beside_rules batch) files start (done ++ import_at line from ∷ answered) after session_now log_now before written first third
     joined-run floor_is all seen joined =
@@ -71,7 +71,7 @@ module _ (files : List File) (batch line : ℕ) (from : Source) (job : ImportJob
             state = r.state;
             is_kept = record {
               version = joined.version ∙ ap length now;
-              games = joined.games ∙ items_in-games_in log_now ∙ ap games_in now;
+              games = joined.games ∙ items_in-games_of_segments log_now ∙ ap games_of_segments now;
               waiting =
                   joined.waiting
                   ∙ ap (λ (t : Report). Some (told_text t.line t.body t.version)) (sym told_is)

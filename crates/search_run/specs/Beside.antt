@@ -17,7 +17,7 @@ use Rattle.version_publisher.specs.declared.state.PublisherState.{PublisherState
 use Rattle.version_publisher.specs.declared.state.SearcherState.{SearcherState}
 use Rattle.import_work.specs.Course.{Finding, ImportCourse, IsImported, losses_of, trees_in}
 use Rattle.import_work.specs.Imports.{games_reported}
-use Rattle.import_work.specs.Log.{Segment, games_in, segments_of}
+use Rattle.import_work.specs.Log.{Segment, games_of_segments, segments_of}
 use Rattle.import_work.specs.Outcome.{counts_of}
 use Rattle.import_work.specs.declared.report.Report.{Report}
 use Rattle.import_work.specs.declared.source.Source.{Source}
@@ -52,7 +52,7 @@ abbrev pub PrintsBeside : List File → Rules → List BoxTally → State → �
     List ImportCourse → (List Segment → Type 0) → ℕ → SessionState → List Placed → List ℕ → Type 0
 PrintsBeside files rules start began line source course IsSeen floor session placed text =
     (entry : ImportCourse) (finding : Finding) →
-    IsImported files source (counts_of (trees_in (games_in began.log))) entry finding →
+    IsImported files source (counts_of (trees_in (games_of_segments began.log))) entry finding →
     IsSeen (began.log ++ segments_of rules.batch finding) →
     IsPrintedWith files rules start (course ++ entry ∷ []) placed
     (began.log ++ segments_of rules.batch finding)
@@ -78,7 +78,7 @@ pub record Finds (files : List File) (source : Source) (log : List Segment)
     (faults_before faults_now : ℕ) : Type 0 where
   pub entry : ImportCourse
   pub finding : Finding
-  pub imported : IsImported files source (counts_of (trees_in (games_in log))) entry finding
+  pub imported : IsImported files source (counts_of (trees_in (games_of_segments log))) entry finding
   pub paid : RoseBy (losses_of (entry ∷ [])) faults_before faults_now
 
 -- the log has grown by the segments of what it found, and the report tells that

@@ -21,7 +21,7 @@ use Rattle.session_core.specs.Lawful.{AreSearched, IsNamed, IsPassed, IsStatemen
 use Rattle.session_core.specs.SessionState.{SessionState}
 use Rattle.session_core.specs.Sources.{IsNoImport, statement_of}
 use Rattle.session_core.proofs.StateLemmas.{floor-joined, floor-named, greatest-le, last_named, opens-passed}
-use Rattle.import_work.specs.Log.{games_in, segments_of}
+use Rattle.import_work.specs.Log.{games_of_segments, segments_of}
 use Rattle.import_work.specs.Outcome.{counts_of}
 use Rattle.serial_run.specs.Steps.{AreAnswered, AreAnsweredFrom, IsKeptOfState, import_at, IsTextTo, Kept, LeadsOn, LeavesBase, kept_report, view_of}
 use Rattle.session_core.specs.ImportTexts.{import_line_text, report_text}
@@ -30,7 +30,7 @@ use Rattle.import_work.proofs.FileLemmas.{rose_by_none}
 -- the last version is seen as it is kept
 pub view_kept : (s : State) (kept : Kept) (session : SessionState) → IsKeptOfState s kept session → view_at s (last_of s) ≡ view_of kept
 view_kept s kept session is =
-    ap (λ (gs : List Game). record { version = last_of s; games = gs }) (ap games_in (take_all (last_of s) s.log (omega arith)) ∙ sym is.games)
+    ap (λ (gs : List Game). record { version = last_of s; games = gs }) (ap games_of_segments (take_all (last_of s) s.log (omega arith)) ∙ sym is.games)
     ∙ ap (λ (n : ℕ). record { version = n; games = kept.games }) (sym is.version)
 
 -- ---- the searches of a block
@@ -239,7 +239,7 @@ placed_as p from is = λ i. record { line = p.line; statement = (sym is) i }
 
 -- an import that found this leads on to what is kept with its games and its report
 pub leads-import : (rules : Rules) (files : List File) (kept : Kept) (line : ℕ) (from : Source) (text : List ℕ) (before now : ℕ) (entry : ImportCourse) (finding : Finding) (games : List Game) (report : List ℕ) (version : ℕ) →
-    IsImported files from (counts_of (trees_in kept.games)) entry finding → version ≡ kept.version + length (segments_of rules.batch finding) → games ≡ kept.games ++ games_in (segments_of rules.batch finding) → report ≡ report_text line finding version →
+    IsImported files from (counts_of (trees_in kept.games)) entry finding → version ≡ kept.version + length (segments_of rules.batch finding) → games ≡ kept.games ++ games_of_segments (segments_of rules.batch finding) → report ≡ report_text line finding version →
     RoseBy (losses_of (entry ∷ [])) before now →
     LeadsOn files rules kept line (statement_of from) text (record { version = version; games = games; waiting = Some report }) before now
 leads-import rules files kept line from text before now entry finding games report version found version_is games_are report_is paid = λ session told s is of.
@@ -249,7 +249,7 @@ leads-import rules files kept line from text before now entry finding games repo
       after_import rules s line finding,
       record {
         version = counted;
-        games = games_are ∙ ap (λ gs. gs ++ games_in (segments_of rules.batch finding)) is.games ∙ sym (flat_map-append (λ (g : List Game). g) s.log (segments_of rules.batch finding));
+        games = games_are ∙ ap (λ gs. gs ++ games_of_segments (segments_of rules.batch finding)) is.games ∙ sym (flat_map-append (λ (g : List Game). g) s.log (segments_of rules.batch finding));
         waiting = ap (λ r. Some r) (report_is ∙ ap (λ n. report_text line finding n) counted);
         floor = rw length-append (omega (arith, floor-joined s.waiting s.floor (last_of s) is.floor));
         session_is = sym own.1;

@@ -20,7 +20,7 @@ use Rattle.import_work.specs.declared.source.Source.{Source}
 use Rattle.import_work.specs.declared.source.Source.TheVariants as source
 use Rattle.session_core.specs.Lawful.{HasPrinted, IsPassed, Rules, State, last_of, waiting_text}
 use Rattle.session_core.specs.ImportTexts.{import_line_text}
-use Rattle.import_work.specs.Log.{games_in}
+use Rattle.import_work.specs.Log.{games_of_segments}
 
 -- what the code keeps of a state: the number and the games of the last version, and the report that
 -- waits
@@ -44,7 +44,7 @@ kept_at version waiting = record {
 -- this is kept of the state, and its statements left this
 pub record IsKeptOfState (s : State) (kept : Kept) (session : SessionState) : Type 0 where
   pub version : kept.version ≡ last_of s
-  pub games : kept.games ≡ games_in s.log
+  pub games : kept.games ≡ games_of_segments s.log
   pub waiting : kept.waiting ≡ s.waiting
   pub floor : s.floor ≤ last_of s
   pub session_is : s.session ≡ session
