@@ -11,8 +11,8 @@ use Rattle.segment_store.specs.Finished.{IsCanonicalOf}
 use Rattle.session_core.specs.Signed.{FoundGame}
 
 -- the games behind references
-abbrev pub games_of : List (Bor Game) → List Game
-games_of games = map (λ (g : Bor Game). g.now) games
+abbrev pub borrowed_games : List (Bor Game) → List Game
+borrowed_games games = map (λ (g : Bor Game). g.now) games
 
 -- the information of each game
 abbrev pub infos_of : List (Bor Game) → List Information
