@@ -7,7 +7,7 @@ use Rattle.kb_geometry.specs.declared.memory.NoMemory.{NoMemory}
 use Rattle.kb_edges.specs.Faults.{Rose}
 use Rattle.kb_edges.specs.Files.{File}
 use Rattle.kb_edges.specs.Told.{IfTold}
-use Rattle.version_publisher.specs.Contents.{Opening, items_in}
+use Rattle.version_publisher.specs.Contents.{BookName, items_in}
 use Rattle.version_publisher.specs.declared.state.PublisherState.{PublisherState}
 use Rattle.node_position.specs.Games.{Game}
 use Rattle.import_work.specs.Course.{IsImported, nothing_lost, trees_in}
@@ -114,7 +114,7 @@ module _ (told : Option (List File)) (job : ImportJob) (some : 1 ≤ job.batch) 
         }
 
   -- how it ends
-  pub ended : (opening : Opening) (told_now : Option (List File)) (last : ℕ) (publisher : PublisherState Game) (result : Result Report NoMemory) → publisher.opening ≡ opening → length publisher.log ≤ length log + length start.left → IsWithinLimits publisher.log → told_now ≡ told → opened_at ≤ last →
+  pub ended : (opening : BookName) (told_now : Option (List File)) (last : ℕ) (publisher : PublisherState Game) (result : Result Report NoMemory) → publisher.opening ≡ opening → length publisher.log ≤ length log + length start.left → IsWithinLimits publisher.log → told_now ≡ told → opened_at ≤ last →
       PublishesFirst told job.batch start log publisher.log opened_at last → IfOk result (λ r. IsIdle publisher × PublishesAll told job.batch start log publisher.log r opened_at last) → IfOk result (λ r. AreMerged publisher.parts) → HasEnded told first job opening log told_now last publisher result
   ended opening told_now last publisher result opened few limits same after first_of all merged = record {
     opened = opened;

@@ -8,7 +8,7 @@ use Rattle.kb_edges.specs.Faults.{Rose}
 use Rattle.kb_edges.specs.Files.{File}
 use Rattle.hit_collectors.specs.Tallies.{BoxTally}
 use Rattle.query_script.specs.declared.statement.Placed.{Placed}
-use Rattle.version_publisher.specs.Contents.{Opening, items_in}
+use Rattle.version_publisher.specs.Contents.{BookName, items_in}
 use Rattle.version_publisher.specs.declared.state.PublisherState.{PublisherState}
 use Rattle.version_publisher.specs.declared.state.SearcherState.{SearcherState}
 use Rattle.node_position.specs.Games.{Game}
@@ -124,7 +124,7 @@ WritesPublished-end rules files start session placed kept publisher before betwe
 -- ---- a run from its start
 
 -- the run stands still where nothing is published yet
-pub stands-first : (opening : Opening) (publisher : PublisherState Game) (own : SearcherState Game) → publisher.opening ≡ opening → IsIdle publisher → AreMerged publisher.parts → publisher.log ≡ [] → own.seen ≡ [] → StandsStill opening publisher own nothing_kept
+pub stands-first : (opening : BookName) (publisher : PublisherState Game) (own : SearcherState Game) → publisher.opening ≡ opening → IsIdle publisher → AreMerged publisher.parts → publisher.log ≡ [] → own.seen ≡ [] → StandsStill opening publisher own nothing_kept
 stands-first opening publisher own opened idle merged empty seen = record {
   opened = opened;
   idle = idle;

@@ -12,7 +12,7 @@ use Rattle.query_script.specs.declared.statement.PlacedSearch.{PlacedSearch}
 use Rattle.query_script.specs.declared.statement.Statement.{Statement}
 use Rattle.query_script.specs.declared.statement.Statement.TheVariants as statement
 use Rattle.node_position.specs.Games.{Game}
-use Rattle.version_publisher.specs.Contents.{Opening, items_in}
+use Rattle.version_publisher.specs.Contents.{BookName, items_in}
 use Rattle.version_publisher.specs.declared.state.PublisherState.{PublisherState}
 use Rattle.version_publisher.specs.declared.state.SearcherState.{SearcherState}
 use Rattle.import_work.specs.Course.{Finding, ImportCourse, IsImported, losses_of, trees_in}
@@ -99,7 +99,7 @@ pub record EndsWithFirst (files : List File) (job : ImportJob) (log_before log_n
 
 -- How the import of this job ends, which began with this opening and this log.
 pub record HasEnded (told : Option (List File)) (faults_before : ℕ) (job : ImportJob)
-    (opening : Opening) (log : List Segment) (told_now : Option (List File)) (faults_now : ℕ)
+    (opening : BookName) (log : List Segment) (told_now : Option (List File)) (faults_now : ℕ)
     (publisher : PublisherState Game) (report : Result Report NoMemory) : Type 0 where
   pub opened : publisher.opening ≡ opening
   pub few : length publisher.log ≤ length log + 4294967295
@@ -125,7 +125,7 @@ pub record HasRunTo (rules : Rules) (files : List File) (start : List BoxTally)
 
 -- Where a run stands while no import is under way: the publisher has this opening, nothing pending
 -- and its parts merged, the session's searcher has seen its whole log, and the last version is kept.
-pub record StandsStill (opening : Opening) (publisher : PublisherState Game)
+pub record StandsStill (opening : BookName) (publisher : PublisherState Game)
     (own : SearcherState Game) (kept : Kept) : Type 0 where
   pub opened : publisher.opening ≡ opening
   pub idle : IsIdle publisher
@@ -137,7 +137,7 @@ pub record StandsStill (opening : Opening) (publisher : PublisherState Game)
 
 -- an import may be begun: the job's counts are those of the log, and files come at least one at a
 -- time
-pub record MayBegin (opening : Opening) (publisher : PublisherState Game) (job : ImportJob)
+pub record MayBegin (opening : BookName) (publisher : PublisherState Game) (job : ImportJob)
     : Type 0 where
   pub opened : publisher.opening ≡ opening
   pub idle : IsIdle publisher
