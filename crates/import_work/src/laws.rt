@@ -1,5 +1,5 @@
-// Laws of the words for files and imports, for who reads a contract over them. Each stands as a
-// contract of a function that does nothing.
+// Laws of the definitions of files and imports, for who reads a contract over them. Each stands as
+// a contract of a function that does nothing.
 ghost use Rattle.std.specs.Prelude.{◌≡◌, ◌⊎◌, ◌+◌, ◌≤◌, [], ◌∷◌, Bool, List, length, ℕ, Some};
 ghost use Rattle.std.specs.declared.option.Option.{Option};
 ghost use Rattle.kb_edges.specs.Faults.{Rose, RoseBy};

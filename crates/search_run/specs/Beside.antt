@@ -1,4 +1,4 @@
--- What is printed while an import is under way, and how an import ends: words of the private
+-- What is printed while an import is under way, and how an import ends: definitions of the private
 -- functions.
 use Rattle.std.specs.Prelude.{◌≡◌, ◌≤◌, ◌+◌, ℕ, List, [], ◌∷◌, ◌++◌, length, Option, Some, Result, Ok, IfOk}
 use mathlib.Core.List.{IsPrefix}

@@ -1,4 +1,4 @@
--- What the searchers of a base have seen of its log: words of the private functions.
+-- What the searchers of a base have seen of its log: definitions of the private functions.
 use Rattle.std.specs.Prelude.{◌≡◌, ◌<◌, ◌≤◌, ℕ, List, All, get_or, length}
 use mathlib.Core.List.{IsPrefix}
 use Rattle.node_position.specs.Games.{Game}

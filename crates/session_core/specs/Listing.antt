@@ -1,4 +1,4 @@
--- Words of the private functions that list games and players.
+-- Definitions of the private functions that list games and players.
 use Rattle.std.specs.Prelude.{ℕ, List, [], map, slice_get}
 use Rattle.std.specs.Borrow.{Bor}
 use Rattle.std.specs.List.{AllZip}
