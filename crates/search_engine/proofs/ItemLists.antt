@@ -9,18 +9,18 @@ use Rattle.node_position.specs.Games.{Game}
 use Rattle.segment_store.specs.declared.block.NumberedBlock.{NumberedBlock}
 use Rattle.segment_store.specs.Blocks as segment
 use Rattle.search_engine.specs.declared.item.Item.{Item}
-use Rattle.search_engine.specs.Items.{AreItems, AreNumberedFrom, games_of}
+use Rattle.search_engine.specs.Items.{AreItems, AreNumberedFrom, games_of_items}
 
 abbrev games_in : Item → List Game
 games_in i = i.block.now
 
 -- the games of one block more
-games_more : (items : List Item) (i : Item) → games_of (items ++ i ∷ []) ≡ games_of items ++ i.block.now
-games_more items i = flat_map-append games_in items (i ∷ []) ∙ ap (λ gs. games_of items ++ gs) (append-nil i.block.now)
+games_more : (items : List Item) (i : Item) → games_of_items (items ++ i ∷ []) ≡ games_of_items items ++ i.block.now
+games_more items i = flat_map-append games_in items (i ∷ []) ∙ ap (λ gs. games_of_items items ++ gs) (append-nil i.block.now)
 
 -- the games up to the next block
-pub games_to_next : (items : List Item) (k : ℕ) (i : Item) → k < length items → i ≡ get_or items k i → games_of (take (k + 1) items) ≡ games_of (take k items) ++ i.block.now
-games_to_next items k i lt at = ap games_of (take_more items k i lt) ∙ games_more (take k items) (get_or items k i) ∙ ap (λ (j : Item). games_of (take k items) ++ j.block.now) (sym at)
+pub games_to_next : (items : List Item) (k : ℕ) (i : Item) → k < length items → i ≡ get_or items k i → games_of_items (take (k + 1) items) ≡ games_of_items (take k items) ++ i.block.now
+games_to_next items k i lt at = ap games_of_items (take_more items k i lt) ∙ games_more (take k items) (get_or items k i) ∙ ap (λ (j : Item). games_of_items (take k items) ++ j.block.now) (sym at)
 
 -- no block
 pub AreItems-none : (first : ℕ) → AreItems first [] []
@@ -31,11 +31,11 @@ pub AreItems-more : (first : ℕ) (games : List Game) (items : List Item) (i : I
 AreItems-more first games items i are number = record {
   has_games = games_more items i ∙ ap (λ gs. gs ++ i.block.now) are.has_games;
   numbered = λ k d below. elim (cases_lt k (length items)) [
-    | inl lower ↦ ap (λ (j : Item). j.first) (get_or_append_left items (i ∷ []) d k lower) ∙ (are.numbered k d lower ∙ ap (λ (is : List Item). first + length (games_of is)) (sym (take-append-le k items (i ∷ []) (omega (arith, lower)))))
+    | inl lower ↦ ap (λ (j : Item). j.first) (get_or_append_left items (i ∷ []) d k lower) ∙ (are.numbered k d lower ∙ ap (λ (is : List Item). first + length (games_of_items is)) (sym (take-append-le k items (i ∷ []) (omega (arith, lower)))))
     | inr upper ↦
         let last : k ≡ length items = omega (arith, upper, below, length-append items (i ∷ [])) in
-        subst (λ n. (get_or (items ++ i ∷ []) n d).first ≡ first + length (games_of (take n (items ++ i ∷ [])))) (sym last)
-        (ap (λ (j : Item). j.first) (get_or-append_seam items i [] d) ∙ (number ∙ ap (λ gs. first + length gs) (sym are.has_games) ∙ ap (λ (is : List Item). first + length (games_of is)) (sym (take-append_seam items (i ∷ [])))))
+        subst (λ n. (get_or (items ++ i ∷ []) n d).first ≡ first + length (games_of_items (take n (items ++ i ∷ [])))) (sym last)
+        (ap (λ (j : Item). j.first) (get_or-append_seam items i [] d) ∙ (number ∙ ap (λ gs. first + length gs) (sym are.has_games) ∙ ap (λ (is : List Item). first + length (games_of_items is)) (sym (take-append_seam items (i ∷ [])))))
   ];
 }
 
@@ -69,15 +69,15 @@ module _ (blocks : List NumberedBlock) (n : ℕ) (p : NumberedBlock) (numbered :
 -- ---- pieces of a list of blocks
 
 -- the games up to the end of a piece
-pub games_to_piece : (items : List Item) (n size : ℕ) → games_of (take (n + size) items) ≡ games_of (take n items) ++ games_of (take size (drop n items))
-games_to_piece items n size = ap games_of (take-add n size items) ∙ flat_map-append games_in (take n items) (take size (drop n items))
+pub games_to_piece : (items : List Item) (n size : ℕ) → games_of_items (take (n + size) items) ≡ games_of_items (take n items) ++ games_of_items (take size (drop n items))
+games_to_piece items n size = ap games_of_items (take-add n size items) ∙ flat_map-append games_in (take n items) (take size (drop n items))
 
 -- a piece is numbered from the number of its first game on
-pub AreNumberedFrom-piece : (first : ℕ) (items : List Item) (n size : ℕ) → AreNumberedFrom first items → AreNumberedFrom (first + length (games_of (take n items))) (take size (drop n items))
+pub AreNumberedFrom-piece : (first : ℕ) (items : List Item) (n size : ℕ) → AreNumberedFrom first items → AreNumberedFrom (first + length (games_of_items (take n items))) (take size (drop n items))
 AreNumberedFrom-piece first items n size numbered k d below =
     let short : k < size = omega (arith, below, length-take size (drop n items)) in
     let inside : n + k < length items = omega (arith, below, length-take size (drop n items), length-drop n items) in
     let here : get_or (take size (drop n items)) k d ≡ get_or items (n + k) d = get_or-take size (drop n items) k d short ∙ get_or-drop n items k d in
-    let parts : games_of (take (n + k) items) ≡ games_of (take n items) ++ games_of (take k (take size (drop n items))) = games_to_piece items n k ∙ ap (λ is. games_of (take n items) ++ games_of is) (sym (take-take k size (drop n items) (omega (arith, short)))) in
-    let long = ap length parts ∙ length-append (games_of (take n items)) (games_of (take k (take size (drop n items)))) in
+    let parts : games_of_items (take (n + k) items) ≡ games_of_items (take n items) ++ games_of_items (take k (take size (drop n items))) = games_to_piece items n k ∙ ap (λ is. games_of_items (take n items) ++ games_of_items is) (sym (take-take k size (drop n items) (omega (arith, short)))) in
+    let long = ap length parts ∙ length-append (games_of_items (take n items)) (games_of_items (take k (take size (drop n items)))) in
     ap (λ (i : Item). i.first) here ∙ (numbered (n + k) d inside ∙ omega (arith, long))

@@ -9,7 +9,7 @@ use Rattle.pattern_images.specs.declared.query.Query.{Query}
 use Rattle.pattern_images.specs.Query.{IsForBoard}
 use Rattle.segment_store.specs.BoardShapes.{HaveShapes}
 use Rattle.search_engine.specs.declared.item.Item.{Item}
-use Rattle.search_engine.specs.Items.{games_of}
+use Rattle.search_engine.specs.Items.{games_of_items}
 use Rattle.search_engine.specs.Searching.{AreCovered, AreShapesAdded}
 use Rattle.search_engine.proofs.ItemLists.{games_to_next}
 
@@ -67,9 +67,9 @@ module _ (query : Query) where
   AreShapesAdded-of_games games shapes old new have are = record { asked = are.asked; kept = are.kept; added = λ s there looks. are.added s ((have s).1 there) looks }
 
   -- one block more
-  pub AreShapesAdded-block : (items : List Item) (k : ℕ) (i : Item) (shapes old mid new : List Shape) → k < length items → i ≡ get_or items k i → HaveShapes i.block.now shapes → AreShapesAdded query (shapes_in (games_of (take k items))) old mid → AreShapesAdded query shapes mid new → AreShapesAdded query (shapes_in (games_of (take (k + 1) items))) old new
+  pub AreShapesAdded-block : (items : List Item) (k : ℕ) (i : Item) (shapes old mid new : List Shape) → k < length items → i ≡ get_or items k i → HaveShapes i.block.now shapes → AreShapesAdded query (shapes_in (games_of_items (take k items))) old mid → AreShapesAdded query shapes mid new → AreShapesAdded query (shapes_in (games_of_items (take (k + 1) items))) old new
   AreShapesAdded-block items k i shapes old mid new lt at have so_far added =
-      let before = games_of (take k items) in
+      let before = games_of_items (take k items) in
       subst (λ ss. AreShapesAdded query ss old new) (sym (ap shapes_in (games_to_next items k i lt at) ∙ map-append (λ (g : Game). g.tree.shape) before i.block.now))
       (AreShapesAdded-both (shapes_in before) (shapes_in i.block.now) old mid new so_far (AreShapesAdded-of_games i.block.now shapes mid new have added))
 

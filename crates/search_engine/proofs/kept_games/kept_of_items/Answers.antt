@@ -2,7 +2,7 @@ use Rattle.std.proofs.Common.{arith, subst}
 use Rattle.std.proofs.lemmas.List.{take_all}
 use Rattle.node_position.specs.Games.{Game}
 use Rattle.search_engine.specs.declared.item.Item.{Item}
-use Rattle.search_engine.specs.Items.{games_of}
+use Rattle.search_engine.specs.Items.{games_of_items}
 use Rattle.search_engine.specs.KeptGames.{AreKept}
 use Rattle.search_engine.specs.Searching.{IsCovered}
 use Rattle.search_engine.proofs.BlocksSearched.{All-of_part}
@@ -29,4 +29,4 @@ loop-item-preserved c =
     }
 
 pub returns : goal.returns
-returns c = subst (λ is. AreKept c.args.matchers.now.query (games_of is) c.loop-item.count) (take_all c.loop-item.item-index c.args.items.now (omega (arith, c.loop-item-test.false))) c.loop-item.invariant.kept
+returns c = subst (λ is. AreKept c.args.matchers.now.query (games_of_items is) c.loop-item.count) (take_all c.loop-item.item-index c.args.items.now (omega (arith, c.loop-item-test.false))) c.loop-item.invariant.kept
