@@ -1,2 +1,2 @@
--- Words of private functions.
+-- Definitions of private functions.
 pub mod ExitCodes

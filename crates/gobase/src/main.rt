@@ -67,10 +67,10 @@ fn run_script(
     words: &[String],
 ) -> Result<Status, NoMemory> {
     let alloc = host.alloc();
-    let mut boards: Vec<Box<dyn Collector>> = Vec::new(alloc);
+    let mut boxes: Vec<Box<dyn Collector>> = Vec::new(alloc);
     for (name, kind) in COLLECTORS {
         let counter = Counter::new(String::from_str(alloc, name)?, kind)?;
-        boards.push(Box::new(alloc, counter)?)?;
+        boxes.push(Box::new(alloc, counter)?)?;
     }
     let folder = RealFolder::new(host);
     let mut script = RealSource::new(host.stdin());
@@ -84,7 +84,7 @@ fn run_script(
         &mut script,
         &mut out,
         OpenGate,
-        boards,
+        boxes,
         base,
     );
     if let Some(publisher) = publisher {

@@ -1,4 +1,4 @@
--- Words of the private functions that find a box by its name.
+-- Definitions of the private functions that find a box by its name.
 use Rattle.std.specs.Prelude.{◌≡◌, ◌≢◌, ◌<◌, ℕ, List, length, slice_index_or, take, All}
 
 -- the box with this number is the first that has the name

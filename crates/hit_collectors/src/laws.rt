@@ -1,5 +1,5 @@
-// Laws of the words for tallies and boxes, for who writes a collector of one's own, feeds hits in
-// turns, or reads a contract of this crate.
+// Laws of the definitions of tallies and boxes, for who writes a collector of one's own, feeds hits
+// in turns, or reads a contract of this crate.
 ghost use Rattle.std.specs.Prelude.{
   ◌≡◌,
   ◌≢◌,

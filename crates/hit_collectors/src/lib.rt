@@ -1,7 +1,7 @@
 //! Boxes that tally hits: each has a name, a kind and the numbers of that kind.
 //!
-//! Stands on the hits of pattern_images. In `specs/` are the words for what a box tells, for what
-//! hits add to it, and for the report line of a box. The layers above use that [`feed`] adds every
+//! Stands on the hits of pattern_images. In `specs/` are the definitions of what a box tells, of what
+//! hits add to it, and of the report line of a box. The layers above use that [`feed`] adds every
 //! hit to every box, and that [`retire`] takes out the first box of a name.
 #![tactic(auto)]
 

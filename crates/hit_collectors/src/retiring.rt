@@ -40,13 +40,13 @@ pub fn retire<C: Collector>(boards: &mut Vec<C>, name: &str) -> Result<(), NoSuc
 }
 
 // The number of the first box of this name.
-fn first_named<C: Collector>(boards: &[C], name: &str) -> Option<usize>
+fn first_named<C: Collector>(boxes: &[C], name: &str) -> Option<usize>
     ensures some { IfSome result (λ i.
-        IsFirstNamed (λ board. (C.tally board).name) name.now boards.now i) }
-    ensures none { IfNone result (All (λ board. (C.tally board).name ≢ name.now) boards.now) }
+        IsFirstNamed (λ b. (C.tally b).name) name.now boxes.now i) }
+    ensures none { IfNone result (All (λ b. (C.tally b).name ≢ name.now) boxes.now) }
 {
-    for i in 0..boards.len() {
-        if has_name(&boards[i], name) {
+    for i in 0..boxes.len() {
+        if has_name(&boxes[i], name) {
             return Some(i);
         }
     }

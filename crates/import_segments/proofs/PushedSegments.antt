@@ -8,19 +8,19 @@ use Rattle.version_publisher.specs.Contents.{items_in}
 use Rattle.version_publisher.specs.declared.state.VersionState.{VersionState}
 use Rattle.import_work.specs.Course.{trees_in}
 use Rattle.import_work.specs.Imports.{ImportState, IsStep, nothing, one_more}
-use Rattle.import_work.specs.Log.{Segment, games_in}
+use Rattle.import_work.specs.Log.{Segment, games_of_segments}
 use Rattle.import_work.specs.Outcome.{counts_of}
 use Rattle.import_work.specs.Rooms.{AreAdded}
 use Rattle.import_work.specs.declared.outcome.Counts.{Counts}
 use Rattle.import_work.proofs.GivenSegments.{GoesOn, goes_on}
 use Rattle.import_work.proofs.RoomLemmas.{counts_of-more, length-trees}
-use Rattle.import_work.proofs.SegmentLemmas.{games_in-append}
+use Rattle.import_work.proofs.SegmentLemmas.{games_of_segments-append}
 use Rattle.import_segments.specs.Stores.{HasFewGames, HasTaken, IsPushed}
 
 -- the items of a version's parts are the games of segments
-pub items_in-games_in : (segments : List Segment) → items_in segments ≡ games_in segments
-items_in-games_in [] = refl
-items_in-games_in (s ∷ segments) = ap (λ gs. s ++ gs) (items_in-games_in segments)
+pub items_in-games_of_segments : (segments : List Segment) → items_in segments ≡ games_of_segments segments
+items_in-games_of_segments [] = refl
+items_in-games_of_segments (s ∷ segments) = ap (λ gs. s ++ gs) (items_in-games_of_segments segments)
 
 -- no segment yet
 pub IsPushed-none : (version : VersionState Game) → IsPushed version version []
@@ -34,10 +34,10 @@ IsPushed-more before now after segments s h number parts = record {
 }
 
 -- the games of a version with segments more
-pub games_pushed : (before after : VersionState Game) (segments : List Segment) → IsPushed before after segments → items_in after.parts ≡ items_in before.parts ++ games_in segments
+pub games_pushed : (before after : VersionState Game) (segments : List Segment) → IsPushed before after segments → items_in after.parts ≡ items_in before.parts ++ games_of_segments segments
 games_pushed before after segments h =
-    ap items_in h.parts ∙ items_in-games_in (before.parts ++ segments) ∙ games_in-append before.parts segments
-    ∙ ap (λ gs. gs ++ games_in segments) (sym (items_in-games_in before.parts))
+    ap items_in h.parts ∙ items_in-games_of_segments (before.parts ++ segments) ∙ games_of_segments-append before.parts segments
+    ∙ ap (λ gs. gs ++ games_of_segments segments) (sym (items_in-games_of_segments before.parts))
 
 -- nothing is taken yet
 pub HasTaken-none : (told : Option (List File)) (batch : ℕ) (start : ImportState) (version : VersionState Game) (first : ℕ) → HasTaken told batch start start version version first first

@@ -1,4 +1,4 @@
--- What the lock of receipts awaits: words of its private functions.
+-- What the lock of receipts awaits: definitions of its private functions.
 use Rattle.std.specs.Prelude.{◌≡◌, ℕ, ◌<◌, Bool, false, IfSome, Option, length}
 use Rattle.version_publisher.specs.declared.state.ReceiptState.{ReceiptState}
 use Rattle.node_position.specs.Games.{Game}

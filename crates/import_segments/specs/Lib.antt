@@ -1,7 +1,7 @@
--- Words that contracts of public functions rest on.
+-- Definitions that contracts of public functions rest on.
 pub mod Merged
 pub mod Publishing
 pub mod Stores
--- Words of private functions.
+-- Definitions of private functions.
 pub mod Awaited
 pub mod Published

@@ -1,5 +1,5 @@
--- What an importer has published of an import so far, and how it merges parts: words of the private
--- functions.
+-- What an importer has published of an import so far, and how it merges parts: definitions
+-- of the private functions.
 use Rattle.std.specs.Prelude.{◌≡◌, ◌≤◌, ℕ, List, [], ◌∷◌, ◌++◌, length}
 use Rattle.std.specs.declared.option.Option.{Option}
 use Rattle.kb_edges.specs.Files.{File}

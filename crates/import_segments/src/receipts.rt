@@ -11,9 +11,9 @@ use version_publisher::{Publisher, Receipt};
 
 /// Names one opening of a publisher and its searchers, by three numbers that contracts alone see.
 pub trait OpenName {
-    ghost use Rattle.version_publisher.specs.Contents.{Opening};
+    ghost use Rattle.version_publisher.specs.Contents.{BookName};
 
-    ghost opening: { Opening };
+    ghost opening: { BookName };
 }
 
 // A function that is generic over the name is called at this type; the proof of the call says which

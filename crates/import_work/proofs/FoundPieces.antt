@@ -6,7 +6,7 @@ use Rattle.std.specs.Global.{Global}
 use Rattle.std.specs.List.{AllZip}
 use Rattle.std.specs.Prelude.{Vec}
 use Rattle.import_work.specs.Judged.{AreFound, IsFoundFile}
-use Rattle.import_work.specs.Pieces.{AreJoined, ArePieces, PieceOf, group_texts}
+use Rattle.import_work.specs.Pieces.{ArePiecesJoined, ArePieces, PieceOf, group_texts}
 use Rattle.import_work.specs.Reads.{FileText, file_text, file_texts}
 use Rattle.import_work.specs.declared.found.FoundFile.{FoundFile}
 use Rattle.import_work.specs.declared.read.ReadFile.{ReadFile}
@@ -33,7 +33,7 @@ found-more files file found more own so_far is pushed =
     (AllZip-push IsFoundFile (file_texts files) found (file_text file) own so_far is))
 
 -- what was found in all groups
-pub pieces_found : (groups : List (Vec ReadFile Global)) (pieces : List (PieceOf FoundFile)) (texts : List FileText) (files : List FoundFile) → group_texts groups ≡ texts → ArePieces (λ (g : Vec ReadFile Global). file_texts g.items) AreFound groups pieces → AreJoined pieces files → AreFound texts files
+pub pieces_found : (groups : List (Vec ReadFile Global)) (pieces : List (PieceOf FoundFile)) (texts : List FileText) (files : List FoundFile) → group_texts groups ≡ texts → ArePieces (λ (g : Vec ReadFile Global). file_texts g.items) AreFound groups pieces → ArePiecesJoined pieces files → AreFound texts files
 pieces_found groups pieces texts files same are joined =
     subst (λ ts. AreFound ts files) same (pieces-fit (λ (g : Vec ReadFile Global). file_texts g.items) AreFound tt (AllZip-then IsFoundFile) groups pieces files are joined)
 

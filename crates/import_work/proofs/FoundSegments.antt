@@ -1,6 +1,6 @@
 -- What an import finds in a folder that tells its files, and the segments that it gives there.
 use Rattle.std.proofs.Common.{◌≡◌, ◌⊎◌, inl, inr, ℕ, suc, true, false, ◌*◌, ◌<◌, ◌≤◌, min, List, [], ◌∷◌, ◌++◌, Some, length, length-append, drop, take, append-nil, append_assoc, refl, sym, ap, ◌∙◌, subst, suc-mul, zero-mul, arith}
-use Rattle.std.specs.Prelude.{All}
+use Rattle.std.specs.Prelude.{All, filter}
 use Rattle.std.proofs.lemmas.Bool.{cases_lt}
 use Rattle.std.proofs.lemmas.List.{drop_all, length-map, length-take, map-append, nil_from_length, take-append-drop}
 use Rattle.kb_geometry.proofs.Lists.{All-before}
@@ -20,7 +20,7 @@ use Rattle.import_work.specs.declared.source.Source.{Source}
 use Rattle.import_work.specs.declared.source.Source.TheVariants as source
 use Rattle.import_work.proofs.BatchLemmas.{batch_in_turn}
 use Rattle.import_work.proofs.FileLemmas.{RoseBy-then, rose_by_none}
-use Rattle.import_work.proofs.ImportsExist.{all-read}
+use Rattle.import_work.proofs.ImportsExist.{all-read, filter-none}
 use Rattle.import_work.proofs.NameLemmas.{AreNames-there, has_path_or_none}
 use Rattle.import_work.proofs.ReadFiles.{All_behind, AreRead-then, counts_after, paid_there, unread_among, unread_told}
 use Rattle.import_work.proofs.RoomLemmas.{with_games-none}
@@ -187,7 +187,8 @@ module _ (all : List File) (batch : ℕ) (any : 1 ≤ batch) (start now : Import
       listed_first =
           let h = found in
           let left_there : All (HasFile all path) now.left = All_behind (HasFile all path) (names_of h.files) now.left (subst (All (HasFile all path)) h.named (AreNames-there all path start.left are)) in
-          let rest = all-read all path start.counts h.files h.unread now.left left_there h.read in
+          let rest = all-read all path start.counts h.files h.unread (λ name. false) now.left left_there h.read in
+          let unread : h.unread ++ filter (λ (name : List ℕ). false) now.left ≡ h.unread = ap (λ us. h.unread ++ us) (filter-none now.left) ∙ append-nil h.unread in
           let named : names_of (h.files ++ rest.more) ≡ start.left = map-append (λ (f : ImportFile). f.report.name) h.files rest.more ∙ ap (λ ns. names_of h.files ++ ns) rest.named ∙ sym h.named in
           let same : length rest.more ≡ length now.left = sym (length-map rest.more (λ (f : ImportFile). f.report.name)) ∙ ap length rest.named in
           let begins : IsPrefix (segments_of batch (Files h.files)) (segments_of batch (Files (h.files ++ rest.more))) = elim h.whole [
@@ -196,7 +197,7 @@ module _ (all : List File) (batch : ℕ) (any : 1 ≤ batch) (start now : Import
                 subst (λ fs. IsPrefix (segments_of batch (Files h.files)) (segments_of batch (Files fs))) (sym (ap (λ fs. h.files ++ fs) empty ∙ append-nil h.files)) (prefix_same (segments_of batch (Files h.files)))
             | inr whole ↦ segments_first batch any h.files rest.more whole.0 whole.1
           ] in record {
-            finds = finds_files (h.files ++ rest.more) h.unread rest.read named h.paid;
+            finds = finds_files (h.files ++ rest.more) h.unread (subst (AreRead all path start.counts (h.files ++ rest.more)) unread rest.read) named h.paid;
             prefix = subst (λ ss. IsPrefix ss (segments_of batch (Files (h.files ++ rest.more)))) (sym h.segments_are) begins;
           }
 

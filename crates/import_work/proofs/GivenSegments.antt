@@ -7,11 +7,11 @@ use Rattle.kb_edges.specs.Files.{File}
 use Rattle.import_work.specs.Batches.{games_added, games_told, line_report, line_reports}
 use Rattle.import_work.specs.Course.{FileReport, trees_in}
 use Rattle.import_work.specs.Imports.{AddsUp, HasGiven, ImportState, IsFileStep, IsStep, games_reported, nothing, of_files, of_made, one_more}
-use Rattle.import_work.specs.Log.{Segment, games_in}
+use Rattle.import_work.specs.Log.{Segment, games_of_segments}
 use Rattle.import_work.specs.Outcome.{with_games}
 use Rattle.import_work.specs.Rooms.{AreAdded, AreWithinLimits}
 use Rattle.import_work.proofs.RoomLemmas.{AreAdded-more, AreAdded-none, with_games-none}
-use Rattle.import_work.proofs.SegmentLemmas.{games_in-push}
+use Rattle.import_work.proofs.SegmentLemmas.{games_of_segments-push}
 use Rattle.import_work.proofs.Turns.{games_counted}
 
 -- What holds of a step whatever it takes: it goes on with the files that are left, and the counts and
@@ -75,14 +75,14 @@ AddsUp-start start = record {
 }
 
 module _ (batch : ℕ) (any : 1 ≤ batch) (start between now : ImportState) (segments : List Segment) (segment : Segment) (h : AddsUp start between segments) (s : GoesOn batch between now segment) where
-  counted_then : AreAdded start.counts now.counts (trees_in (games_in (segments ++ segment ∷ [])))
+  counted_then : AreAdded start.counts now.counts (trees_in (games_of_segments (segments ++ segment ∷ [])))
   counted_then =
-      AreAdded-more start.counts between.counts now.counts (games_in segments) (games_in (segments ++ segment ∷ [])) h.counted
-      (record { added = segment; pushed = games_in-push segments segment; counted = s.counts })
+      AreAdded-more start.counts between.counts now.counts (games_of_segments segments) (games_of_segments (segments ++ segment ∷ [])) h.counted
+      (record { added = segment; pushed = games_of_segments-push segments segment; counted = s.counts })
 
-  told_then : games_reported now.body ≡ games_reported start.body + length (games_in (segments ++ segment ∷ []))
+  told_then : games_reported now.body ≡ games_reported start.body + length (games_of_segments (segments ++ segment ∷ []))
   told_then =
-      let all : length (games_in (segments ++ segment ∷ [])) ≡ length (games_in segments) + length segment = ap length (games_in-push segments segment) ∙ length-append (games_in segments) segment in
+      let all : length (games_of_segments (segments ++ segment ∷ [])) ≡ length (games_of_segments segments) + length segment = ap length (games_of_segments-push segments segment) ∙ length-append (games_of_segments segments) segment in
       omega (arith, s.told, h.told, all)
 
   some_left : 0 < length between.left
@@ -97,12 +97,12 @@ module _ (batch : ℕ) (any : 1 ≤ batch) (start between now : ImportState) (se
       let fewer : length (drop batch between.left) < length between.left = rw length-drop (omega (arith, some_left, any)) in
       rw length-append (omega (arith, rest, fewer, h.few))
 
-  room_then : games_in (segments ++ segment ∷ []) ≢ [] → AreWithinLimits now.counts
+  room_then : games_of_segments (segments ++ segment ∷ []) ≢ [] → AreWithinLimits now.counts
   room_then some = elim (cases_lt 0 (length segment)) [
     | inl more ↦ s.room (λ none. omega (arith, more, ap length none))
     | inr none ↦
         let empty : segment ≡ [] = nil_from_length segment (omega (arith, none)) in
-        let same : games_in (segments ++ segment ∷ []) ≡ games_in segments = games_in-push segments segment ∙ ap (λ gs. games_in segments ++ gs) empty ∙ append-nil (games_in segments) in
+        let same : games_of_segments (segments ++ segment ∷ []) ≡ games_of_segments segments = games_of_segments-push segments segment ∙ ap (λ gs. games_of_segments segments ++ gs) empty ∙ append-nil (games_of_segments segments) in
         let counts : between.counts ≡ now.counts = sym (s.counts ∙ ap (λ gs. with_games between.counts (trees_in gs)) empty ∙ with_games-none between.counts) in
         subst AreWithinLimits counts (h.room (λ nil. some (same ∙ nil)))
   ]

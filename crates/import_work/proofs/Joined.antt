@@ -6,18 +6,18 @@ use Rattle.std.proofs.lemmas.List.Elements.{All-nil, All-push}
 use Rattle.std.proofs.lemmas.List.Folds.{length-flat_map-take}
 use Rattle.std.specs.List.{flat_map}
 use Rattle.std.specs.Prelude.{Ok, Err, IsOk}
-use Rattle.import_work.specs.Pieces.{AreJoined, ArePieces, IsPieceAdded, IsPieceFor, PieceOf, items_in}
+use Rattle.import_work.specs.Pieces.{ArePiecesJoined, ArePieces, IsPieceAdded, IsPieceFor, PieceOf, items_in}
 
 -- nothing is joined yet, and one piece more
-pub AreJoined-none : {A : Type 0} → AreJoined {A = A} [] []
-AreJoined-none {A} = record { joined = refl; good = All-nil (λ (p : PieceOf A). IsOk p) }
+pub ArePiecesJoined-none : {A : Type 0} → ArePiecesJoined {A = A} [] []
+ArePiecesJoined-none {A} = record { joined = refl; good = All-nil (λ (p : PieceOf A). IsOk p) }
 
-pub AreJoined-more : {A : Type 0} (pieces : List (PieceOf A)) (piece : PieceOf A) (old new : List A) → AreJoined pieces old → IsPieceAdded piece old new → AreJoined (pieces ++ piece ∷ []) new
-AreJoined-more {A} pieces (Ok given) old new so_far added = record {
+pub ArePiecesJoined-more : {A : Type 0} (pieces : List (PieceOf A)) (piece : PieceOf A) (old new : List A) → ArePiecesJoined pieces old → IsPieceAdded piece old new → ArePiecesJoined (pieces ++ piece ∷ []) new
+ArePiecesJoined-more {A} pieces (Ok given) old new so_far added = record {
   joined = added ∙ ap (λ (xs : List A). xs ++ given.items) so_far.joined ∙ sym (flat_map-append items_in pieces (Ok given ∷ []) ∙ ap (λ (xs : List A). flat_map items_in pieces ++ xs) (append-nil given.items));
   good = All-push (λ (p : PieceOf A). IsOk p) pieces (Ok given) so_far.good refl;
 }
-AreJoined-more pieces (Err e) old new so_far added = absurd added
+ArePiecesJoined-more pieces (Err e) old new so_far added = absurd added
 
 -- what holds of each job and its piece holds of all jobs and what is joined
 module _ {J T A : Type 0} (told : J → List T) (Fits : List T → List A → Type 0) (none : Fits [] []) (then : (ts us : List T) (xs ys : List A) → Fits ts xs → Fits us ys → Fits (ts ++ us) (xs ++ ys))
@@ -39,7 +39,7 @@ piece-fits told Fits job (Ok given) h = h.0
 piece-fits told Fits job (Err e) h = absurd (false≢true h.1)
 
 -- what is joined fits to what is told of all jobs
-pub pieces-fit : {J T A : Type 0} (told : J → List T) (Fits : List T → List A → Type 0) → Fits [] [] → ((ts us : List T) (xs ys : List A) → Fits ts xs → Fits us ys → Fits (ts ++ us) (xs ++ ys)) → (jobs : List J) (pieces : List (PieceOf A)) (items : List A) → ArePieces told Fits jobs pieces → AreJoined pieces items → Fits (flat_map told jobs) items
+pub pieces-fit : {J T A : Type 0} (told : J → List T) (Fits : List T → List A → Type 0) → Fits [] [] → ((ts us : List T) (xs ys : List A) → Fits ts xs → Fits us ys → Fits (ts ++ us) (xs ++ ys)) → (jobs : List J) (pieces : List (PieceOf A)) (items : List A) → ArePieces told Fits jobs pieces → ArePiecesJoined pieces items → Fits (flat_map told jobs) items
 pieces-fit {J} {T} {A} told Fits none then jobs pieces items are joined =
     subst (λ xs. Fits (flat_map told jobs) xs) (sym joined.joined)
     (in_all told Fits none then (λ job piece. IsPieceFor told Fits job piece × IsOk piece) (piece-fits told Fits) jobs pieces are.all
@@ -61,7 +61,7 @@ module _ {J T A : Type 0} (told : J → List T) (Fits : List T → List A → Ty
   pieces-few jobs pieces are = in_all told IsFew (omega arith) few-then (IsPieceFor told Fits) piece-few jobs pieces are.all are.each
 
 -- where all pieces have room, the next one has room behind those that are joined
-pub room_left : {A : Type 0} (pieces joined : List (PieceOf A)) (piece : PieceOf A) (items : List A) (room : ℕ) → length (flat_map items_in pieces) ≤ room → joined ≡ take (length joined) pieces → length joined < length pieces → piece ≡ get_or pieces (length joined) piece → AreJoined joined items → length items + length (items_in piece) ≤ room
+pub room_left : {A : Type 0} (pieces joined : List (PieceOf A)) (piece : PieceOf A) (items : List A) (room : ℕ) → length (flat_map items_in pieces) ≤ room → joined ≡ take (length joined) pieces → length joined < length pieces → piece ≡ get_or pieces (length joined) piece → ArePiecesJoined joined items → length items + length (items_in piece) ≤ room
 room_left {A} pieces joined piece items room fits so_far further here are =
     let behind : length items ≡ length (flat_map items_in (take (length joined) pieces)) = ap length are.joined ∙ ap (λ (ps : List (PieceOf A)). length (flat_map items_in ps)) so_far in
     let own : length (items_in piece) ≡ length (items_in (get_or pieces (length joined) piece)) = ap (λ (p : PieceOf A). length (items_in p)) here in

@@ -12,7 +12,7 @@ use Rattle.node_position.specs.Games.{Game}
 use Rattle.import_work.specs.Course.{made_name}
 use Rattle.import_work.specs.Made.{made_game, made_games}
 use Rattle.import_work.specs.MadePieces.{AreCut, IsInRange, piece_games}
-use Rattle.import_work.specs.Pieces.{AreJoined, ArePieces, IsPieceFor, PieceOf, items_in}
+use Rattle.import_work.specs.Pieces.{ArePiecesJoined, ArePieces, IsPieceFor, PieceOf, items_in}
 use Rattle.import_work.specs.declared.making.Piece.{Piece}
 use Rattle.import_work.proofs.Joined.{pieces-few, pieces-fit}
 
@@ -107,7 +107,7 @@ abbrev pub AreMadePieces : List Piece → List (PieceOf Game) → Type 0
 AreMadePieces = ArePieces piece_games IsMade
 
 -- what is joined of all pieces is the made games, and it has room
-pub pieces-made : (start first count : ℕ) (jobs : List Piece) (pieces : List (PieceOf Game)) (games : List Game) → AreCut start first count jobs → AreMadePieces jobs pieces → AreJoined pieces games → games ≡ made_games start first count
+pub pieces-made : (start first count : ℕ) (jobs : List Piece) (pieces : List (PieceOf Game)) (games : List Game) → AreCut start first count jobs → AreMadePieces jobs pieces → ArePiecesJoined pieces games → games ≡ made_games start first count
 pieces-made start first count jobs pieces games cut are joined =
     pieces-fit piece_games IsMade refl (λ ts us xs ys (e : xs ≡ ts) (f : ys ≡ us). ap (λ (gs : List Game). gs ++ ys) e ∙ ap (λ (gs : List Game). ts ++ gs) f) jobs pieces games are joined ∙ cut.games
 

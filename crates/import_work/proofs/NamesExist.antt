@@ -15,11 +15,11 @@ use Rattle.kb_edges.specs.Files.{File, sgf_names_of}
 use Rattle.kb_edges.proofs.Listings.{IsListedName, sgf_names_of-complete, sgf_names_of-sound}
 use Rattle.import_work.specs.Course.{AreNames}
 
-abbrev Name : Type 0
+abbrev pub Name : Type 0
 Name = List ℕ
 
 -- one name comes before another
-abbrev IsBefore : Name → Name → Type 0
+abbrev pub IsBefore : Name → Name → Type 0
 IsBefore x y = slice_cmp nat_cmp x y ≡ Less
 
 -- ---- lists
@@ -132,7 +132,7 @@ names-exist files path =
 -- ---- one list alone
 
 -- of two names only one is before the other
-names_opposed : (x y : Name) → IsBefore x y → IsBefore y x → ⊥
+pub names_opposed : (x y : Name) → IsBefore x y → IsBefore y x → ⊥
 names_opposed x y before after =
     let itself : IsBefore x x = nat_list_cmp_total.trans x y x before after in
     absurd (cc (itself, nat_list_cmp_total.antisymm x x ∙ ap ordering_reverse itself))

@@ -12,22 +12,22 @@ use Rattle.std.proofs.lemmas.Nat.{div-mul-add}
 use Rattle.std.proofs.Math.Nat.{div-mul-le_self, le-div_iff_mul-le, lt-div-mul-add, mul-le-mul_left, mul-le-mul_right}
 use Rattle.node_position.specs.Games.{Game}
 use Rattle.import_work.specs.Course.{Files, ImportFile, games_of_files}
-use Rattle.import_work.specs.Log.{Segment, batches, games_in, segments_of}
+use Rattle.import_work.specs.Log.{Segment, batches, games_of_segments, segments_of}
 
 -- one piece more
 pieces_more : (piece : ℕ → List ImportFile) (k : ℕ) → map piece (range_with_len 0 (suc k)) ≡ map piece (range_with_len 0 k) ++ piece k ∷ []
 pieces_more piece k = ap (λ n. map piece (range_with_len 0 n)) (sym (add-one k)) ∙ map-range_with_len_more piece 0 k k (zero-add k)
 
 -- the games of the first so many pieces are those of the files in them
-pub pieces_joined : (files : List ImportFile) (batch k : ℕ) → games_in (map games_of_files (map (slice_chunk files batch) (range_with_len 0 k))) ≡ games_of_files (take (k * batch) files)
+pub pieces_joined : (files : List ImportFile) (batch k : ℕ) → games_of_segments (map games_of_files (map (slice_chunk files batch) (range_with_len 0 k))) ≡ games_of_files (take (k * batch) files)
 pieces_joined files batch zero = ap (λ n. games_of_files (take n files)) (sym (zero-mul batch))
 pieces_joined files batch (suc k) =
     let piece = slice_chunk files batch in
     let pieces = map piece (range_with_len 0 k) in
-    ap (λ ps. games_in (map games_of_files ps)) (pieces_more piece k)
-    ∙ ap games_in (map-append games_of_files pieces (piece k ∷ []))
+    ap (λ ps. games_of_segments (map games_of_files ps)) (pieces_more piece k)
+    ∙ ap games_of_segments (map-append games_of_files pieces (piece k ∷ []))
     ∙ flat_map-append (λ (g : List Game). g) (map games_of_files pieces) (games_of_files (piece k) ∷ [])
-    ∙ ap (λ gs. games_in (map games_of_files pieces) ++ gs) (append-nil (games_of_files (piece k)))
+    ∙ ap (λ gs. games_of_segments (map games_of_files pieces) ++ gs) (append-nil (games_of_files (piece k)))
     ∙ ap (λ gs. gs ++ games_of_files (piece k)) (pieces_joined files batch k)
     ∙ sym (flat_map-append (λ (f : ImportFile). f.games) (take (k * batch) files) (piece k))
     ∙ ap games_of_files (sym (take-add (k * batch) batch files))
@@ -63,8 +63,8 @@ pieces_few count batch some =
     ]
 
 -- the segments of an import have the games of its files
-pub games_in-segments : (batch : ℕ) → 1 ≤ batch → (files : List ImportFile) → games_in (segments_of batch (Files files)) ≡ games_of_files files
-games_in-segments batch some files =
+pub games_of_segments-all : (batch : ℕ) → 1 ≤ batch → (files : List ImportFile) → games_of_segments (segments_of batch (Files files)) ≡ games_of_files files
+games_of_segments-all batch some files =
     pieces_joined files batch ((length files + (batch - 1)) / batch)
     ∙ ap games_of_files (take_all ((length files + (batch - 1)) / batch * batch) files (pieces_hold (length files) batch some))
 
@@ -127,8 +127,8 @@ segments_first batch some files more k whole =
     subst (λ ss. IsPrefix ss all) (sym (ap (map games_of_files) (batches_first batch some files more k whole) ∙ sym (take-map games_of_files k (batches batch (files ++ more))))) (drop k all, take-append-drop k all)
 
 -- the games of segments, and of more segments
-pub games_in-append : (segments more : List Segment) → games_in (segments ++ more) ≡ games_in segments ++ games_in more
-games_in-append segments more = flat_map-append (λ (s : Segment). s) segments more
+pub games_of_segments-append : (segments more : List Segment) → games_of_segments (segments ++ more) ≡ games_of_segments segments ++ games_of_segments more
+games_of_segments-append segments more = flat_map-append (λ (s : Segment). s) segments more
 
-pub games_in-push : (segments : List Segment) (s : Segment) → games_in (segments ++ s ∷ []) ≡ games_in segments ++ s
-games_in-push segments s = games_in-append segments (s ∷ []) ∙ ap (λ gs. games_in segments ++ gs) (append-nil s)
+pub games_of_segments-push : (segments : List Segment) (s : Segment) → games_of_segments (segments ++ s ∷ []) ≡ games_of_segments segments ++ s
+games_of_segments-push segments s = games_of_segments-append segments (s ∷ []) ∙ ap (λ gs. games_of_segments segments ++ gs) (append-nil s)

@@ -1,6 +1,6 @@
 -- What an import finds: files of a folder that tells its files, and what was lost to faults on the
 -- way, or made games.
-use Rattle.std.specs.Prelude.{◌≡◌, ◌⊎◌, ◌↔◌, ◌+◌, ◌<◌, ◌≤◌, ℕ, Bool, true, false, cond, List, [], ◌∷◌, ◌++◌, codes, length, map, take, Some, AllPairs, Contains, sum_by}
+use Rattle.std.specs.Prelude.{◌≡◌, ◌⊎◌, ◌↔◌, ◌+◌, ◌<◌, ◌≤◌, ℕ, Bool, true, false, cond, List, [], ◌∷◌, ◌++◌, codes, filter, length, map, take, Some, AllPairs, Contains, sum_by}
 use Rattle.std.specs.List.{flat_map}
 use Rattle.std.specs.Cmp.Lexicographic.{slice_cmp}
 use Rattle.std.specs.Ordering.{nat_cmp}
@@ -170,3 +170,25 @@ IsImported all (source.Made games start) before entry (TooMany count) = ⊥
 IsImported all (source.Made games start) before entry (Files files) = ⊥
 IsImported all (source.Made games start) before entry (Made files) =
     HasMade games start before files × (entry ≡ nothing_lost)
+
+-- the names of the files that an import found
+abbrev pub names_found : Finding → List (List ℕ)
+names_found Unlisted = []
+names_found (TooMany count) = []
+names_found (Files files) = map (λ (f : ImportFile). f.report.name) files
+names_found (Made files) = []
+
+-- an import from this source has a path, which is there
+abbrev pub HasItsPath : List File → Source → Type 0
+HasItsPath all (source.Under path) = HasPath all path
+HasItsPath all (source.Made games start) = ⊥
+
+-- What an import finds whose losses are given: as a whole where its path is there, and of its files
+-- those whose names pass a test.
+pub record FindsBy (all : List File) (from : Source) (before : Counts) (lost : Bool)
+    (is_unread : List ℕ → Bool) : Type 0 where
+  pub entry : ImportCourse
+  pub finding : Finding
+  pub imported : IsImported all from before entry finding
+  pub unlisted : (entry.unlisted ≡ true) ↔ ((lost ≡ true) × HasItsPath all from)
+  pub unread : entry.unread ≡ filter is_unread (names_found finding)

@@ -1,5 +1,5 @@
--- What is found in a file before it is known whether the base has room for it: words of the private
--- functions.
+-- What is found in a file before it is known whether the base has room for it: definitions of
+-- the private functions.
 use Rattle.std.specs.Prelude.{◌≡◌, ◌≤◌, ℕ, List, length, Option, Some, None}
 use Rattle.game_tree.specs.Tree.{Tree}
 use Rattle.import_work.specs.Course.{games_from}

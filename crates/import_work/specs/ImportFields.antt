@@ -70,7 +70,7 @@ IsWorkKept (work.Files files) = AreFilesKept files
 IsWorkKept (work.Made made) = IsMadeKept made
 
 -- Each segment took one of the files at least.
-pub record IsKept (i : Inside) : Type 0 where
+pub record IsImportKept (i : Inside) : Type 0 where
   pub kept : IsWorkKept i.work
   pub given : i.given ≤ taken_of i.work
   pub number : i.number ≤ 9000000000000000000

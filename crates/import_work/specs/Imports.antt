@@ -9,7 +9,7 @@ use Rattle.kb_edges.specs.Faults.{RoseBy}
 use Rattle.kb_edges.specs.Files.{File, HasPath, IsSgfName}
 use Rattle.import_work.specs.Batches.{AreImportedInTurn, ArePaid, full_told, games_told, line_reports, names_in, unread_in}
 use Rattle.import_work.specs.Course.{AreMade, AreNames, Files, Finding, HasMade, HasTooMany, ImportCourse, ImportFile, IsImported, Made, TooMany, Unlisted, games_of_files, made_name, reports_of, trees_in}
-use Rattle.import_work.specs.Log.{Segment, games_in, segments_of}
+use Rattle.import_work.specs.Log.{Segment, games_of_segments, segments_of}
 use Rattle.import_work.specs.Outcome.{with_games}
 use Rattle.import_work.specs.Rooms.{AreAdded, AreWithinLimits}
 use Rattle.import_work.specs.declared.batch.FileLine.{FileLine}
@@ -180,11 +180,12 @@ pub record AddsUp (start now : ImportState) (segments : List Segment) : Type 0 w
   pub source : now.source ≡ start.source
   pub line : now.line ≡ start.line
   pub number : now.number ≡ start.number
-  pub counted : AreAdded start.counts now.counts (trees_in (games_in segments))
+  pub counted : AreAdded start.counts now.counts (trees_in (games_of_segments segments))
   pub given : now.given ≡ start.given + length segments
-  pub told : games_reported now.body ≡ games_reported start.body + length (games_in segments)
+  pub told : games_reported now.body
+      ≡ games_reported start.body + length (games_of_segments segments)
   pub few : length segments + length now.left ≤ length start.left
-  pub room : games_in segments ≢ [] → AreWithinLimits now.counts
+  pub room : games_of_segments segments ≢ [] → AreWithinLimits now.counts
 
 -- a report tells what an import found
 abbrev pub Tells : ReportBody → Finding → Type 0

@@ -1,4 +1,4 @@
--- Words that contracts of public functions rest on.
+-- Definitions that contracts of public functions rest on.
 pub mod Batches
 pub mod Course
 pub mod Imports
@@ -6,7 +6,7 @@ pub mod Log
 pub mod Made
 pub mod Outcome
 pub mod Rooms
--- Words of private functions alone.
+-- Definitions of private functions alone.
 pub mod Found
 pub mod ImportFields
 pub mod Judged

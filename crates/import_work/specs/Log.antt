@@ -22,10 +22,10 @@ segments_of batch (Files files) = map games_of_files (batches batch files)
 segments_of batch (Made files) = map games_of_files (batches batch files)
 
 -- the games of segments, in order
-abbrev pub games_in : List Segment → List Game
-games_in segments = flat_map (λ (s : Segment). s) segments
+abbrev pub games_of_segments : List Segment → List Game
+games_of_segments segments = flat_map (λ (s : Segment). s) segments
 
 -- The games of the version with a number: those of so many segments, the first ones. Version 0 has
 -- none.
 abbrev pub games_at : List Segment → ℕ → List Game
-games_at log version = games_in (take version log)
+games_at log version = games_of_segments (take version log)

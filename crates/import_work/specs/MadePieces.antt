@@ -1,4 +1,4 @@
--- The segment of made games in pieces: words of the private functions.
+-- The segment of made games in pieces: definitions of the private functions.
 use Rattle.std.specs.Prelude.{◌≡◌, ◌+◌, ◌<◌, ◌≤◌, ℕ, List, All, length}
 use Rattle.std.specs.List.{flat_map}
 use Rattle.node_position.specs.Games.{Game}

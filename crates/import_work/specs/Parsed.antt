@@ -1,4 +1,4 @@
--- What a text is: words of the private functions.
+-- What a text is: definitions of the private functions.
 use Rattle.std.specs.Prelude.{◌≤◌, ℕ, List, length}
 use Rattle.import_work.specs.Outcome.{HaveGames, IsFaulty}
 use Rattle.import_work.specs.declared.outcome.Parsed.{Parsed}

@@ -29,7 +29,7 @@ IsPieceAdded (Ok given) old new = new ≡ old ++ given.items
 IsPieceAdded (Err e) old new = ⊥
 
 -- what pieces have, for each of which there was memory
-pub record AreJoined {A : Type 0} (pieces : List (PieceOf A)) (items : List A) : Type 0 where
+pub record ArePiecesJoined {A : Type 0} (pieces : List (PieceOf A)) (items : List A) : Type 0 where
   pub joined : items ≡ flat_map items_in pieces
   pub good : All (λ (p : PieceOf A). IsOk p) pieces
 

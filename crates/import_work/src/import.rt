@@ -119,11 +119,11 @@ impl Model for Import {
 
     ghost Value = { ImportState };
 
-    ghost use Rattle.import_work.specs.ImportFields.{IsKept, state_of};
+    ghost use Rattle.import_work.specs.ImportFields.{IsImportKept, state_of};
 
     ghost view = { state_of };
 
-    ghost invariant = { IsKept };
+    ghost invariant = { IsImportKept };
 }
 
 impl Import {

@@ -1,6 +1,6 @@
-// Laws of the words for files and imports, for who reads a contract over them. Each stands as a
-// contract of a function that does nothing.
-ghost use Rattle.std.specs.Prelude.{◌≡◌, ◌⊎◌, ◌+◌, ◌≤◌, [], ◌∷◌, List, length, ℕ, Some};
+// Laws of the definitions of files and imports, for who reads a contract over them. Each stands as
+// a contract of a function that does nothing.
+ghost use Rattle.std.specs.Prelude.{◌≡◌, ◌⊎◌, ◌+◌, ◌≤◌, [], ◌∷◌, Bool, List, length, ℕ, Some};
 ghost use Rattle.std.specs.declared.option.Option.{Option};
 ghost use Rattle.kb_edges.specs.Faults.{Rose, RoseBy};
 ghost use Rattle.kb_edges.specs.Files.{File};
@@ -9,7 +9,9 @@ ghost use Rattle.import_work.specs.Batches.{IsImportedFile, IsTurnedAway, full_t
 ghost use Rattle.import_work.specs.Course.{
   AreNames,
   Finding,
+  FindsBy,
   HasMade,
+  ImportCourse,
   ImportFile,
   IsImported,
   games_of_files,
@@ -54,13 +56,16 @@ pub fn a_file_has_one_outcome()
         IsOutcome bytes before a xs → IsOutcome bytes before b ys → (a ≡ b) × (xs ≡ ys) }
 {}
 
-/// An import from each source can find something by which nothing is lost, and one thing only.
-pub fn an_import_without_a_loss_finds_one_thing()
-    ensures some { (files : List File) (source : Source) (before : Counts) →
+/// An import from each source can find something by which nothing is lost, and something whatever
+/// is lost of it. By one entry of the course it finds one thing only.
+pub fn an_import_finds_one_thing()
+    ensures whole { (files : List File) (source : Source) (before : Counts) →
         (finding : Finding) × IsImported files source before nothing_lost finding }
-    ensures one { (files : List File) (source : Source) (before : Counts) (a b : Finding) →
-        IsImported files source before nothing_lost a →
-        IsImported files source before nothing_lost b → a ≡ b }
+    ensures some { (files : List File) (source : Source) (before : Counts) (lost : Bool)
+        (is_unread : List ℕ → Bool) → FindsBy files source before lost is_unread }
+    ensures one { (files : List File) (source : Source) (before : Counts) (entry : ImportCourse)
+        (a b : Finding) → IsImported files source before entry a →
+        IsImported files source before entry b → a ≡ b }
 {}
 
 /// A file that is refused, full or unread adds no game and changes no count.

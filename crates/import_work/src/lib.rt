@@ -28,9 +28,8 @@ pub use batch::{Batch, FileLine, FileLines, import_batch};
 pub use import::Import;
 pub use laws::{
     a_file_has_one_outcome, a_file_that_is_turned_away_adds_nothing, an_import_adds_up,
-    an_import_gives_what_it_finds, an_import_has_one_list_of_names,
-    an_import_loses_by_faults_alone, an_import_without_a_loss_finds_one_thing,
-    made_games_are_added_in_order, made_games_give_all,
+    an_import_finds_one_thing, an_import_gives_what_it_finds, an_import_has_one_list_of_names,
+    an_import_loses_by_faults_alone, made_games_are_added_in_order, made_games_give_all,
 };
 pub use one_file::import_one;
 pub use outcome::{Counts, FileOutcome, MAX_BASE_NODES};

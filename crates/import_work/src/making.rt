@@ -3,7 +3,7 @@ ghost use Rattle.std.specs.Prelude.{◌≡◌, ◌+◌, ◌<◌, ◌≤◌, leng
 ghost use Rattle.std.specs.List.{flat_map};
 ghost use Rattle.import_work.specs.Made.{made_games};
 ghost use Rattle.import_work.specs.MadePieces.{AreCut};
-ghost use Rattle.import_work.specs.Pieces.{AreJoined, IsPieceAdded, items_in};
+ghost use Rattle.import_work.specs.Pieces.{ArePiecesJoined, IsPieceAdded, items_in};
 
 use crate::found::Follower;
 use crate::judge::add_all;
@@ -101,7 +101,7 @@ fn joined(
     made: Vec<Result<Vec<FinishedGame>, NoMemory>>,
 ) -> Result<Segment, NoMemory>
     requires { length (flat_map items_in made.items) ≤ 400000 }
-    ensures { IfOk result (λ segment. AreJoined made.items segment) }
+    ensures { IfOk result (λ segment. ArePiecesJoined made.items segment) }
 {
     let mut games = SegmentBuilder::new(alloc);
     for piece in made {

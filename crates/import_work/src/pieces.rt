@@ -1,7 +1,7 @@
 // What is found in the files of a batch, in up to eight pieces side by side.
 ghost use Rattle.std.specs.Prelude.{◌≡◌, ◌≤◌, ◌++◌, length, IfOk, OnOk};
 ghost use Rattle.import_work.specs.Judged.{AreFound, IsFoundFile};
-ghost use Rattle.import_work.specs.Pieces.{AreJoined, IsPieceAdded, group_texts};
+ghost use Rattle.import_work.specs.Pieces.{ArePiecesJoined, IsPieceAdded, group_texts};
 ghost use Rattle.import_work.specs.Reads.{file_text, file_texts};
 
 use crate::found::{Follower, Found, FoundFile, found_in};
@@ -130,7 +130,7 @@ fn joined(
     alloc: Global,
     pieces: Vec<Result<Vec<FoundFile>, NoMemory>>,
 ) -> Result<Vec<FoundFile>, NoMemory>
-    ensures { IfOk result (λ files. AreJoined pieces.items files.items) }
+    ensures { IfOk result (λ files. ArePiecesJoined pieces.items files.items) }
 {
     let mut files = Vec::new(alloc);
     for piece in pieces {

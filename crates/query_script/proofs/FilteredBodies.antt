@@ -10,8 +10,8 @@ use Rattle.info_filter.specs.declared.filter.Filter.{Filter}
 use Rattle.info_filter.proofs.FirstDates.{split_once}
 use Rattle.pattern_images.specs.declared.query.Query.{Query}
 use Rattle.query_script.specs.declared.word.Word.{Word}
-use Rattle.query_script.specs.Conditions.{AreJoined, IsFilteredBody}
-use Rattle.query_script.specs.Conditions.AreJoined.{nothing, one_more}
+use Rattle.query_script.specs.Conditions.{AreConditions, IsFilteredBody}
+use Rattle.query_script.specs.Conditions.AreConditions.{nothing, one_more}
 use Rattle.query_script.specs.Reading.{BeginsWithWhere}
 use Rattle.query_script.specs.Search.{AreMoves, IsAt, IsBoardOption, IsBody, IsFlag}
 use Rattle.query_script.specs.Search.AreMoves.{given, not_given as no_moves}
@@ -99,17 +99,17 @@ asked_first words (inr (more, begins)) w rest is other =
     let first : w ≡ bare (codes "where") = cc in
     other first
 
-joined-asked : (conditions : List Condition) (words : List Word) → AreJoined (codes "where") conditions words → AreAsked words
+joined-asked : (conditions : List Condition) (words : List Word) → AreConditions (codes "where") conditions words → AreAsked words
 joined-asked _ _ nothing = inl refl
 joined-asked _ _ (one_more {words} c kind value spelled more) = inr (kind ∷ value ∷ words, refl)
 
 -- what a search with its conditions is, where its words are parted
 pub filtered_parts : (words body asked : List Word) (query : Query) (filter : Filter) → words ≡ body ++ asked → HasNoWhere body → AreAsked asked →
-    IsFilteredBody words query filter → IsBody body query × AreJoined (codes "where") filter.conditions asked
+    IsFilteredBody words query filter → IsBody body query × AreConditions (codes "where") filter.conditions asked
 filtered_parts words body asked query filter split before from is =
     let (bodies, askeds) = split_once IsOther is.body body is.asked asked (body-no_where is.body query is.body_is) before
     (asked_first is.asked (joined-asked filter.conditions is.asked is.asked_is)) (asked_first asked from) (sym is.split ∙ split) in
-    (subst (λ l. IsBody l query) bodies is.body_is, subst (AreJoined (codes "where") filter.conditions) askeds is.asked_is)
+    (subst (λ l. IsBody l query) bodies is.body_is, subst (AreConditions (codes "where") filter.conditions) askeds is.asked_is)
 
 -- words that are parted before the first `where`
 record AreCut (words : List Word) : Type 0 where

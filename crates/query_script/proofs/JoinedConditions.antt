@@ -3,30 +3,30 @@ use Rattle.std.proofs.Common.{◌≡◌, ◌≢◌, ◌∙◌, ◌++◌, ℕ, Li
 use Rattle.std.proofs.lemmas.List.{append-nil}
 use Rattle.info_filter.specs.declared.condition.Condition.{Condition}
 use Rattle.query_script.specs.declared.word.Word.{Word}
-use Rattle.query_script.specs.Conditions.{AreJoined, IsCondition}
-use Rattle.query_script.specs.Conditions.AreJoined.{nothing, one_more}
+use Rattle.query_script.specs.Conditions.{AreConditions, IsCondition}
+use Rattle.query_script.specs.Conditions.AreConditions.{nothing, one_more}
 use Rattle.query_script.specs.Words.{bare}
 use Rattle.query_script.proofs.ToldConditions.{condition_once, joined_more, joined_three}
 
 -- The words are those of these conditions, behind `where`, and those of others, behind this joining word.
-pub record AreJoinedTo (words : List Word) (conditions : List Condition) (joining : List ℕ) (rest : List Word) : Type 0 where
-  pub more : (others : List Condition) → AreJoined joining others rest → AreJoined (codes "where") (conditions ++ others) words
-  pub only : (all : List Condition) → AreJoined (codes "where") all words → (others : List Condition) × (all ≡ conditions ++ others) × AreJoined joining others rest
+pub record AreConditionsTo (words : List Word) (conditions : List Condition) (joining : List ℕ) (rest : List Word) : Type 0 where
+  pub more : (others : List Condition) → AreConditions joining others rest → AreConditions (codes "where") (conditions ++ others) words
+  pub only : (all : List Condition) → AreConditions (codes "where") all words → (others : List Condition) × (all ≡ conditions ++ others) × AreConditions joining others rest
 
-pub AreJoinedTo-start : (words : List Word) → AreJoinedTo words [] (codes "where") words
-AreJoinedTo-start words = record {
+pub AreConditionsTo-start : (words : List Word) → AreConditionsTo words [] (codes "where") words
+AreConditionsTo-start words = record {
   more = λ others joined. joined;
   only = λ all joined. (all, refl, joined);
 }
 
-module _ (words : List Word) (conditions : List Condition) (joining : List ℕ) (rest : List Word) (h : AreJoinedTo words conditions joining rest) where
+module _ (words : List Word) (conditions : List Condition) (joining : List ℕ) (rest : List Word) (h : AreConditionsTo words conditions joining rest) where
   -- one condition more
-  pub AreJoinedTo-more : (c : Condition) (kind value : Word) (behind : List Word) → rest ≡ bare joining ∷ kind ∷ value ∷ behind → IsCondition c kind value →
-      AreJoinedTo words (conditions ++ c ∷ []) (codes "and") behind
-  AreJoinedTo-more c kind value behind is spelled = record {
+  pub AreConditionsTo-more : (c : Condition) (kind value : Word) (behind : List Word) → rest ≡ bare joining ∷ kind ∷ value ∷ behind → IsCondition c kind value →
+      AreConditionsTo words (conditions ++ c ∷ []) (codes "and") behind
+  AreConditionsTo-more c kind value behind is spelled = record {
     more = λ others joined.
-        subst (λ l. AreJoined (codes "where") l words) (sym (append_assoc conditions (c ∷ []) others))
-        (h.more (c ∷ others) (subst (AreJoined joining (c ∷ others)) (sym is) (one_more c kind value spelled joined)));
+        subst (λ l. AreConditions (codes "where") l words) (sym (append_assoc conditions (c ∷ []) others))
+        (h.more (c ∷ others) (subst (AreConditions joining (c ∷ others)) (sym is) (one_more c kind value spelled joined)));
     only = λ all joined.
         let (others, same, behind_joined) = h.only all joined in
         let more = joined_more joining others rest (bare joining) kind value behind is behind_joined in
@@ -38,9 +38,9 @@ module _ (words : List Word) (conditions : List Condition) (joining : List ℕ) 
   }
 
   -- no condition where some word is left
-  pub AreJoinedTo-none : rest ≢ [] → ((c : Condition) (kind value : Word) (behind : List Word) → rest ≡ bare joining ∷ kind ∷ value ∷ behind → ¬ IsCondition c kind value) →
-      (all : List Condition) → ¬ AreJoined (codes "where") all words
-  AreJoinedTo-none some never all joined =
+  pub AreConditionsTo-none : rest ≢ [] → ((c : Condition) (kind value : Word) (behind : List Word) → rest ≡ bare joining ∷ kind ∷ value ∷ behind → ¬ IsCondition c kind value) →
+      (all : List Condition) → ¬ AreConditions (codes "where") all words
+  AreConditionsTo-none some never all joined =
       let (others, same, behind_joined) = h.only all joined in
       elim (joined_three joining others rest behind_joined) [
         | inl (_, none) ↦ some none
@@ -50,6 +50,6 @@ module _ (words : List Word) (conditions : List Condition) (joining : List ℕ) 
       ]
 
   -- no word is left
-  pub AreJoinedTo-end : rest ≡ [] → AreJoined (codes "where") conditions words
-  AreJoinedTo-end none =
-      subst (λ l. AreJoined (codes "where") l words) (append-nil conditions) (h.more [] (subst (AreJoined joining []) (sym none) nothing))
+  pub AreConditionsTo-end : rest ≡ [] → AreConditions (codes "where") conditions words
+  AreConditionsTo-end none =
+      subst (λ l. AreConditions (codes "where") l words) (append-nil conditions) (h.more [] (subst (AreConditions joining []) (sym none) nothing))

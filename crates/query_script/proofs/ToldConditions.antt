@@ -8,8 +8,8 @@ use Rattle.info_filter.specs.Day.{IsWrittenDay}
 use Rattle.info_filter.proofs.WrittenDays.{told_written_day, written_once}
 use Rattle.query_script.specs.declared.word.Word.{Word}
 use Rattle.query_script.specs.declared.word.Word.TheVariants as word
-use Rattle.query_script.specs.Conditions.{AreJoined, IsCondition, outcome_word}
-use Rattle.query_script.specs.Conditions.AreJoined.{nothing, one_more}
+use Rattle.query_script.specs.Conditions.{AreConditions, IsCondition, outcome_word}
+use Rattle.query_script.specs.Conditions.AreConditions.{nothing, one_more}
 use Rattle.query_script.specs.Words.{bare}
 use Rattle.query_script.proofs.ToldSearches.{apart, same_bare, same_first, same_rest, told_text}
 
@@ -328,10 +328,10 @@ pub record IsJoinedMore (joining : List ℕ) (conditions : List Condition) (w ki
   pub all : conditions ≡ first ∷ others
   pub name : w ≡ bare joining
   pub spelled : IsCondition first kind value
-  pub joined : AreJoined (codes "and") others rest
+  pub joined : AreConditions (codes "and") others rest
 
 pub joined_more : (joining : List ℕ) (conditions : List Condition) (words : List Word) (w kind value : Word) (rest : List Word) →
-    words ≡ w ∷ kind ∷ value ∷ rest → AreJoined joining conditions words → IsJoinedMore joining conditions w kind value rest
+    words ≡ w ∷ kind ∷ value ∷ rest → AreConditions joining conditions words → IsJoinedMore joining conditions w kind value rest
 joined_more joining _ _ w kind value rest is nothing = absurd (cc is)
 joined_more joining _ _ w kind value rest is (one_more {conditions} {words} c k v spelled more) =
     let names : bare joining ≡ w = same_first (bare joining) w (k ∷ v ∷ words) (kind ∷ value ∷ rest) is in
@@ -346,29 +346,29 @@ joined_more joining _ _ w kind value rest is (one_more {conditions} {words} c k 
       all = refl;
       name = sym names;
       spelled = subst (λ x. IsCondition c kind x) values (subst (λ x. IsCondition c x v) kinds spelled);
-      joined = subst (AreJoined (codes "and") conditions) rests more;
+      joined = subst (AreConditions (codes "and") conditions) rests more;
     }
 
 -- conditions have at least three words
-pub joined_three : (joining : List ℕ) (conditions : List Condition) (words : List Word) → AreJoined joining conditions words →
+pub joined_three : (joining : List ℕ) (conditions : List Condition) (words : List Word) → AreConditions joining conditions words →
     ((conditions ≡ []) × (words ≡ [])) ⊎ ((w : Word) × (kind : Word) × (value : Word) × (rest : List Word) × (words ≡ w ∷ kind ∷ value ∷ rest))
 joined_three joining _ _ nothing = inl (refl, refl)
 joined_three joining _ _ (one_more {words} c kind value spelled more) = inr (bare joining, kind, value, words, refl)
 
-pub joined_none : (joining : List ℕ) (conditions : List Condition) (words : List Word) → words ≡ [] → AreJoined joining conditions words → conditions ≡ []
+pub joined_none : (joining : List ℕ) (conditions : List Condition) (words : List Word) → words ≡ [] → AreConditions joining conditions words → conditions ≡ []
 joined_none joining _ _ is nothing = refl
 joined_none joining _ _ is (one_more c kind value spelled more) = absurd (cc is)
 
 -- the conditions that words spell, and no others
 abbrev HasJoined : List ℕ → List Word → Type 0
-HasJoined joining words = (conditions : List Condition) × AreJoined joining conditions words × ((others : List Condition) → AreJoined joining others words → others ≡ conditions)
+HasJoined joining words = (conditions : List Condition) × AreConditions joining conditions words × ((others : List Condition) → AreConditions joining others words → others ≡ conditions)
 
 abbrev ToldJoined : List ℕ → List Word → Type 0
-ToldJoined joining words = HasJoined joining words ⊎ ((conditions : List Condition) → AreJoined joining conditions words → ⊥)
+ToldJoined joining words = HasJoined joining words ⊎ ((conditions : List Condition) → AreConditions joining conditions words → ⊥)
 
 -- fewer than three words, but some
 no_joined : (joining : List ℕ) (words : List Word) → words ≢ [] → ((w kind value : Word) (rest : List Word) → words ≢ w ∷ kind ∷ value ∷ rest) →
-    (conditions : List Condition) → AreJoined joining conditions words → ⊥
+    (conditions : List Condition) → AreConditions joining conditions words → ⊥
 no_joined joining words some few conditions joined = elim (joined_three joining conditions words joined) [
   | inl (_, none) ↦ some none
   | inr (w, kind, value, rest, is) ↦ few w kind value rest is
@@ -392,7 +392,7 @@ told_joined joining (w ∷ kind ∷ value ∷ rest) = elim (told_kind joining w)
           never more.others more.joined)
       | inl (conditions, joined, only_these) ↦ inl (
         c ∷ conditions,
-        subst (λ a. AreJoined joining (c ∷ conditions) (a ∷ kind ∷ value ∷ rest)) (sym name) (one_more c kind value spelled joined),
+        subst (λ a. AreConditions joining (c ∷ conditions) (a ∷ kind ∷ value ∷ rest)) (sym name) (one_more c kind value spelled joined),
         λ others joined_too.
             let more = joined_more joining others (w ∷ kind ∷ value ∷ rest) w kind value rest refl joined_too in
             more.all

@@ -1,4 +1,4 @@
--- The command line as the library that reads its words sees it. Words of private functions.
+-- The command line as the library that reads its words sees it. Definitions of private functions.
 use Rattle.std.specs.Prelude.{◌≡◌, ℕ, Bool, true, if◌then◌else◌, List, Option, Some, None, codes}
 use Rattle.clap.specs.Words.{App, Row, Rule, first_of, new_app, new_rule, one_of, with_rule}
 use Rattle.clap.specs.declared.builder.action.ArgAction.TheVariants.{Set, SetTrue}

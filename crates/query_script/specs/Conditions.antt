@@ -45,13 +45,13 @@ IsCondition (condition.To d) kind value = IsDayAsked (codes "to") d kind value
 
 -- The words spell these conditions, in order: this joining word stands before the first one, and
 -- `and` before each other.
-pub data AreJoined : List ℕ → List Condition → List Word → Type 0 where
-  nothing : {joining : List ℕ} → AreJoined joining [] []
+pub data AreConditions : List ℕ → List Condition → List Word → Type 0 where
+  nothing : {joining : List ℕ} → AreConditions joining [] []
   one_more : {joining : List ℕ} {conditions : List Condition} {words : List Word} (c : Condition)
       (kind value : Word) →
       IsCondition c kind value →
-      AreJoined (codes "and") conditions words →
-      AreJoined joining (c ∷ conditions) (bare joining ∷ kind ∷ value ∷ words)
+      AreConditions (codes "and") conditions words →
+      AreConditions joining (c ∷ conditions) (bare joining ∷ kind ∷ value ∷ words)
 
 -- The words behind `search` spell the query and then the conditions of the filter, the first one
 -- behind `where`. Without `where` the filter has none.
@@ -60,4 +60,4 @@ pub record IsFilteredBody (words : List Word) (query : Query) (filter : Filter) 
   pub asked : List Word
   pub split : words ≡ body ++ asked
   pub body_is : IsBody body query
-  pub asked_is : AreJoined (codes "where") filter.conditions asked
+  pub asked_is : AreConditions (codes "where") filter.conditions asked

@@ -1,4 +1,4 @@
--- Words that contracts of public functions rest on.
+-- Definitions that contracts of public functions rest on.
 pub mod Bytes
 pub mod CommandWords
 pub mod Conditions
@@ -7,8 +7,9 @@ pub mod Search
 pub mod Statements
 pub mod Texts
 pub mod Words
--- Words of private functions.
+-- Definitions of private functions.
 pub mod CommandLine
 pub mod Lines
+pub mod Pieces
 pub mod Progress
 pub mod Reading

@@ -19,7 +19,7 @@ ghost use Rattle.info_filter.specs.declared.condition.Condition.{Condition};
 ghost use Rattle.kb_geometry.specs.declared.stone.Outcome.{Outcome};
 ghost use Rattle.query_script.specs.declared.word.Word.{Word};
 ghost use Rattle.query_script.specs.declared.word.Word.TheVariants as word;
-ghost use Rattle.query_script.specs.Conditions.{AreJoined, IsCondition, outcome_word};
+ghost use Rattle.query_script.specs.Conditions.{AreConditions, IsCondition, outcome_word};
 ghost use Rattle.query_script.specs.Reading.{BeginsWithWhere};
 ghost use Rattle.query_script.specs.Words.{bare};
 
@@ -46,9 +46,9 @@ pub(crate) fn parted_at_where(words: &[Word]) -> (&[Word], &[Word])
 // condition. The only error is `NoMemory`.
 pub(crate) fn filter_of(alloc: Global, words: &[Word]) -> Result<Option<Filter>, NoMemory>
     ensures some { IfOk result (λ found. IfSome found (λ filter.
-        AreJoined (codes "where") filter.conditions words.now)) }
+        AreConditions (codes "where") filter.conditions words.now)) }
     ensures none { IfOk result (λ found. IfNone found ((conditions : List Condition) →
-        ¬ AreJoined (codes "where") conditions words.now)) }
+        ¬ AreConditions (codes "where") conditions words.now)) }
 {
     let mut conditions = Vec::new(alloc);
     let mut joining: &[u8] = b"where";

@@ -1,4 +1,4 @@
-// Laws of the words for scripts, for who reads a contract of this crate.
+// Laws of the definitions of scripts, for who reads a contract of this crate.
 ghost use Rattle.std.specs.Prelude.{◌≡◌, ◌⊎◌, ℕ, List};
 ghost use Rattle.query_script.specs.declared.command_words.Words.{Words};
 ghost use Rattle.query_script.specs.declared.statement.Placed.{Placed};

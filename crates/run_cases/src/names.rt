@@ -70,8 +70,8 @@ pub(crate) fn answer_names(
     };
     let mut source = MemorySource::new(b"import d\nwait\n".to_vec(alloc)?, Vec::new(alloc));
     let mut sink = MemorySink::new(Vec::new(alloc), Vec::new(alloc));
-    let boards: Vec<Box<dyn Collector>> = Vec::new(alloc);
-    let (status, _folder) = run_serial(rt, alloc, &[], folder, &mut source, &mut sink, boards);
+    let boxes: Vec<Box<dyn Collector>> = Vec::new(alloc);
+    let (status, _folder) = run_serial(rt, alloc, &[], folder, &mut source, &mut sink, boxes);
     let ended = Ended {
         status,
         left: source.left().len(),

@@ -115,11 +115,11 @@ fn ended_run(
     let words = words_of(alloc, words)?;
     let mut source = source;
     let mut sink = sink_of(alloc, case)?;
-    let mut boards: Vec<Box<dyn Collector>> = Vec::new(alloc);
+    let mut boxes: Vec<Box<dyn Collector>> = Vec::new(alloc);
     for line in text_of(case.part("collectors"))?.lines() {
-        boards.push(Box::new(alloc, counter_of(alloc, line)?)?)?;
+        boxes.push(Box::new(alloc, counter_of(alloc, line)?)?)?;
     }
-    let (status, _folder) = run_serial(rt, alloc, &words, folder, &mut source, &mut sink, boards);
+    let (status, _folder) = run_serial(rt, alloc, &words, folder, &mut source, &mut sink, boxes);
     Ok(Ended {
         status,
         left: source.left().len(),

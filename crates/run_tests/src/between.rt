@@ -93,7 +93,7 @@ fn search_beside<R: Threads + Wait + Abort + Clone + Drop + Send + Sync + 'stati
         signals: Arc::try_clone(&signals)?,
     };
     let words = words_in(alloc, "--batch 1")?;
-    let boards: Vec<Box<dyn Collector>> = Vec::new(alloc);
+    let boxes: Vec<Box<dyn Collector>> = Vec::new(alloc);
     let base = Base::open(rt, alloc)?;
     let (status, _folder, publisher) = run(
         rt,
@@ -103,7 +103,7 @@ fn search_beside<R: Threads + Wait + Abort + Clone + Drop + Send + Sync + 'stati
         &mut source,
         &mut sink,
         gate,
-        boards,
+        boxes,
         base,
     );
     if let Some(publisher) = publisher {

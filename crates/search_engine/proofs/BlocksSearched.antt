@@ -14,7 +14,7 @@ use Rattle.pattern_images.specs.declared.query.Query.{Query}
 use Rattle.info_filter.specs.declared.filter.Filter.{Filter}
 use Rattle.search_engine.specs.declared.item.Item.{Item}
 use Rattle.search_engine.specs.Hits.{AreHitsFrom}
-use Rattle.search_engine.specs.Items.{AreItems, AreNumberedFrom, games_in, games_of}
+use Rattle.search_engine.specs.Items.{AreItems, AreNumberedFrom, games_of_item, games_of_items}
 use Rattle.search_engine.specs.Searching.{AreCovered, AreHitsAdded, AreItemHitsAdded, IsCovered}
 use Rattle.search_engine.proofs.GamesSearched.{AreHitsAdded-parts, AreHitsFrom-none}
 use Rattle.search_engine.proofs.ItemLists.{games_to_next, games_to_piece}
@@ -34,39 +34,39 @@ All-behind : {X : Type 0} (P : X → Type 0) (xs ys : List X) → All P (xs ++ y
 All-behind P xs ys all k d lt = subst P (get_or-append-add xs ys k d) (all (length xs + k) d (omega (arith, lt, length-append xs ys)))
 
 -- what holds of the games of all blocks holds of those of some in a row
-pub All-of_sublist : (P : Game → Type 0) (items : List Item) (from count : ℕ) → All P (games_of items) → All P (games_of (take count (drop from items)))
+pub All-of_sublist : (P : Game → Type 0) (items : List Item) (from count : ℕ) → All P (games_of_items items) → All P (games_of_items (take count (drop from items)))
 All-of_sublist P items from count all =
-    let games = games_of items in
-    let cut : games ≡ games_of (take (from + count) items) ++ games_of (drop (from + count) items) = ap games_of (sym (take-append-drop (from + count) items)) ∙ flat_map-append games_in (take (from + count) items) (drop (from + count) items) in
-    let front = All-before P (games_of (take (from + count) items)) (games_of (drop (from + count) items)) (subst (All P) cut all) in
-    All-behind P (games_of (take from items)) (games_of (take count (drop from items))) (subst (All P) (games_to_piece items from count) front)
+    let games = games_of_items items in
+    let cut : games ≡ games_of_items (take (from + count) items) ++ games_of_items (drop (from + count) items) = ap games_of_items (sym (take-append-drop (from + count) items)) ∙ flat_map-append games_of_item (take (from + count) items) (drop (from + count) items) in
+    let front = All-before P (games_of_items (take (from + count) items)) (games_of_items (drop (from + count) items)) (subst (All P) cut all) in
+    All-behind P (games_of_items (take from items)) (games_of_items (take count (drop from items))) (subst (All P) (games_to_piece items from count) front)
 
 module _ (query : Query) (filter : Filter) (shapes : List Shape) (items : List Item) where
   -- ---- one block after another
 
   -- the hits of the first so many blocks are added
   abbrev pub so_far : ℕ → List Hit → List Hit → Type 0
-  so_far k old new = (first : ℕ) → AreNumberedFrom first items → AreCovered query shapes (games_of items) → AreHitsAdded (AreHitsFrom first query filter (games_of (take k items))) old new
+  so_far k old new = (first : ℕ) → AreNumberedFrom first items → AreCovered query shapes (games_of_items items) → AreHitsAdded (AreHitsFrom first query filter (games_of_items (take k items))) old new
 
   pub so_far-none : (hits : List Hit) → so_far 0 hits hits
   so_far-none hits first numbered covered = AreHitsFrom-none first query filter hits
 
-  pub so_far-more : (k : ℕ) (i : Item) (old mid new : List Hit) → k < length items → i ≡ get_or items k i → so_far k old mid → (AreCovered query shapes (games_in i) → AreHitsAdded (AreHitsFrom i.first query filter (games_in i)) mid new) → so_far (k + 1) old new
+  pub so_far-more : (k : ℕ) (i : Item) (old mid new : List Hit) → k < length items → i ≡ get_or items k i → so_far k old mid → (AreCovered query shapes (games_of_item i) → AreHitsAdded (AreHitsFrom i.first query filter (games_of_item i)) mid new) → so_far (k + 1) old new
   so_far-more k i old mid new lt at before added first numbered covered =
-      let number : i.first ≡ first + length (games_of (take k items)) = ap (λ (j : Item). j.first) at ∙ numbered k i lt in
-      let here = added (All-of_part (λ (g : Game). IsCovered query shapes g.tree.shape) games_in items k i lt at covered) in
+      let number : i.first ≡ first + length (games_of_items (take k items)) = ap (λ (j : Item). j.first) at ∙ numbered k i lt in
+      let here = added (All-of_part (λ (g : Game). IsCovered query shapes g.tree.shape) games_of_item items k i lt at covered) in
       subst (λ gs. AreHitsAdded (AreHitsFrom first query filter gs) old new) (sym (games_to_next items k i lt at))
-      (AreHitsAdded-parts first query filter old (games_of (take k items)) (games_in i) mid new i.first number (before first numbered covered) here)
+      (AreHitsAdded-parts first query filter old (games_of_items (take k items)) (games_of_item i) mid new i.first number (before first numbered covered) here)
 
   pub so_far-all : (k : ℕ) (old new : List Hit) → length items ≤ k → so_far k old new → AreItemHitsAdded query filter shapes items old new
-  so_far-all k old new all before first numbered covered = subst (λ is. AreHitsAdded (AreHitsFrom first query filter (games_of is)) old new) (take_all k items all) (before first numbered covered)
+  so_far-all k old new all before first numbered covered = subst (λ is. AreHitsAdded (AreHitsFrom first query filter (games_of_items is)) old new) (take_all k items all) (before first numbered covered)
 
   -- what is added to nothing
-  pub hits_alone : (hits : List Hit) (first : ℕ) → AreItemHitsAdded query filter shapes items [] hits → AreNumberedFrom first items → AreCovered query shapes (games_of items) → AreHitsFrom first query filter (games_of items) hits
-  hits_alone hits first are numbered covered = let added = are first numbered covered in subst (λ hs. AreHitsFrom first query filter (games_of items) hs) (sym added.added) added.are_hits
+  pub hits_alone : (hits : List Hit) (first : ℕ) → AreItemHitsAdded query filter shapes items [] hits → AreNumberedFrom first items → AreCovered query shapes (games_of_items items) → AreHitsFrom first query filter (games_of_items items) hits
+  hits_alone hits first are numbered covered = let added = are first numbered covered in subst (λ hs. AreHitsFrom first query filter (games_of_items items) hs) (sym added.added) added.are_hits
 
 -- the hits of the games that blocks have
-pub hits_of_items : (query : Query) (filter : Filter) (shapes : List Shape) (items : List Item) (first : ℕ) (games : List Game) (old new : List Hit) → AreItems first games items → AreCovered query shapes (games_of items) → old ≡ [] → AreItemHitsAdded query filter shapes items old new → AreHitsFrom first query filter games new
+pub hits_of_items : (query : Query) (filter : Filter) (shapes : List Shape) (items : List Item) (first : ℕ) (games : List Game) (old new : List Hit) → AreItems first games items → AreCovered query shapes (games_of_items items) → old ≡ [] → AreItemHitsAdded query filter shapes items old new → AreHitsFrom first query filter games new
 hits_of_items query filter shapes items first games old new are covered none added =
     subst (λ gs. AreHitsFrom first query filter gs new) are.has_games
     (hits_alone query filter shapes items new first (subst (λ hs. AreItemHitsAdded query filter shapes items hs new) none added) are.numbered covered)

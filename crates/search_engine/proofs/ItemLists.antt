@@ -9,31 +9,31 @@ use Rattle.node_position.specs.Games.{Game}
 use Rattle.segment_store.specs.declared.block.NumberedBlock.{NumberedBlock}
 use Rattle.segment_store.specs.Blocks as segment
 use Rattle.search_engine.specs.declared.item.Item.{Item}
-use Rattle.search_engine.specs.Items.{AreItems, AreNumberedFrom, games_in, games_of}
+use Rattle.search_engine.specs.Items.{AreItems, AreNumberedFrom, games_of_item, games_of_items}
 use Rattle.search_engine.proofs.CutLists.{drop-both}
 
 -- the games of one block more
-games_more : (items : List Item) (i : Item) → games_of (items ++ i ∷ []) ≡ games_of items ++ games_in i
-games_more items i = flat_map-append games_in items (i ∷ []) ∙ ap (λ gs. games_of items ++ gs) (append-nil (games_in i))
+games_more : (items : List Item) (i : Item) → games_of_items (items ++ i ∷ []) ≡ games_of_items items ++ games_of_item i
+games_more items i = flat_map-append games_of_item items (i ∷ []) ∙ ap (λ gs. games_of_items items ++ gs) (append-nil (games_of_item i))
 
 -- the games up to the next block
-pub games_to_next : (items : List Item) (k : ℕ) (i : Item) → k < length items → i ≡ get_or items k i → games_of (take (k + 1) items) ≡ games_of (take k items) ++ games_in i
-games_to_next items k i lt at = ap games_of (take_more items k i lt) ∙ games_more (take k items) (get_or items k i) ∙ ap (λ (j : Item). games_of (take k items) ++ games_in j) (sym at)
+pub games_to_next : (items : List Item) (k : ℕ) (i : Item) → k < length items → i ≡ get_or items k i → games_of_items (take (k + 1) items) ≡ games_of_items (take k items) ++ games_of_item i
+games_to_next items k i lt at = ap games_of_items (take_more items k i lt) ∙ games_more (take k items) (get_or items k i) ∙ ap (λ (j : Item). games_of_items (take k items) ++ games_of_item j) (sym at)
 
 -- no block
 pub AreItems-none : (first : ℕ) → AreItems first [] []
 AreItems-none first = record { has_games = refl; numbered = λ k d below. absurd (omega (arith, below)) }
 
 -- one block more
-pub AreItems-more : (first : ℕ) (games : List Game) (items : List Item) (i : Item) → AreItems first games items → i.first ≡ first + length games → AreItems first (games ++ games_in i) (items ++ i ∷ [])
+pub AreItems-more : (first : ℕ) (games : List Game) (items : List Item) (i : Item) → AreItems first games items → i.first ≡ first + length games → AreItems first (games ++ games_of_item i) (items ++ i ∷ [])
 AreItems-more first games items i are number = record {
-  has_games = games_more items i ∙ ap (λ gs. gs ++ games_in i) are.has_games;
+  has_games = games_more items i ∙ ap (λ gs. gs ++ games_of_item i) are.has_games;
   numbered = λ k d below. elim (cases_lt k (length items)) [
-    | inl lower ↦ ap (λ (j : Item). j.first) (get_or_append_left items (i ∷ []) d k lower) ∙ (are.numbered k d lower ∙ ap (λ (is : List Item). first + length (games_of is)) (sym (take-append-le k items (i ∷ []) (omega (arith, lower)))))
+    | inl lower ↦ ap (λ (j : Item). j.first) (get_or_append_left items (i ∷ []) d k lower) ∙ (are.numbered k d lower ∙ ap (λ (is : List Item). first + length (games_of_items is)) (sym (take-append-le k items (i ∷ []) (omega (arith, lower)))))
     | inr upper ↦
         let last : k ≡ length items = omega (arith, upper, below, length-append items (i ∷ [])) in
-        subst (λ n. (get_or (items ++ i ∷ []) n d).first ≡ first + length (games_of (take n (items ++ i ∷ [])))) (sym last)
-        (ap (λ (j : Item). j.first) (get_or-append_seam items i [] d) ∙ (number ∙ ap (λ gs. first + length gs) (sym are.has_games) ∙ ap (λ (is : List Item). first + length (games_of is)) (sym (take-append_seam items (i ∷ [])))))
+        subst (λ n. (get_or (items ++ i ∷ []) n d).first ≡ first + length (games_of_items (take n (items ++ i ∷ [])))) (sym last)
+        (ap (λ (j : Item). j.first) (get_or-append_seam items i [] d) ∙ (number ∙ ap (λ gs. first + length gs) (sym are.has_games) ∙ ap (λ (is : List Item). first + length (games_of_items is)) (sym (take-append_seam items (i ∷ [])))))
   ];
 }
 
@@ -77,9 +77,9 @@ module _ (base from : ℕ) (games : List Game) where
     -- another one
     pub AreItems-cut : (first : ℕ) → first ≡ base + length games → (new : List Item) (i : Item) → new ≡ items ++ i ∷ [] → i.first ≡ first + (at - from) → i.skip ≡ from - at → i.block.now ≡ block → AreItems base (games ++ drop from (before ++ block)) new
     AreItems-cut first is new i pushed numbered skip same =
-        let own : games_in i ≡ drop (from - at) block = ap (λ n. drop n i.block.now) skip ∙ ap (λ gs. drop (from - at) gs) same in
-        let all : (games ++ drop from before) ++ games_in i ≡ games ++ drop from (before ++ block) =
-        append_assoc games (drop from before) (games_in i) ∙ ap (λ gs. games ++ (drop from before ++ gs)) own ∙ ap (λ gs. games ++ gs) (sym behind) in
+        let own : games_of_item i ≡ drop (from - at) block = ap (λ n. drop n i.block.now) skip ∙ ap (λ gs. drop (from - at) gs) same in
+        let all : (games ++ drop from before) ++ games_of_item i ≡ games ++ drop from (before ++ block) =
+        append_assoc games (drop from before) (games_of_item i) ∙ ap (λ gs. games ++ (drop from before ++ gs)) own ∙ ap (λ gs. games ++ gs) (sym behind) in
         let place : i.first ≡ base + length (games ++ drop from before) = omega (arith, numbered, is, number, length-append games (drop from before), length-drop from before) in
         subst (AreItems base (games ++ drop from (before ++ block))) (sym pushed)
         (subst (λ gs. AreItems base gs (items ++ i ∷ [])) all (AreItems-more base (games ++ drop from before) items i so_far place))
@@ -87,15 +87,15 @@ module _ (base from : ℕ) (games : List Game) where
 -- ---- pieces of a list of blocks
 
 -- the games up to the end of a piece
-pub games_to_piece : (items : List Item) (n size : ℕ) → games_of (take (n + size) items) ≡ games_of (take n items) ++ games_of (take size (drop n items))
-games_to_piece items n size = ap games_of (take-add n size items) ∙ flat_map-append games_in (take n items) (take size (drop n items))
+pub games_to_piece : (items : List Item) (n size : ℕ) → games_of_items (take (n + size) items) ≡ games_of_items (take n items) ++ games_of_items (take size (drop n items))
+games_to_piece items n size = ap games_of_items (take-add n size items) ∙ flat_map-append games_of_item (take n items) (take size (drop n items))
 
 -- a piece is numbered from the number of its first game on
-pub AreNumberedFrom-piece : (first : ℕ) (items : List Item) (n size : ℕ) → AreNumberedFrom first items → AreNumberedFrom (first + length (games_of (take n items))) (take size (drop n items))
+pub AreNumberedFrom-piece : (first : ℕ) (items : List Item) (n size : ℕ) → AreNumberedFrom first items → AreNumberedFrom (first + length (games_of_items (take n items))) (take size (drop n items))
 AreNumberedFrom-piece first items n size numbered k d below =
     let short : k < size = omega (arith, below, length-take size (drop n items)) in
     let inside : n + k < length items = omega (arith, below, length-take size (drop n items), length-drop n items) in
     let here : get_or (take size (drop n items)) k d ≡ get_or items (n + k) d = get_or-take size (drop n items) k d short ∙ get_or-drop n items k d in
-    let parts : games_of (take (n + k) items) ≡ games_of (take n items) ++ games_of (take k (take size (drop n items))) = games_to_piece items n k ∙ ap (λ is. games_of (take n items) ++ games_of is) (sym (take-take k size (drop n items) (omega (arith, short)))) in
-    let long = ap length parts ∙ length-append (games_of (take n items)) (games_of (take k (take size (drop n items)))) in
+    let parts : games_of_items (take (n + k) items) ≡ games_of_items (take n items) ++ games_of_items (take k (take size (drop n items))) = games_to_piece items n k ∙ ap (λ is. games_of_items (take n items) ++ games_of_items is) (sym (take-take k size (drop n items) (omega (arith, short)))) in
+    let long = ap length parts ∙ length-append (games_of_items (take n items)) (games_of_items (take k (take size (drop n items)))) in
     ap (λ (i : Item). i.first) here ∙ (numbered (n + k) d inside ∙ omega (arith, long))

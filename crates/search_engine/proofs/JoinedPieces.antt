@@ -16,7 +16,7 @@ use Rattle.pattern_images.specs.declared.query.Query.{Query}
 use Rattle.info_filter.specs.declared.filter.Filter.{Filter}
 use Rattle.search_engine.specs.declared.item.Item.{Item}
 use Rattle.search_engine.specs.Hits.{AreHitsFrom}
-use Rattle.search_engine.specs.Items.{AreNumberedFrom, games_of}
+use Rattle.search_engine.specs.Items.{AreNumberedFrom, games_of_items}
 use Rattle.search_engine.specs.Searching.{AreAllPieces, AreCovered, IsCovered, IsPiece, IsPieceAdded}
 use Rattle.search_engine.proofs.BlocksSearched.{All-of_sublist, hits_alone}
 use Rattle.search_engine.proofs.HitParts.{AreHitsFrom-append}
@@ -46,25 +46,25 @@ AreJoined-more pieces (Ok hits) old new so_far added = record {
 }
 AreJoined-more pieces (Err e) old new so_far added = absurd added
 
-module _ (query : Query) (filter : Filter) (shapes : List Shape) (items : List Item) (size : ℕ) (pieces : List Piece) (are : AreAllPieces query filter shapes items size pieces) (numbered : AreNumberedFrom 0 items) (covered : AreCovered query shapes (games_of items)) where
+module _ (query : Query) (filter : Filter) (shapes : List Shape) (items : List Item) (size : ℕ) (pieces : List Piece) (are : AreAllPieces query filter shapes items size pieces) (numbered : AreNumberedFrom 0 items) (covered : AreCovered query shapes (games_of_items items)) where
   abbrev so_far : ℕ → List Hit → Type 0
-  so_far n hits = AreHitsFrom 0 query filter (games_of (take (n * size) items)) hits
+  so_far n hits = AreHitsFrom 0 query filter (games_of_items (take (n * size) items)) hits
 
   -- the hits of one piece more
   piece_more : (n : ℕ) (piece : Piece) (hits : List Hit) → IsPiece query filter shapes (slice_chunk items size n) piece → IsOk piece → so_far n hits → so_far (n + 1) (hits ++ hits_in piece)
   piece_more n (Ok more) hits is good before =
       let chunk = slice_chunk items size n in
-      let done = games_of (take (n * size) items) in
+      let done = games_of_items (take (n * size) items) in
       let end : (n + 1) * size ≡ n * size + size = omega arith in
-      let next : games_of (take ((n + 1) * size) items) ≡ done ++ games_of chunk = ap (λ k. games_of (take k items)) end ∙ games_to_piece items (n * size) size in
+      let next : games_of_items (take ((n + 1) * size) items) ≡ done ++ games_of_items chunk = ap (λ k. games_of_items (take k items)) end ∙ games_to_piece items (n * size) size in
       let own = hits_alone query filter shapes chunk more.items (0 + length done) is (AreNumberedFrom-piece 0 items (n * size) size numbered) (All-of_sublist (λ (g : Game). IsCovered query shapes g.tree.shape) items (n * size) size covered) in
-      subst (λ gs. AreHitsFrom 0 query filter gs (hits ++ more.items)) (sym next) (AreHitsFrom-append 0 query filter done hits before (games_of chunk) more.items own)
+      subst (λ gs. AreHitsFrom 0 query filter gs (hits ++ more.items)) (sym next) (AreHitsFrom-append 0 query filter done hits before (games_of_items chunk) more.items own)
   piece_more n (Err e) hits is good before = absurd (false≢true good)
 
   pieces_to : (n : ℕ) → n ≤ length pieces → All (λ (p : Piece). IsOk p) pieces → so_far n (flat_map hits_in (take n pieces))
   pieces_to zero le good =
       let start : 0 * size ≡ 0 = omega arith in
-      subst (λ k. AreHitsFrom 0 query filter (games_of (take k items)) []) (sym start) AreHitsFrom.nothing
+      subst (λ k. AreHitsFrom 0 query filter (games_of_items (take k items)) []) (sym start) AreHitsFrom.nothing
   pieces_to (suc n) le good =
       let none : Piece = Err (record {}) in
       let piece = get_or pieces n none in
@@ -75,8 +75,8 @@ module _ (query : Query) (filter : Filter) (shapes : List Shape) (items : List I
       (piece_more n piece (flat_map hits_in (take n pieces)) (are.each n none (omega arith)) (good n none (omega arith)) (pieces_to n (omega arith) good)))
 
   -- the hits of all pieces are those of all games
-  pub hits_joined : (hits : List Hit) → AreJoined pieces hits → AreHitsFrom 0 query filter (games_of items) hits
+  pub hits_joined : (hits : List Hit) → AreJoined pieces hits → AreHitsFrom 0 query filter (games_of_items items) hits
   hits_joined hits all =
       let whole : so_far (length pieces) (flat_map hits_in pieces) = subst (λ ps. so_far (length pieces) (flat_map hits_in ps)) (take_all (length pieces) pieces (omega arith)) (pieces_to (length pieces) (omega arith) all.good) in
-      subst (λ is. AreHitsFrom 0 query filter (games_of is) hits) (take_all (length pieces * size) items are.all)
+      subst (λ is. AreHitsFrom 0 query filter (games_of_items is) hits) (take_all (length pieces * size) items are.all)
       (subst (λ hs. so_far (length pieces) hs) (sym all.joined) whole)

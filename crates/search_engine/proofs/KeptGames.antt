@@ -17,7 +17,7 @@ use Rattle.pattern_images.proofs.OneList.{one_list}
 use Rattle.candidate_sieve.specs.Kept.{HadCorners, IsKept, WereAllowed}
 use Rattle.candidate_sieve.proofs.KeptPlacements.{kept-at, kept-by}
 use Rattle.search_engine.specs.declared.item.Item.{Item}
-use Rattle.search_engine.specs.Items.{AreNumberedFrom, games_in, games_of}
+use Rattle.search_engine.specs.Items.{AreNumberedFrom, games_of_item, games_of_items}
 use Rattle.search_engine.specs.KeptGames.{AreKept, IsKeptGame}
 use Rattle.search_engine.proofs.ItemLists.{games_to_next}
 use Rattle.search_engine.proofs.KeptCounts.{AreKept-append}
@@ -67,9 +67,9 @@ AreKept-game query games k game count test more new lt at told is sum so_far =
 
 -- how many games of the first blocks are kept, one block more
 pub AreKept-block : (query : Query) (items : List Item) (k : ℕ) (i : Item) (count more : ℕ) → k < length items → i ≡ get_or items k i
-    → AreKept query (games_of (take k items)) count → AreKept query (games_in i) more → AreKept query (games_of (take (k + 1) items)) (count + more)
+    → AreKept query (games_of_items (take k items)) count → AreKept query (games_of_item i) more → AreKept query (games_of_items (take (k + 1) items)) (count + more)
 AreKept-block query items k i count more lt at so_far here =
-    subst (λ gs. AreKept query gs (count + more)) (sym (games_to_next items k i lt at)) (AreKept-append query (games_of (take k items)) count so_far (games_in i) more here)
+    subst (λ gs. AreKept query gs (count + more)) (sym (games_to_next items k i lt at)) (AreKept-append query (games_of_items (take k items)) count so_far (games_of_item i) more here)
 
 -- the number of a test is at most 1
 pub at_most_one : (test : Bool) (n : ℕ) → n ≡ bool_byte test → n ≤ 1
@@ -78,11 +78,11 @@ at_most_one false n e = omega (arith, e)
 
 module _ (items : List Item) (k : ℕ) (i : Item) (lt : k < length items) (at : i ≡ get_or items k i) where
   -- how many games the first blocks have, one block more
-  pub games_longer : length (games_of (take (k + 1) items)) ≡ length (games_of (take k items)) + length (games_in i)
-  games_longer = ap length (games_to_next items k i lt at) ∙ length-append (games_of (take k items)) (games_in i)
+  pub games_longer : length (games_of_items (take (k + 1) items)) ≡ length (games_of_items (take k items)) + length (games_of_item i)
+  games_longer = ap length (games_to_next items k i lt at) ∙ length-append (games_of_items (take k items)) (games_of_item i)
 
   -- a block lies within the most games of a version
-  pub within_all : AreNumberedFrom 0 items → length (games_of (take k items)) + length (games_in i) ≤ 400000
+  pub within_all : AreNumberedFrom 0 items → length (games_of_items (take k items)) + length (games_of_item i) ≤ 400000
   within_all numbered =
-      let first : i.first ≡ 0 + length (games_of (take k items)) = ap (λ (j : Item). j.first) at ∙ numbered k i lt in
+      let first : i.first ≡ 0 + length (games_of_items (take k items)) = ap (λ (j : Item). j.first) at ∙ numbered k i lt in
       omega (arith, first, i.fits)

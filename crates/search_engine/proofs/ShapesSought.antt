@@ -9,7 +9,7 @@ use Rattle.pattern_images.specs.declared.query.Query.{Query}
 use Rattle.pattern_images.specs.Query.{IsForBoard}
 use Rattle.segment_store.specs.BoardShapes.{HaveShapes}
 use Rattle.search_engine.specs.declared.item.Item.{Item}
-use Rattle.search_engine.specs.Items.{games_in, games_of}
+use Rattle.search_engine.specs.Items.{games_of_item, games_of_items}
 use Rattle.search_engine.specs.Searching.{AreCovered, AreShapesAdded}
 use Rattle.search_engine.proofs.ItemLists.{games_to_next}
 
@@ -78,11 +78,11 @@ module _ (query : Query) where
       }
 
   -- one block more
-  pub AreShapesAdded-block : (items : List Item) (k : ℕ) (i : Item) (shapes old mid new : List Shape) → k < length items → i ≡ get_or items k i → HaveShapes i.block.now shapes → AreShapesAdded query (shapes_in (games_of (take k items))) old mid → AreShapesAdded query shapes mid new → AreShapesAdded query (shapes_in (games_of (take (k + 1) items))) old new
+  pub AreShapesAdded-block : (items : List Item) (k : ℕ) (i : Item) (shapes old mid new : List Shape) → k < length items → i ≡ get_or items k i → HaveShapes i.block.now shapes → AreShapesAdded query (shapes_in (games_of_items (take k items))) old mid → AreShapesAdded query shapes mid new → AreShapesAdded query (shapes_in (games_of_items (take (k + 1) items))) old new
   AreShapesAdded-block items k i shapes old mid new lt at have so_far added =
-      let before = games_of (take k items) in
-      subst (λ ss. AreShapesAdded query ss old new) (sym (ap shapes_in (games_to_next items k i lt at) ∙ map-append (λ (g : Game). g.tree.shape) before (games_in i)))
-      (AreShapesAdded-both (shapes_in before) (shapes_in (games_in i)) old mid new so_far (AreShapesAdded-of_last i.skip i.block.now shapes mid new have added))
+      let before = games_of_items (take k items) in
+      subst (λ ss. AreShapesAdded query ss old new) (sym (ap shapes_in (games_to_next items k i lt at) ∙ map-append (λ (g : Game). g.tree.shape) before (games_of_item i)))
+      (AreShapesAdded-both (shapes_in before) (shapes_in (games_of_item i)) old mid new so_far (AreShapesAdded-of_last i.skip i.block.now shapes mid new have added))
 
   -- the shapes of the boards of all games are there
   pub AreCovered-added : (games : List Game) (old new : List Shape) → AreShapesAdded query (shapes_in games) old new → AreCovered query new games

@@ -9,7 +9,7 @@ use Rattle.game_tree.specs.Tree.{node_count}
 use Rattle.node_position.specs.Games.{Game}
 use Rattle.pattern_images.specs.declared.query.Query.{Query}
 use Rattle.search_engine.specs.declared.item.Item.{Item}
-use Rattle.search_engine.specs.Items.{AreItems, games_in, games_of}
+use Rattle.search_engine.specs.Items.{AreItems, games_of_item, games_of_items}
 use Rattle.search_engine.specs.KeptGames.{HaveKeptNodes, IsKeptGame}
 use Rattle.search_engine.specs.ImagesMade.{QueryOnShapes}
 use Rattle.search_engine.specs.StepBounds.{AreStepsIn}
@@ -58,17 +58,17 @@ module _ (query : Query) where
 
   -- ---- one block after another
 
-  pub AreStepsIn-block : (items : List Item) (k : ℕ) (i : Item) (old mid new : ℕ) → k < length items → i ≡ get_or items k i → AreStepsIn query (games_of (take k items)) old mid → AreStepsIn query (games_in i) mid new → AreStepsIn query (games_of (take (k + 1) items)) old new
+  pub AreStepsIn-block : (items : List Item) (k : ℕ) (i : Item) (old mid new : ℕ) → k < length items → i ≡ get_or items k i → AreStepsIn query (games_of_items (take k items)) old mid → AreStepsIn query (games_of_item i) mid new → AreStepsIn query (games_of_items (take (k + 1) items)) old new
   AreStepsIn-block items k i old mid new lt at so_far one =
-      subst (λ gs. AreStepsIn query gs old new) (sym (games_to_next items k i lt at)) (AreStepsIn-both (games_of (take k items)) (games_in i) old mid new so_far one)
+      subst (λ gs. AreStepsIn query gs old new) (sym (games_to_next items k i lt at)) (AreStepsIn-both (games_of_items (take k items)) (games_of_item i) old mid new so_far one)
 
   -- those in the first so many blocks are among those in all
-  pub AreStepsIn-items : (items : List Item) (k old new : ℕ) → AreStepsIn query (games_of (take k items)) old new → AreStepsIn query (games_of items) old new
+  pub AreStepsIn-items : (items : List Item) (k old new : ℕ) → AreStepsIn query (games_of_items (take k items)) old new → AreStepsIn query (games_of_items items) old new
   AreStepsIn-items items k old new one =
-      let cut : games_of (take k items) ++ games_of (drop k items) ≡ games_of items = sym (flat_map-append games_in (take k items) (drop k items)) ∙ ap games_of (take-append-drop k items) in
-      subst (λ gs. AreStepsIn query gs old new) cut (AreStepsIn-front (games_of (take k items)) (games_of (drop k items)) old new one)
+      let cut : games_of_items (take k items) ++ games_of_items (drop k items) ≡ games_of_items items = sym (flat_map-append games_of_item (take k items) (drop k items)) ∙ ap games_of_items (take-append-drop k items) in
+      subst (λ gs. AreStepsIn query gs old new) cut (AreStepsIn-front (games_of_items (take k items)) (games_of_items (drop k items)) old new one)
 
 -- those in the games that blocks have
-pub steps_of_items : (query : Query) (made sought : QueryOnShapes) (items read : List Item) (first : ℕ) (games : List Game) (old new : ℕ) → made ≡ sought → sought.query ≡ query → read ≡ items → AreItems first games items → AreStepsIn made.query (games_of read) old new → AreStepsIn query games old new
+pub steps_of_items : (query : Query) (made sought : QueryOnShapes) (items read : List Item) (first : ℕ) (games : List Game) (old new : ℕ) → made ≡ sought → sought.query ≡ query → read ≡ items → AreItems first games items → AreStepsIn made.query (games_of_items read) old new → AreStepsIn query games old new
 steps_of_items query made sought items read first games old new same of is are steps =
-    subst (λ gs. AreStepsIn query gs old new) (ap games_of is ∙ are.has_games) (subst (λ (q : Query). AreStepsIn q (games_of read) old new) (ap (λ (m : QueryOnShapes). m.query) same ∙ of) steps)
+    subst (λ gs. AreStepsIn query gs old new) (ap games_of_items is ∙ are.has_games) (subst (λ (q : Query). AreStepsIn q (games_of_items read) old new) (ap (λ (m : QueryOnShapes). m.query) same ∙ of) steps)

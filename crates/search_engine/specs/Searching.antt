@@ -11,7 +11,7 @@ use Rattle.pattern_images.specs.Query.{IsForBoard}
 use Rattle.info_filter.specs.declared.filter.Filter.{Filter}
 use Rattle.search_engine.specs.declared.item.Item.{Item}
 use Rattle.search_engine.specs.Hits.{AreHitsFrom}
-use Rattle.search_engine.specs.Items.{AreNumberedFrom, games_of}
+use Rattle.search_engine.specs.Items.{AreNumberedFrom, games_of_items}
 
 -- the list grows by hits of which this is true
 pub record AreHitsAdded (are : List Hit → Type 0) (old new : List Hit) : Type 0 where
@@ -37,8 +37,8 @@ pub record AreShapesAdded (query : Query) (shapes old new : List Shape) : Type 0
 -- if the shapes are those of their boards
 abbrev pub AreItemHitsAdded : Query → Filter → List Shape → List Item → List Hit → List Hit → Type 0
 AreItemHitsAdded query filter shapes items old new =
-    (first : ℕ) → AreNumberedFrom first items → AreCovered query shapes (games_of items) →
-    AreHitsAdded (AreHitsFrom first query filter (games_of items)) old new
+    (first : ℕ) → AreNumberedFrom first items → AreCovered query shapes (games_of_items items) →
+    AreHitsAdded (AreHitsFrom first query filter (games_of_items items)) old new
 
 -- a piece of a search has the hits of the games of these blocks
 abbrev pub IsPiece : Query → Filter → List Shape → List Item → Result (Vec Hit Global) NoMemory →

@@ -25,7 +25,7 @@ ghost use Rattle.search_engine.specs.BlockCandidates.{
   AreInRangeFor,
   IsListed,
 };
-ghost use Rattle.search_engine.specs.Items.{AreNumberedFrom, games_in, games_of};
+ghost use Rattle.search_engine.specs.Items.{AreNumberedFrom, games_of_item, games_of_items};
 ghost use Rattle.search_engine.specs.KeptGames.{AreKept, IsKeptGame};
 ghost use Rattle.search_engine.specs.Searching.{AreCovered, IsCovered};
 
@@ -60,8 +60,8 @@ pub fn kept(alloc: Global, version: &Version<Segment>, query: &Query) -> Result<
 // How many games of blocks are kept. The games are numbered from 0.
 fn kept_of_items(alloc: Global, matchers: &Matchers, items: &[Item]) -> Result<u32, NoMemory>
     requires numbered { AreNumberedFrom 0 items.now }
-    requires covered { AreCovered matchers.now.query matchers.now.shapes (games_of items.now) }
-    ensures { IfOk result (λ k. AreKept matchers.now.query (games_of items.now) k) }
+    requires covered { AreCovered matchers.now.query matchers.now.shapes (games_of_items items.now) }
+    ensures { IfOk result (λ k. AreKept matchers.now.query (games_of_items items.now) k) }
 {
     let mut words = Vec::new(alloc);
     let mut candidates = Vec::new(alloc);
@@ -88,9 +88,9 @@ fn kept_of_block(matchers: &Matchers, item: &Item, placements: &GamePlacements) 
         (IsListed placements.now) }
     requires allowed { AreAllowed matchers.now.query matchers.now.shapes item.now.block.now
         (2 ^ 64 - 1) (IsListed placements.now) }
-    ensures kept { AreCovered matchers.now.query matchers.now.shapes (games_in item.now) →
-        AreKept matchers.now.query (games_in item.now) result }
-    ensures most { result ≤ length (games_in item.now) }
+    ensures kept { AreCovered matchers.now.query matchers.now.shapes (games_of_item item.now) →
+        AreKept matchers.now.query (games_of_item item.now) result }
+    ensures most { result ≤ length (games_of_item item.now) }
 {
     let block = item.block;
     let mut count = 0;

@@ -1,7 +1,7 @@
 // A search in pieces, side by side.
 ghost use Rattle.std.specs.Prelude.{◌≡◌, ◌≤◌, ◌<◌, ◌*◌, [], IfOk, OnOk};
 ghost use Rattle.search_engine.specs.Hits.{AreHits};
-ghost use Rattle.search_engine.specs.Items.{AreNumberedFrom, games_of};
+ghost use Rattle.search_engine.specs.Items.{AreNumberedFrom, games_of_items};
 ghost use Rattle.search_engine.specs.Searching.{
   AreAllPieces,
   AreCovered,
@@ -42,8 +42,8 @@ pub(crate) fn hits_of<R: Threads + Sync>(
 ) -> Result<Vec<Hit>, NoMemory>
     requires numbered { AreNumberedFrom 0 items.now }
     requires covered { AreCovered matchers.now.query matchers.now.shapes
-        (games_of items.now) }
-    ensures { IfOk result (λ hits. AreHits matchers.now.query filter.now (games_of items.now)
+        (games_of_items items.now) }
+    ensures { IfOk result (λ hits. AreHits matchers.now.query filter.now (games_of_items items.now)
         hits.items) }
 {
     let size = piece_size(items.len(), games);
@@ -113,10 +113,10 @@ fn joined(
 ) -> Result<Vec<Hit>, NoMemory>
     requires numbered { AreNumberedFrom 0 items.now }
     requires covered { AreCovered matchers.now.query matchers.now.shapes
-        (games_of items.now) }
+        (games_of_items items.now) }
     requires pieces { AreAllPieces matchers.now.query filter.now matchers.now.shapes
         items.now size pieces.items }
-    ensures { IfOk result (λ hits. AreHits matchers.now.query filter.now (games_of items.now)
+    ensures { IfOk result (λ hits. AreHits matchers.now.query filter.now (games_of_items items.now)
         hits.items) }
 {
     let mut hits = Vec::new(alloc);

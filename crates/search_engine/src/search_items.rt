@@ -30,7 +30,7 @@ ghost use Rattle.search_engine.specs.Gathering.{
   gathered_of,
 };
 ghost use Rattle.search_engine.specs.Hits.{AreGameHits, AreHitsFrom};
-ghost use Rattle.search_engine.specs.Items.{games_in, games_of};
+ghost use Rattle.search_engine.specs.Items.{games_of_item, games_of_items};
 ghost use Rattle.search_engine.specs.Searching.{
   AreCovered,
   AreHitsAdded,
@@ -75,7 +75,7 @@ pub(crate) fn add_items_hits<L: Ledger>(
 ) -> Result<(), NoMemory>
     ensures hits { OnOk result (AreItemHitsAdded matchers.now.query filter.now
         matchers.now.shapes items.now hits.old.items hits.new.items) }
-    ensures steps { AreStepsIn matchers.now.query (games_of items.now) steps.old steps.new }
+    ensures steps { AreStepsIn matchers.now.query (games_of_items items.now) steps.old steps.new }
 {
     let mut room = Room {
         words: Vec::new(alloc),
@@ -101,10 +101,10 @@ fn add_block<L: Ledger>(
     steps: &mut Steps<L>,
 ) -> Result<(), NoMemory>
     ensures hits { OnOk result
-        (AreCovered matchers.now.query matchers.now.shapes (games_in item.now) → AreHitsAdded
-        (AreHitsFrom item.now.first matchers.now.query filter.now (games_in item.now))
+        (AreCovered matchers.now.query matchers.now.shapes (games_of_item item.now) → AreHitsAdded
+        (AreHitsFrom item.now.first matchers.now.query filter.now (games_of_item item.now))
         hits.old.items hits.new.items) }
-    ensures steps { AreStepsIn matchers.now.query (games_in item.now) steps.old steps.new }
+    ensures steps { AreStepsIn matchers.now.query (games_of_item item.now) steps.old steps.new }
 {
     let accepted = accepted_games(filter, item.block, item.skip);
     if accepted == 0 {
@@ -136,10 +136,10 @@ fn add_found<L: Ledger>(
         item.now.skip item.now.block.now gathered.old }
     requires known { AllGoOn matchers.now.query item.now.block.now gathered.old }
     ensures hits { OnOk result
-        (AreCovered matchers.now.query matchers.now.shapes (games_in item.now) → AreHitsAdded
-        (AreHitsFrom item.now.first matchers.now.query filter.now (games_in item.now))
+        (AreCovered matchers.now.query matchers.now.shapes (games_of_item item.now) → AreHitsAdded
+        (AreHitsFrom item.now.first matchers.now.query filter.now (games_of_item item.now))
         hits.old.items hits.new.items) }
-    ensures steps { AreStepsIn matchers.now.query (games_in item.now) steps.old steps.new }
+    ensures steps { AreStepsIn matchers.now.query (games_of_item item.now) steps.old steps.new }
 {
     for at in item.skip..item.block.len() {
         add_one(alloc, matchers, filter, item, at, gathered, hits, steps)?;

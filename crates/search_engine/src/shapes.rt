@@ -2,7 +2,7 @@
 ghost use Rattle.std.specs.Prelude.{[], ◌∷◌, All, IfOk, OnOk};
 ghost use Rattle.kb_geometry.specs.declared.shape.Shape.{Shape};
 ghost use Rattle.pattern_images.specs.Query.{IsForBoard};
-ghost use Rattle.search_engine.specs.Items.{games_of};
+ghost use Rattle.search_engine.specs.Items.{games_of_items};
 ghost use Rattle.search_engine.specs.Searching.{AreCovered, AreShapesAdded};
 
 use crate::item::Item;
@@ -14,7 +14,8 @@ use std::alloc::Global;
 // The shapes of the boards of games, each once, but those on which the query doesn't look.
 pub(crate) fn shapes_of(alloc: Global, query: &Query, items: &[Item]) -> Result<ShapeList, NoMemory>
     ensures asked { IfOk result (λ shapes. All (IsForBoard query.now) shapes) }
-    ensures covered { IfOk result (λ shapes. AreCovered query.now shapes (games_of items.now)) }
+    ensures covered { IfOk result (λ shapes.
+        AreCovered query.now shapes (games_of_items items.now)) }
 {
     let mut shapes = ShapeList::new(alloc)?;
     for item in items {

@@ -17,16 +17,16 @@ use Rattle.session_core.specs.Stores.{view_of as seen_in}
 use Rattle.version_publisher.specs.declared.state.SearcherState.{SearcherState}
 use Rattle.version_publisher.specs.declared.state.VersionState.{VersionState}
 use Rattle.import_work.specs.Course.{ImportCourse}
-use Rattle.import_work.specs.Log.{Segment, games_in, segments_of}
+use Rattle.import_work.specs.Log.{Segment, games_of_segments, segments_of}
 use Rattle.import_work.specs.declared.source.Source.{Source}
 use Rattle.search_run.specs.Beside.{GoesOnBeside, HasAnswered, HasAnsweredAll, PrintsBeside, Reaches, block_at}
 use Rattle.session_core.specs.Lawful.{AreSearched, HasPrinted, IsNamed, IsPassed, Rules, State, after_import, last_of, one_more, view_at, waiting_text, with_session, with_floor}
 use Rattle.session_core.specs.SessionState.{SessionState}
 use Rattle.search_run.specs.Run.{beside_rules}
 use Rattle.search_run.specs.Seen.{HaveSeenOf, IsLookedAt, IsVersionOf}
-use Rattle.serial_run.specs.Steps.{AreAnsweredFrom, IsKept, IsTextByKept, IsTextTo, LeavesBase, import_at, kept_at}
+use Rattle.serial_run.specs.Steps.{AreAnsweredFrom, IsKeptOfState, IsTextByKept, IsTextTo, LeavesBase, import_at, kept_at}
 use Rattle.session_core.specs.ImportTexts.{import_line_text}
-use Rattle.import_segments.proofs.PushedSegments.{items_in-games_in}
+use Rattle.import_segments.proofs.PushedSegments.{items_in-games_of_segments}
 use Rattle.serial_run.proofs.StatementLemmas.{AreAnsweredFrom-searched, AreNamed, greatest_of}
 use Rattle.session_core.proofs.StateLemmas.{floor-joined, opens-passed}
 
@@ -46,7 +46,7 @@ module _ (files : List File) (rules : Rules) (beside : ¬ IsTrue rules.serial) (
   view-longer : (n : ℕ) → n ≤ length seen → view_at (as_seen s seen) n ≡ view_at s n
   view-longer n le =
       let same : take n seen ≡ take n s.log = sym (take-append-le n seen longer.0 le) ∙ ap (take n) longer.1 in
-      ap (λ (log : List Segment). record { version = n; games = games_in log }) same
+      ap (λ (log : List Segment). record { version = n; games = games_of_segments log }) same
 
   searched-longer : (searches : List PlacedSearch) (session after : SessionState) (greatest : ℕ) (text : List ℕ) → AreSearched rules (as_seen s seen) searches session greatest text after → AreSearched rules s searches session greatest text after
   searched-longer [] session after greatest text h = h
@@ -163,9 +163,9 @@ module _ (batch : ℕ) (WasSeen IsSeen : List Segment → Type 0) (floor : ℕ) 
       let log : List Segment = began.log ++ segments_of batch finding in
       let r = h entry finding imported (weaker log is_seen) in
       let s = r.state in
-      let kept : IsKept (as_seen s seen) (kept_at version None) session = record {
+      let kept : IsKeptOfState (as_seen s seen) (kept_at version None) session = record {
         version = of.number;
-        games = of.games ∙ items_in-games_in seen;
+        games = of.games ∙ items_in-games_of_segments seen;
         waiting = refl;
         floor = omega (arith, r.floor_at_most, floor_seen);
         session_is = r.session_is;
@@ -208,7 +208,7 @@ module _ (rules : Rules) (beside : ¬ IsTrue rules.serial) (s : State) (seen : L
       ap (take v.number) (sym longer.1) ∙ take-append-le v.number seen longer.0 (number-within v h)
       ∙ ap (take v.number) (sym h.within.1) ∙ take-append-le v.number h.mine h.within.0 le
       ∙ take_all v.number h.mine (omega (arith, h.of.number)) in
-      ap (λ (games : List Game). record { version = v.number; games = games }) (ap games_in cut ∙ sym (items_in-games_in h.mine) ∙ sym h.of.games)
+      ap (λ (games : List Game). record { version = v.number; games = games }) (ap games_of_segments cut ∙ sym (items_in-games_of_segments h.mine) ∙ sym h.of.games)
 
   -- each of these may be named
   all-named : (versions : List (VersionState Game)) → All (IsBetween floor seen) versions → AreNamed rules s (map seen_in versions)

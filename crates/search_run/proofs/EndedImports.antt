@@ -7,18 +7,18 @@ use Rattle.kb_geometry.specs.declared.memory.NoMemory.{NoMemory}
 use Rattle.kb_edges.specs.Faults.{Rose}
 use Rattle.kb_edges.specs.Files.{File}
 use Rattle.kb_edges.specs.Told.{IfTold}
-use Rattle.version_publisher.specs.Contents.{Opening, items_in}
+use Rattle.version_publisher.specs.Contents.{BookName, items_in}
 use Rattle.version_publisher.specs.declared.state.PublisherState.{PublisherState}
 use Rattle.node_position.specs.Games.{Game}
 use Rattle.import_work.specs.Course.{IsImported, nothing_lost, trees_in}
 use Rattle.import_work.specs.Imports.{FindsIn, ImportState, IsListed, IsNotThere, IsOpened, games_reported}
-use Rattle.import_work.specs.Log.{Segment, games_in, segments_of}
+use Rattle.import_work.specs.Log.{Segment, games_of_segments, segments_of}
 use Rattle.import_work.specs.Outcome.{counts_of}
 use Rattle.import_work.specs.declared.report.Report.{Report}
 use Rattle.import_work.specs.declared.report.ReportBody.TheVariants as report
 use Rattle.import_work.specs.declared.source.Source.{Source}
 use Rattle.import_work.proofs.FileLemmas.{rose_by_none}
-use Rattle.import_work.proofs.ImportsExist.{import-found}
+use Rattle.import_work.proofs.ImportsExist.{lossless-found}
 use Rattle.import_work.proofs.GivenSegments.{adds_up}
 use Rattle.import_work.proofs.Losses.{loses}
 use Rattle.import_work.proofs.RoomLemmas.{length-trees}
@@ -27,9 +27,9 @@ use Rattle.import_segments.specs.Merged.{AreMerged}
 use Rattle.import_segments.specs.Publishing.{IsIdle, IsOpenedWith, IsWithinLimits, PublishesAll, PublishesFirst}
 use Rattle.session_core.specs.ImportTexts.{told_text}
 use Rattle.search_run.specs.declared.importer.ImportJob.{ImportJob}
-use Rattle.import_work.proofs.SegmentLemmas.{games_in-append}
+use Rattle.import_work.proofs.SegmentLemmas.{games_of_segments-append}
 use Rattle.serial_run.proofs.ImportReports.{few_left, no_games, text_told}
-use Rattle.import_segments.proofs.PushedSegments.{items_in-games_in}
+use Rattle.import_segments.proofs.PushedSegments.{items_in-games_of_segments}
 
 -- the path is there, or the count rose
 cause_there : (files : List File) (told : Option (List File)) (from : Source) (faults now : ℕ) → told ≡ Some files → Rose faults now ⊎ ((all : List File) × (told ≡ Some all) × IsNotThere all from) → Rose faults now ⊎ IsNotThere files from
@@ -70,7 +70,7 @@ module _ (told : Option (List File)) (job : ImportJob) (some : 1 ≤ job.batch) 
   finds files here last after f = record {
     entry = f.entry;
     finding = f.finding;
-    imported = subst (λ c. IsImported files job.source c f.entry f.finding) (counts_are ∙ was.counted ∙ ap (λ gs. counts_of (trees_in gs)) (items_in-games_in log))
+    imported = subst (λ c. IsImported files job.source c f.entry f.finding) (counts_are ∙ was.counted ∙ ap (λ gs. counts_of (trees_in gs)) (items_in-games_of_segments log))
         (subst (λ p. IsImported files p start.counts f.entry f.finding) source_is f.imported);
     paid = loses files start first opened_at last f
         (λ is. subst (λ p. Rose first opened_at ⊎ (IsNotThere files p)) (sym source_is) (cause_there files told job.source first opened_at here (was.unlisted is)))
@@ -89,14 +89,14 @@ module _ (told : Option (List File)) (job : ImportJob) (some : 1 ≤ job.batch) 
       }
 
   module _ (log_now : List Segment) (last : ℕ) (after : opened_at ≤ last) (report : Report) (h : PublishesAll told job.batch start log log_now report opened_at last) where
-    games_are : games_reported report.body ≡ length (games_in h.segments)
+    games_are : games_reported report.body ≡ length (games_of_segments h.segments)
     games_are = omega (arith, ap games_reported h.body, (adds_up told job.batch start opened_at h.now h.segments last some h.given).told, no_games job.source start.body start.left was.listed)
 
     -- the report tells few games
     pub few_games : IsWithinLimits log_now → games_reported report.body ≤ 400000
     few_games limits =
-        let all : length (items_in log_now) ≡ length (games_in log) + length (games_in h.segments) =
-        ap length (items_in-games_in log_now ∙ ap games_in h.grown ∙ games_in-append log h.segments) ∙ length-append (games_in log) (games_in h.segments) in
+        let all : length (items_in log_now) ≡ length (games_of_segments log) + length (games_of_segments h.segments) =
+        ap length (items_in-games_of_segments log_now ∙ ap games_of_segments h.grown ∙ games_of_segments-append log h.segments) ∙ length-append (games_of_segments log) (games_of_segments h.segments) in
         omega (arith, games_are, all, length-trees (items_in log_now), limits.0)
 
     -- the log has grown by all its segments, and the report tells what it found
@@ -110,11 +110,11 @@ module _ (told : Option (List File)) (job : ImportJob) (some : 1 ≤ job.batch) 
           text =
               ap (λ l. told_text l report.body report.version) line
               ∙ ap (λ n. told_text job.line report.body n) h.version
-              ∙ text_told job.batch some job.line (length log_now) report.body g.finds.finding g.tells (games_are ∙ ap (λ (ss : List Segment). length (games_in ss)) g.segments_are);
+              ∙ text_told job.batch some job.line (length log_now) report.body g.finds.finding g.tells (games_are ∙ ap (λ (ss : List Segment). length (games_of_segments ss)) g.segments_are);
         }
 
   -- how it ends
-  pub ended : (opening : Opening) (told_now : Option (List File)) (last : ℕ) (publisher : PublisherState Game) (result : Result Report NoMemory) → publisher.opening ≡ opening → length publisher.log ≤ length log + length start.left → IsWithinLimits publisher.log → told_now ≡ told → opened_at ≤ last →
+  pub ended : (opening : BookName) (told_now : Option (List File)) (last : ℕ) (publisher : PublisherState Game) (result : Result Report NoMemory) → publisher.opening ≡ opening → length publisher.log ≤ length log + length start.left → IsWithinLimits publisher.log → told_now ≡ told → opened_at ≤ last →
       PublishesFirst told job.batch start log publisher.log opened_at last → IfOk result (λ r. IsIdle publisher × PublishesAll told job.batch start log publisher.log r opened_at last) → IfOk result (λ r. AreMerged publisher.parts) → HasEnded told first job opening log told_now last publisher result
   ended opening told_now last publisher result opened few limits same after first_of all merged = record {
     opened = opened;
@@ -132,7 +132,7 @@ module _ (told : Option (List File)) (job : ImportJob) (some : 1 ≤ job.batch) 
 -- an import that couldn't be opened has found something by which nothing is lost
 pub not_opened : (told : Option (List File)) (job : ImportJob) (log : List Segment) (faults now : ℕ) → faults ≤ now → IfTold told (λ files. EndsWithFirst files job log log faults now)
 not_opened told job log faults now later = λ files here.
-    let found = import-found files job.source (counts_of (trees_in (games_in log))) in record {
+    let found = lossless-found files job.source (counts_of (trees_in (games_of_segments log))) in record {
       finds = record {
         entry = nothing_lost;
         finding = found.0;

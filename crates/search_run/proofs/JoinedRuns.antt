@@ -8,18 +8,18 @@ use Rattle.kb_edges.specs.Faults.{Rose}
 use Rattle.kb_edges.specs.Files.{File}
 use Rattle.hit_collectors.specs.Tallies.{BoxTally}
 use Rattle.query_script.specs.declared.statement.Placed.{Placed}
-use Rattle.version_publisher.specs.Contents.{Opening, items_in}
+use Rattle.version_publisher.specs.Contents.{BookName, items_in}
 use Rattle.version_publisher.specs.declared.state.PublisherState.{PublisherState}
 use Rattle.version_publisher.specs.declared.state.SearcherState.{SearcherState}
 use Rattle.node_position.specs.Games.{Game}
 use Rattle.import_work.specs.Course.{IsImported, losses_of, trees_in}
-use Rattle.import_work.specs.Log.{Segment, games_in, segments_of}
+use Rattle.import_work.specs.Log.{Segment, games_of_segments, segments_of}
 use Rattle.import_work.specs.Outcome.{counts_of}
 use Rattle.import_work.specs.declared.report.Report.{Report}
 use Rattle.import_work.specs.declared.source.Source.{Source}
 use Rattle.import_work.proofs.FileLemmas.{RoseBy-then}
 use Rattle.import_work.proofs.Losses.{losses_of-append}
-use Rattle.search_run.specs.Beside.{EndsWith, HasAnsweredAll, HasRunTo, IsJoined, IsJobOf, StandsStill}
+use Rattle.search_run.specs.Beside.{EndsWith, HasAnsweredAll, HasRunTo, IsImportJoined, IsJobOf, StandsStill}
 use Rattle.session_core.specs.Lawful.{HasPrinted, Rules, waiting_text}
 use Rattle.session_core.specs.SessionState.{SessionState}
 use Rattle.import_segments.specs.Merged.{AreMerged}
@@ -31,7 +31,7 @@ use Rattle.session_core.specs.Sources.{IsNoImport}
 use Rattle.session_core.specs.ImportTexts.{import_line_text, report_text}
 use Rattle.search_run.specs.declared.importer.ImportJob.{ImportJob}
 use Rattle.search_run.proofs.BesideLemmas.{prints-first}
-use Rattle.import_segments.proofs.PushedSegments.{items_in-games_in}
+use Rattle.import_segments.proofs.PushedSegments.{items_in-games_of_segments}
 use Rattle.serial_run.proofs.RunLemmas.{HasRun-more, HasRun-start, no_loss, taken_more}
 use Rattle.serial_run.proofs.StatementLemmas.{waiting_is}
 use Rattle.session_core.proofs.StateLemmas.{log_kept}
@@ -52,11 +52,11 @@ module _ (files : List File) (batch line : ℕ) (from : Source) (job : ImportJob
     log_is : log_now ≡ h.run.state.log ++ segments_of batch ends.finds.finding
     log_is = ends.grown ∙ ap (λ b. log ++ segments_of b ends.finds.finding) ordered.batch_is ∙ ap (λ (l : List Segment). l ++ segments_of batch ends.finds.finding) (sym h.log_is)
 
-    found : IsImported files from (counts_of (trees_in (games_in h.run.state.log))) ends.finds.entry ends.finds.finding
-    found = subst (λ (l : List Segment). IsImported files from (counts_of (trees_in (games_in l))) ends.finds.entry ends.finds.finding) (sym h.log_is)
-        (subst (λ p. IsImported files p (counts_of (trees_in (games_in log))) ends.finds.entry ends.finds.finding) ordered.source_is ends.finds.imported)
+    found : IsImported files from (counts_of (trees_in (games_of_segments h.run.state.log))) ends.finds.entry ends.finds.finding
+    found = subst (λ (l : List Segment). IsImported files from (counts_of (trees_in (games_of_segments l))) ends.finds.entry ends.finds.finding) (sym h.log_is)
+        (subst (λ p. IsImported files p (counts_of (trees_in (games_of_segments log))) ends.finds.entry ends.finds.finding) ordered.source_is ends.finds.imported)
 
-    pub joined-run : floor ≡ length log → HasAnsweredAll WasSeen floor session answered IsSeen session_now ((before ++ h.run.text) ++ own) written → IsSeen log_now → IsJoined log_now (Ok told) after → HasRunTo (beside_rules batch) files start (done ++ import_at line from ∷ answered) after session_now log_now before written first third
+    pub joined-run : floor ≡ length log → HasAnsweredAll WasSeen floor session answered IsSeen session_now ((before ++ h.run.text) ++ own) written → IsSeen log_now → IsImportJoined log_now (Ok told) after → HasRunTo (beside_rules batch) files start (done ++ import_at line from ∷ answered) after session_now log_now before written first third
     joined-run floor_is all seen joined =
         let run = h.run in
         let finding = ends.finds.finding in
@@ -71,7 +71,7 @@ module _ (files : List File) (batch line : ℕ) (from : Source) (job : ImportJob
             state = r.state;
             is_kept = record {
               version = joined.version ∙ ap length now;
-              games = joined.games ∙ items_in-games_in log_now ∙ ap games_in now;
+              games = joined.games ∙ items_in-games_of_segments log_now ∙ ap games_of_segments now;
               waiting =
                   joined.waiting
                   ∙ ap (λ (t : Report). Some (told_text t.line t.body t.version)) (sym told_is)
@@ -124,7 +124,7 @@ WritesPublished-end rules files start session placed kept publisher before betwe
 -- ---- a run from its start
 
 -- the run stands still where nothing is published yet
-pub stands-first : (opening : Opening) (publisher : PublisherState Game) (own : SearcherState Game) → publisher.opening ≡ opening → IsIdle publisher → AreMerged publisher.parts → publisher.log ≡ [] → own.seen ≡ [] → StandsStill opening publisher own nothing_kept
+pub stands-first : (opening : BookName) (publisher : PublisherState Game) (own : SearcherState Game) → publisher.opening ≡ opening → IsIdle publisher → AreMerged publisher.parts → publisher.log ≡ [] → own.seen ≡ [] → StandsStill opening publisher own nothing_kept
 stands-first opening publisher own opened idle merged empty seen = record {
   opened = opened;
   idle = idle;

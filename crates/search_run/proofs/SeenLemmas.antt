@@ -9,7 +9,7 @@ use Rattle.std.proofs.Math.Seq.{get_or-append_seam}
 use Rattle.kb_geometry.proofs.Lists.{All-before}
 use Rattle.kb_geometry.proofs.Prefixes.{prefix_same, prefix_trans}
 use Rattle.node_position.specs.Games.{Game}
-use Rattle.version_publisher.specs.Contents.{IsNewSearcher, Opening}
+use Rattle.version_publisher.specs.Contents.{BookName, IsNewSearcher}
 use Rattle.version_publisher.specs.declared.state.SearcherState.{SearcherState}
 use Rattle.version_publisher.specs.declared.state.VersionState.{VersionState}
 use Rattle.import_work.specs.Log.{Segment}
@@ -20,11 +20,11 @@ pub prefix_length : {A : Type 0} (xs ys : List A) → IsPrefix xs ys → length 
 prefix_length xs ys p = omega (arith, ap length p.1, length-append xs p.0)
 
 -- new searchers are of their opening
-pub new_opened : (opening : Opening) (searchers : List (SearcherState Game)) → All (IsNewSearcher opening) searchers → AreOfOpening opening searchers
+pub new_opened : (opening : BookName) (searchers : List (SearcherState Game)) → All (IsNewSearcher opening) searchers → AreOfOpening opening searchers
 new_opened opening searchers new = λ k d below. (new k d below).0
 
 -- the last of new searchers, and those before it
-pub new_last : (opening : Opening) (all block : List (SearcherState Game)) (own : SearcherState Game) → All (IsNewSearcher opening) all → all ≡ block ++ own ∷ [] → IsNewSearcher opening own × All (IsNewSearcher opening) block
+pub new_last : (opening : BookName) (all block : List (SearcherState Game)) (own : SearcherState Game) → All (IsNewSearcher opening) all → all ≡ block ++ own ∷ [] → IsNewSearcher opening own × All (IsNewSearcher opening) block
 new_last opening all block own new split =
     let both : All (IsNewSearcher opening) (block ++ own ∷ []) = subst (All (IsNewSearcher opening)) split new in (
       subst (IsNewSearcher opening) (get_or-append_seam block own [] own) (both (length block) own (omega (arith, length-append block (own ∷ [])))),
@@ -81,7 +81,7 @@ seen-before-block own now block looked caught grows less same log h = record {
 -- ---- searchers that meet a publisher
 
 -- none has met it yet
-pub HaveMet-none : (opening : Opening) (log : List Segment) (searchers : List (SearcherState Game)) → AreOfOpening opening searchers → HaveMet opening log searchers searchers 0
+pub HaveMet-none : (opening : BookName) (log : List Segment) (searchers : List (SearcherState Game)) → AreOfOpening opening searchers → HaveMet opening log searchers searchers 0
 HaveMet-none opening log searchers opened = record {
   same_length = refl;
   met = λ k d below. absurd (omega (arith, below));
@@ -90,7 +90,7 @@ HaveMet-none opening log searchers opened = record {
 }
 
 -- one more meets it
-pub HaveMet-more : (opening : Opening) (log : List Segment) (before now after : List (SearcherState Game)) (i : ℕ) (old new : SearcherState Game) → HaveMet opening log before now i → i < length now → ((d : SearcherState Game) → get_or now i d ≡ old) → after ≡ set now i new → IsPrefix old.seen log → new.opening ≡ opening → HaveMet opening log before after (i + 1)
+pub HaveMet-more : (opening : BookName) (log : List Segment) (before now after : List (SearcherState Game)) (i : ℕ) (old new : SearcherState Game) → HaveMet opening log before now i → i < length now → ((d : SearcherState Game) → get_or now i d ≡ old) → after ≡ set now i new → IsPrefix old.seen log → new.opening ≡ opening → HaveMet opening log before after (i + 1)
 HaveMet-more opening log before now after i old new h below old_is set_is seen opened = record {
   same_length = ap length set_is ∙ length-set now i new ∙ h.same_length;
   met = λ k d under inside. elim (cases_eq k i) [
@@ -111,5 +111,5 @@ HaveMet-more opening log before now after i old new h below old_is set_is seen o
     ]
 
 -- all have met it
-pub HaveMet-all : (opening : Opening) (log : List Segment) (before now : List (SearcherState Game)) (count : ℕ) → HaveMet opening log before now count → length before ≤ count → HaveSeenOf log before
+pub HaveMet-all : (opening : BookName) (log : List Segment) (before now : List (SearcherState Game)) (count : ℕ) → HaveMet opening log before now count → length before ≤ count → HaveSeenOf log before
 HaveMet-all opening log before now count h all = λ k d below. h.met k d (omega (arith, below, all)) below

@@ -11,7 +11,7 @@ use Rattle.kb_edges.specs.Files.{File}
 use Rattle.hit_collectors.specs.Tallies.{BoxTally}
 use Rattle.query_script.specs.declared.statement.Placed.{Placed}
 use Rattle.import_work.specs.Course.{ImportCourse, IsImported, losses_of, trees_in}
-use Rattle.import_work.specs.Log.{Segment, games_in, segments_of}
+use Rattle.import_work.specs.Log.{Segment, games_of_segments, segments_of}
 use Rattle.import_work.specs.Outcome.{counts_of}
 use Rattle.import_work.specs.declared.source.Source.{Source}
 use Rattle.import_work.specs.declared.source.Source.TheVariants as source
@@ -187,9 +187,9 @@ module _ (files : List File) (batch line : ℕ) (from : Source) (job : ImportJob
         (subst (λ (l : List Segment). IsPrefix (l ++ ends.segments) behind) h.log_is
         (begins_with h.run.state.log ends.segments (segments_of batch ends.finds.finding) first))
 
-    found : IsImported files from (counts_of (trees_in (games_in h.run.state.log))) ends.finds.entry ends.finds.finding
-    found = subst (λ (l : List Segment). IsImported files from (counts_of (trees_in (games_in l))) ends.finds.entry ends.finds.finding) (sym h.log_is)
-        (subst (λ p. IsImported files p (counts_of (trees_in (games_in log))) ends.finds.entry ends.finds.finding) ordered.source_is ends.finds.imported)
+    found : IsImported files from (counts_of (trees_in (games_of_segments h.run.state.log))) ends.finds.entry ends.finds.finding
+    found = subst (λ (l : List Segment). IsImported files from (counts_of (trees_in (games_of_segments l))) ends.finds.entry ends.finds.finding) (sym h.log_is)
+        (subst (λ p. IsImported files p (counts_of (trees_in (games_of_segments log))) ends.finds.entry ends.finds.finding) ordered.source_is ends.finds.imported)
 
     -- the statements of the script, with those that were answered set apart
     all_placed : (answered left : List Placed) → rest ≡ answered ++ left → ((done ++ import_at line from ∷ []) ++ answered) ++ left ≡ done ++ import_at line from ∷ rest

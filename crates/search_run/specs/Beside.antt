@@ -1,4 +1,4 @@
--- What is printed while an import is under way, and how an import ends: words of the private
+-- What is printed while an import is under way, and how an import ends: definitions of the private
 -- functions.
 use Rattle.std.specs.Prelude.{◌≡◌, ◌≤◌, ◌+◌, ℕ, List, [], ◌∷◌, ◌++◌, length, Option, Some, Result, Ok, IfOk}
 use mathlib.Core.List.{IsPrefix}
@@ -12,12 +12,12 @@ use Rattle.query_script.specs.declared.statement.PlacedSearch.{PlacedSearch}
 use Rattle.query_script.specs.declared.statement.Statement.{Statement}
 use Rattle.query_script.specs.declared.statement.Statement.TheVariants as statement
 use Rattle.node_position.specs.Games.{Game}
-use Rattle.version_publisher.specs.Contents.{Opening, items_in}
+use Rattle.version_publisher.specs.Contents.{BookName, items_in}
 use Rattle.version_publisher.specs.declared.state.PublisherState.{PublisherState}
 use Rattle.version_publisher.specs.declared.state.SearcherState.{SearcherState}
 use Rattle.import_work.specs.Course.{Finding, ImportCourse, IsImported, losses_of, trees_in}
 use Rattle.import_work.specs.Imports.{games_reported}
-use Rattle.import_work.specs.Log.{Segment, games_in, segments_of}
+use Rattle.import_work.specs.Log.{Segment, games_of_segments, segments_of}
 use Rattle.import_work.specs.Outcome.{counts_of}
 use Rattle.import_work.specs.declared.report.Report.{Report}
 use Rattle.import_work.specs.declared.source.Source.{Source}
@@ -52,7 +52,7 @@ abbrev pub PrintsBeside : List File → Rules → List BoxTally → State → �
     List ImportCourse → (List Segment → Type 0) → ℕ → SessionState → List Placed → List ℕ → Type 0
 PrintsBeside files rules start began line source course IsSeen floor session placed text =
     (entry : ImportCourse) (finding : Finding) →
-    IsImported files source (counts_of (trees_in (games_in began.log))) entry finding →
+    IsImported files source (counts_of (trees_in (games_of_segments began.log))) entry finding →
     IsSeen (began.log ++ segments_of rules.batch finding) →
     IsPrintedWith files rules start (course ++ entry ∷ []) placed
     (began.log ++ segments_of rules.batch finding)
@@ -78,7 +78,8 @@ pub record Finds (files : List File) (source : Source) (log : List Segment)
     (faults_before faults_now : ℕ) : Type 0 where
   pub entry : ImportCourse
   pub finding : Finding
-  pub imported : IsImported files source (counts_of (trees_in (games_in log))) entry finding
+  pub imported : IsImported files source (counts_of (trees_in (games_of_segments log))) entry
+      finding
   pub paid : RoseBy (losses_of (entry ∷ [])) faults_before faults_now
 
 -- the log has grown by the segments of what it found, and the report tells that
@@ -99,7 +100,7 @@ pub record EndsWithFirst (files : List File) (job : ImportJob) (log_before log_n
 
 -- How the import of this job ends, which began with this opening and this log.
 pub record HasEnded (told : Option (List File)) (faults_before : ℕ) (job : ImportJob)
-    (opening : Opening) (log : List Segment) (told_now : Option (List File)) (faults_now : ℕ)
+    (opening : BookName) (log : List Segment) (told_now : Option (List File)) (faults_now : ℕ)
     (publisher : PublisherState Game) (report : Result Report NoMemory) : Type 0 where
   pub opened : publisher.opening ≡ opening
   pub few : length publisher.log ≤ length log + 4294967295
@@ -125,7 +126,7 @@ pub record HasRunTo (rules : Rules) (files : List File) (start : List BoxTally)
 
 -- Where a run stands while no import is under way: the publisher has this opening, nothing pending
 -- and its parts merged, the session's searcher has seen its whole log, and the last version is kept.
-pub record StandsStill (opening : Opening) (publisher : PublisherState Game)
+pub record StandsStill (opening : BookName) (publisher : PublisherState Game)
     (own : SearcherState Game) (kept : Kept) : Type 0 where
   pub opened : publisher.opening ≡ opening
   pub idle : IsIdle publisher
@@ -137,7 +138,7 @@ pub record StandsStill (opening : Opening) (publisher : PublisherState Game)
 
 -- an import may be begun: the job's counts are those of the log, and files come at least one at a
 -- time
-pub record MayBegin (opening : Opening) (publisher : PublisherState Game) (job : ImportJob)
+pub record MayBegin (opening : BookName) (publisher : PublisherState Game) (job : ImportJob)
     : Type 0 where
   pub opened : publisher.opening ≡ opening
   pub idle : IsIdle publisher
@@ -159,7 +160,7 @@ pub record IsJobOf (job : ImportJob) (batch line : ℕ) (source : Source) (kept 
 
 -- What is kept when an import was joined whose publisher has this log: the last version, and the
 -- report that waits.
-pub record IsJoined (log : List Segment) (report : Result Report NoMemory) (kept : Kept)
+pub record IsImportJoined (log : List Segment) (report : Result Report NoMemory) (kept : Kept)
     : Type 0 where
   pub told : Report
   pub report_is : report ≡ Ok told

@@ -1,8 +1,8 @@
--- What the searchers of a base have seen of its log: words of the private functions.
+-- What the searchers of a base have seen of its log: definitions of the private functions.
 use Rattle.std.specs.Prelude.{◌≡◌, ◌<◌, ◌≤◌, ℕ, List, All, get_or, length}
 use mathlib.Core.List.{IsPrefix}
 use Rattle.node_position.specs.Games.{Game}
-use Rattle.version_publisher.specs.Contents.{Opening, items_in}
+use Rattle.version_publisher.specs.Contents.{BookName, items_in}
 use Rattle.version_publisher.specs.declared.state.SearcherState.{SearcherState}
 use Rattle.version_publisher.specs.declared.state.VersionState.{VersionState}
 use Rattle.import_work.specs.Log.{Segment}
@@ -13,7 +13,7 @@ pub record IsVersionOf (version : VersionState Game) (log : List Segment) : Type
   pub games : items_in version.parts ≡ items_in log
 
 -- all of these are searchers of this opening
-abbrev pub AreOfOpening : Opening → List (SearcherState Game) → Type 0
+abbrev pub AreOfOpening : BookName → List (SearcherState Game) → Type 0
 AreOfOpening opening searchers =
     All (λ (s : SearcherState Game). s.opening ≡ opening) searchers
 
@@ -39,7 +39,7 @@ pub record IsLookedAt (own : List Segment) (block : List (SearcherState Game))
 
 -- The first of these searchers have met a publisher with this log: what each had seen before is a
 -- prefix of it. The others are as before.
-pub record HaveMet (opening : Opening) (log : List Segment)
+pub record HaveMet (opening : BookName) (log : List Segment)
     (before now : List (SearcherState Game)) (count : ℕ) : Type 0 where
   pub same_length : length now ≡ length before
   pub met : (k : ℕ) (d : SearcherState Game) → k < count → k < length before →

@@ -3,7 +3,7 @@
 //!
 //! Stands on serial_run, import_segments, session_core, hit_collectors, import_work, query_script,
 //! segment_store, version_publisher, node_position, kb_edges and kb_geometry. In `specs/` are a base
-//! that is empty yet, and what a run with a base leaves; the lawful outputs are words of serial_run.
+//! that is empty yet, and what a run with a base leaves; session_core defines lawful outputs.
 //! The program uses that [`run`] writes a lawful output where it is done, and tells each other end by
 //! its cause.
 #![tactic(auto)]

@@ -34,7 +34,7 @@ ghost use Rattle.search_run.specs.Beside.{
   HasAnsweredAll,
   HasEnded,
   HasRunTo,
-  IsJoined,
+  IsImportJoined,
   IsJobOf,
   MayBegin,
   StandsStill,
@@ -98,7 +98,7 @@ pub(crate) fn run_beside<
     rt: &R,
     alloc: Global,
     batch: u32,
-    boards: Vec<C>,
+    boxes: Vec<C>,
     placed: &[Placed],
     importer: ImporterState<R, F, G>,
     searchers: Vec<Searcher<Segment>>,
@@ -114,13 +114,13 @@ pub(crate) fn run_beside<
     requires new { All (IsNewSearcher importer.owned.publisher.opening) searchers.items }
     ensures lawful { IfTold (F.files importer.folder)
         (λ files. IfTold (K.written out.old) (λ before. OnOk result.0
-        (WritesPublished (beside_rules batch) files (map (λ board. C.tally board) boards.items)
+        (WritesPublished (beside_rules batch) files (map (λ b. C.tally b) boxes.items)
         placed.now before (K.written out.new) (F.faults importer.folder) (F.faults result.1.folder)
         result.1.owned.publisher))) }
     ensures stopped { IfTold (F.files importer.folder)
         (λ files. IfTold (K.written out.old) (λ before. OnErr result.0
         (WritesPublishedPrefix (beside_rules batch) files
-        (map (λ board. C.tally board) boards.items) placed.now before (K.written out.new)
+        (map (λ b. C.tally b) boxes.items) placed.now before (K.written out.new)
         (F.faults importer.folder) (F.faults result.1.folder) result.1.owned.publisher.log))) }
     ensures sink_fault { IsErrOf result.0 Stopped.SinkFault →
         Rose (K.faults out.old) (K.faults out.new) }
@@ -133,7 +133,7 @@ pub(crate) fn run_beside<
         Ok(searchers) => searchers,
         Err(error) => return (Err(Stopped::from(error)), importer),
     };
-    let mut session = Session::new(boards);
+    let mut session = Session::new(boxes);
     let Passed { importer, outcome } = run_all(
         rt,
         alloc,
@@ -532,7 +532,7 @@ fn join<J: OpenName, R: Wait>(
     requires limits { IsWithinLimits publisher.now.log }
     requires few { IfOk report (λ r. games_reported r.body ≤ 400000) }
     ensures seen { HaveSeen searchers.old.own searchers.old.block.items publisher.now.log }
-    ensures joined { IfOk result (λ r. IsJoined publisher.now.log report r.0) }
+    ensures joined { IfOk result (λ r. IsImportJoined publisher.now.log report r.0) }
     ensures answered { IfOk result (λ r. answered ≡ Ok r.1) }
     ensures own { IfOk result (λ r. searchers.new.own.seen ≡ publisher.now.log) }
     ensures sink_fault { IsErrOf result Stopped.SinkFault → IsErrOf answered Stopped.SinkFault }

@@ -210,7 +210,7 @@ fn run_base<
     folder: F,
     out: &mut K,
     gate: G,
-    boards: Vec<C>,
+    boxes: Vec<C>,
     publisher: Publisher<Segment>,
     searchers: Vec<Searcher<Segment>>,
 ) -> (Result<(), Stopped>, F, Publisher<Segment>)
@@ -222,23 +222,23 @@ fn run_base<
     }) }
     ensures one_by_one { IfTold (F.files folder) (λ files. IfTold (K.written out.old) (λ before.
         OnOk result.0 (said.serial ≡ true →
-        WritesLawful (serial_rules said.batch) files (map (λ board. C.tally board) boards.items)
+        WritesLawful (serial_rules said.batch) files (map (λ b. C.tally b) boxes.items)
         placed.now before (K.written out.new) (F.faults folder) (F.faults result.1)
         × (result.2 ≡ publisher)))) }
     ensures published { IfTold (F.files folder) (λ files. IfTold (K.written out.old) (λ before.
         OnOk result.0 (said.serial ≡ false →
         WritesPublished (beside_rules said.batch) files
-        (map (λ board. C.tally board) boards.items) placed.now before (K.written out.new)
+        (map (λ b. C.tally b) boxes.items) placed.now before (K.written out.new)
         (F.faults folder) (F.faults result.1) result.2))) }
     ensures stopped { IfTold (F.files folder) (λ files. IfTold (K.written out.old) (λ before.
         OnErr result.0 (said.serial ≡ true →
-        WritesPrefix (serial_rules said.batch) files (map (λ board. C.tally board) boards.items)
+        WritesPrefix (serial_rules said.batch) files (map (λ b. C.tally b) boxes.items)
         placed.now before (K.written out.new) (F.faults folder) (F.faults result.1)
         × (result.2 ≡ publisher)))) }
     ensures stopped_beside { IfTold (F.files folder)
         (λ files. IfTold (K.written out.old) (λ before. OnErr result.0 (said.serial ≡ false →
         WritesPublishedPrefix (beside_rules said.batch) files
-        (map (λ board. C.tally board) boards.items) placed.now before (K.written out.new)
+        (map (λ b. C.tally b) boxes.items) placed.now before (K.written out.new)
         (F.faults folder) (F.faults result.1) result.2.log))) }
     ensures sink_fault { IsErrOf result.0 Stopped.SinkFault →
         Rose (K.faults out.old) (K.faults out.new) }
@@ -251,7 +251,7 @@ fn run_base<
     let batch = said.batch;
     if said.serial {
         let mut folder = folder;
-        let ran = run_statements(rt, alloc, batch, boards, placed, &mut folder, out);
+        let ran = run_statements(rt, alloc, batch, boxes, placed, &mut folder, out);
         return (ran, folder, publisher);
     }
     let Ok(own) = rt.clone() else {
@@ -263,7 +263,7 @@ fn run_base<
         gate,
     };
     let (ran, importer) = run_beside::<Brand, R, F, G, K, C>(
-        rt, alloc, batch, boards, placed, importer, searchers, out,
+        rt, alloc, batch, boxes, placed, importer, searchers, out,
     );
     let ImporterState {
         owned,

@@ -9,7 +9,7 @@ use Rattle.version_publisher.specs.declared.state.VersionState.{VersionState}
 use Rattle.import_work.specs.Batches.{games_told, line_reports}
 use Rattle.import_work.specs.Course.{Finding, ImportCourse, IsImported, games_of_files, losses_of, made_name, trees_in}
 use Rattle.import_work.specs.Imports.{HasGiven, ImportState, IsFolderListed, IsListed, IsListedIn, IsNotThere, IsOpened, Tells, games_reported}
-use Rattle.import_work.specs.Log.{Segment, games_in, segments_of}
+use Rattle.import_work.specs.Log.{Segment, games_of_segments, segments_of}
 use Rattle.import_work.specs.Outcome.{counts_of}
 use Rattle.import_work.specs.declared.outcome.Counts.{Counts}
 use Rattle.import_work.specs.declared.report.ReportBody.{ReportBody}
@@ -20,7 +20,7 @@ use Rattle.import_work.proofs.FoundSegments.{gives_all}
 use Rattle.import_work.proofs.GivenSegments.{adds_up}
 use Rattle.import_work.proofs.Losses.{loses}
 use Rattle.import_work.proofs.RoomLemmas.{length-trees}
-use Rattle.import_work.proofs.SegmentLemmas.{games_in-segments}
+use Rattle.import_work.proofs.SegmentLemmas.{games_of_segments-all}
 use Rattle.session_core.specs.ImportTexts.{told_text}
 use Rattle.serial_run.specs.Run.{serial_rules}
 use Rattle.serial_run.specs.Steps.{LeadsOn}
@@ -49,12 +49,12 @@ few_left (source.Under path) body left h = few_names body left h
 few_left (source.Made games start) body left h = omega (arith, ap length h.1, length-replicate games made_name, h.2)
 
 -- the text of a report is that of what it tells
-pub text_told : (batch : ℕ) → 1 ≤ batch → (line version : ℕ) (body : ReportBody) (finding : Finding) → Tells body finding → games_reported body ≡ length (games_in (segments_of batch finding)) → told_text line body version ≡ report_text line finding version
+pub text_told : (batch : ℕ) → 1 ≤ batch → (line version : ℕ) (body : ReportBody) (finding : Finding) → Tells body finding → games_reported body ≡ length (games_of_segments (segments_of batch finding)) → told_text line body version ≡ report_text line finding version
 text_told batch any line version report.Unlisted finding tells games = ap (λ f. report_text line f version) (sym tells)
 text_told batch any line version (report.TooMany listed) finding tells games = ap (λ f. report_text line f version) (sym tells)
 text_told batch any line version (report.Files lines) finding tells games =
     let files = tells.0 in
-    let count : games_told (line_reports lines) ≡ length (games_of_files files) = games ∙ ap (λ f. length (games_in (segments_of batch f))) tells.1 ∙ ap length (games_in-segments batch any files) in
+    let count : games_told (line_reports lines) ≡ length (games_of_files files) = games ∙ ap (λ f. length (games_of_segments (segments_of batch f))) tells.1 ∙ ap length (games_of_segments-all batch any files) in
     ap (λ n. listed_text line (line_reports lines) n version) count
     ∙ ap (λ rs. listed_text line rs (length (games_of_files files)) version) tells.2
     ∙ ap (λ f. report_text line f version) (sym tells.1)
@@ -85,14 +85,14 @@ module _ (told : Option (List File)) (batch : ℕ) (any : 1 ≤ batch) (from : S
   line_is : now.line ≡ line
   line_is = (adds_up told batch start first now taken.segments last any taken.given).line ∙ ap (λ i. i.line) opened
 
-  games_are : games_reported now.body ≡ length (games_in taken.segments)
+  games_are : games_reported now.body ≡ length (games_of_segments taken.segments)
   games_are = omega (arith, (adds_up told batch start first now taken.segments last any taken.given).told, no_games from start.body start.left listed)
 
   -- the report tells few games
   pub few_told : now.counts ≡ counts_of (trees_in (items_in version.parts)) → HasFewGames now.counts → games_reported now.body ≤ 400000
   few_told counted few =
       let all : now.counts.games ≡ length (items_in version.parts) = ap (λ (c : Counts). c.games) counted ∙ length-trees (items_in version.parts) in
-      let parts : length (items_in version.parts) ≡ length (items_in at_first.parts) + length (games_in taken.segments) = ap length (games_pushed at_first version taken.segments taken.pushed) ∙ length-append (items_in at_first.parts) (games_in taken.segments) in
+      let parts : length (items_in version.parts) ≡ length (items_in at_first.parts) + length (games_of_segments taken.segments) = ap length (games_pushed at_first version taken.segments taken.pushed) ∙ length-append (items_in at_first.parts) (games_of_segments taken.segments) in
       omega (arith, games_are, all, parts, few)
 
   -- few segments were taken
@@ -116,7 +116,7 @@ module _ (told : Option (List File)) (batch : ℕ) (any : 1 ≤ batch) (from : S
         text_is =
             ap (λ l. told_text l now.body (now.number + now.given)) line_is
             ∙ ap (λ n. told_text line now.body n) version_is
-            ∙ text_told batch any line (number + length taken.segments) now.body finds.finding whole.tells (games_are ∙ ap (λ (ss : List Segment). length (games_in ss)) whole.segments_are);
+            ∙ text_told batch any line (number + length taken.segments) now.body finds.finding whole.tells (games_are ∙ ap (λ (ss : List Segment). length (games_of_segments ss)) whole.segments_are);
         paid = loses files start faults first last finds (λ is. subst (λ p. Rose faults first ⊎ IsNotThere files p) (sym from_is) (cause_there files earlier here faults (cause is))) later after;
       }
     where
@@ -138,6 +138,6 @@ module _ (told : Option (List File)) (batch : ℕ) (any : 1 ≤ batch) (from : S
       leads-import (serial_rules batch) files (record { version = at_first.number; games = items_in at_first.parts; waiting = waiting }) line from text faults last r.entry r.finding (items_in version.parts) written version.number
       (subst (λ c. IsImported files from c r.entry r.finding) counted r.imported)
       (taken.pushed.number ∙ ap (λ (ss : List Segment). at_first.number + length ss) r.segments_are)
-      (games_pushed at_first version segments taken.pushed ∙ ap (λ ss. items_in at_first.parts ++ games_in ss) r.segments_are)
+      (games_pushed at_first version segments taken.pushed ∙ ap (λ ss. items_in at_first.parts ++ games_of_segments ss) r.segments_are)
       (written_is ∙ r.text_is ∙ ap (report_text line r.finding) more)
       r.paid

@@ -16,7 +16,7 @@ use Rattle.session_core.specs.SessionState.{SessionState, new_session}
 use Rattle.serial_run.specs.Run.{WritesLawful, WritesPrefix, serial_rules}
 use Rattle.serial_run.specs.Script.{IsScript}
 use Rattle.serial_run.specs.Serial.{PrintsAll}
-use Rattle.serial_run.specs.Steps.{HasRun, IsKept, IsTextByKept, Kept, PassesStatement, StopsInStatement, kept_report, nothing_kept}
+use Rattle.serial_run.specs.Steps.{HasRun, IsKeptOfState, IsTextByKept, Kept, PassesStatement, StopsInStatement, kept_report, nothing_kept}
 use Rattle.import_work.proofs.FileLemmas.{RoseBy-then, rose_by_none}
 use Rattle.import_work.proofs.Losses.{losses_of-append}
 use Rattle.serial_run.proofs.StatementLemmas.{text-told, waiting_is}
@@ -79,7 +79,7 @@ WritesPrefix-stopped rules files start session placed passed left kept before mo
     }
 
 -- what is written in a statement is a prefix of what comes next
-pub next_prefix : (rules : Rules) (files : List File) (s : State) (kept : Kept) (session : SessionState) (p : Placed) (left : List Placed) (more : List ℕ) → IsKept s kept session
+pub next_prefix : (rules : Rules) (files : List File) (s : State) (kept : Kept) (session : SessionState) (p : Placed) (left : List Placed) (more : List ℕ) → IsKeptOfState s kept session
     → (more ≡ []) ⊎ ((text : List ℕ) × (told : SessionState) × IsTextByKept rules kept session p.line p.statement text told × IsPrefix more text) → IsNextPrefix files rules s (p ∷ left) more
 next_prefix rules files s kept session p left more is (inl none) = inl none
 next_prefix rules files s kept session p left more is (inr (text, told, of, prefix)) = inr (text, text-told files rules s p.line p.statement text told (of files s is), prefix)

@@ -21,16 +21,16 @@ use Rattle.session_core.specs.Lawful.{AreSearched, IsNamed, IsPassed, IsStatemen
 use Rattle.session_core.specs.SessionState.{SessionState}
 use Rattle.session_core.specs.Sources.{IsNoImport, statement_of}
 use Rattle.session_core.proofs.StateLemmas.{floor-joined, floor-named, greatest-le, last_named, opens-passed}
-use Rattle.import_work.specs.Log.{games_in, segments_of}
+use Rattle.import_work.specs.Log.{games_of_segments, segments_of}
 use Rattle.import_work.specs.Outcome.{counts_of}
-use Rattle.serial_run.specs.Steps.{AreAnswered, AreAnsweredFrom, IsKept, import_at, IsTextTo, Kept, LeadsOn, LeavesBase, kept_report, view_of}
+use Rattle.serial_run.specs.Steps.{AreAnswered, AreAnsweredFrom, IsKeptOfState, import_at, IsTextTo, Kept, LeadsOn, LeavesBase, kept_report, view_of}
 use Rattle.session_core.specs.ImportTexts.{import_line_text, report_text}
 use Rattle.import_work.proofs.FileLemmas.{rose_by_none}
 
 -- the last version is seen as it is kept
-pub view_kept : (s : State) (kept : Kept) (session : SessionState) → IsKept s kept session → view_at s (last_of s) ≡ view_of kept
+pub view_kept : (s : State) (kept : Kept) (session : SessionState) → IsKeptOfState s kept session → view_at s (last_of s) ≡ view_of kept
 view_kept s kept session is =
-    ap (λ (gs : List Game). record { version = last_of s; games = gs }) (ap games_in (take_all (last_of s) s.log (omega arith)) ∙ sym is.games)
+    ap (λ (gs : List Game). record { version = last_of s; games = gs }) (ap games_of_segments (take_all (last_of s) s.log (omega arith)) ∙ sym is.games)
     ∙ ap (λ (n : ℕ). record { version = n; games = kept.games }) (sym is.version)
 
 -- ---- the searches of a block
@@ -84,7 +84,7 @@ last-alike rules s view named is [] = tt
 last-alike rules s view named is (p ∷ ps) = (named, is, last-alike rules s view named is ps)
 
 -- the report that waits is that which is kept
-pub waiting_is : (s : State) (kept : Kept) (session : SessionState) → IsKept s kept session → kept_report kept ≡ waiting_text s
+pub waiting_is : (s : State) (kept : Kept) (session : SessionState) → IsKeptOfState s kept session → kept_report kept ≡ waiting_text s
 waiting_is s kept session is = ap (λ (w : Option (List ℕ)). option_map_or (λ report. report) w []) is.waiting
 
 -- a text with which the session tell something is a text
@@ -103,7 +103,7 @@ text-told files rules s line (statement.Game number) text told of = (of.0, of.1,
 text-told files rules s line statement.Report text told of = (of.0, of.1, of.2)
 text-told files rules s line (statement.Retire name) text told of = (of.0, of.1, of.2)
 
-module _ (rules : Rules) (files : List File) (s : State) (kept : Kept) (session told : SessionState) (is : IsKept s kept session) (line : ℕ) (text : List ℕ) where
+module _ (rules : Rules) (files : List File) (s : State) (kept : Kept) (session told : SessionState) (is : IsKeptOfState s kept session) (line : ℕ) (text : List ℕ) where
   -- ---- the text of a statement
 
   pub text-import : (from : Source) → text ≡ kept_report kept ++ import_line_text line from → told ≡ session → IsTextTo files rules s line (statement_of from) text told
@@ -171,14 +171,14 @@ leaves-base (statement.Retire name) no_import no_wait = tt
 module _ (rules : Rules) (files : List File) (kept : Kept) (line : ℕ) (text : List ℕ) (before now : ℕ) (later : before ≤ now) where
   -- no import was made, and the same is kept, whatever the session tell
   abbrev IsLed : State → List ImportCourse → State → Type 0
-  IsLed s used next = ◌≡◌ {A = List ImportCourse} used [] × IsKept next kept next.session
+  IsLed s used next = ◌≡◌ {A = List ImportCourse} used [] × IsKeptOfState next kept next.session
 
-  named : (s next : State) (n : ℕ) (session after : SessionState) → IsKept s kept session → n ≤ last_of s → next ≡ with_session (with_floor s n) after → IsKept next kept next.session
+  named : (s next : State) (n : ℕ) (session after : SessionState) → IsKeptOfState s kept session → n ≤ last_of s → next ≡ with_session (with_floor s n) after → IsKeptOfState next kept next.session
   named s next n session after is to same =
-      subst (λ (t : State). IsKept t kept t.session) (sym same)
+      subst (λ (t : State). IsKeptOfState t kept t.session) (sym same)
       (record { version = is.version; games = is.games; waiting = is.waiting; floor = floor-named s n is.floor to; session_is = refl })
 
-  led : (s next : State) (session : SessionState) (used : List ImportCourse) → IsKept s kept session → (own : Statement) → LeavesBase own → IsPassed files rules s line own used text next → IsLed s used next
+  led : (s next : State) (session : SessionState) (used : List ImportCourse) → IsKeptOfState s kept session → (own : Statement) → LeavesBase own → IsPassed files rules s line own used text next → IsLed s used next
   led s next session used is (statement.Import path) still of = absurd still
   led s next session used is (statement.Make games start) still of = absurd still
   led s next session used is statement.Wait still of = absurd still
@@ -191,16 +191,16 @@ module _ (rules : Rules) (files : List File) (kept : Kept) (line : ℕ) (text : 
   led s next session used is statement.Doubles still of = (of.4, named s next of.0 session of.1 is of.2.to of.5)
   led s next session used is (statement.Game number) still of = (of.4, named s next of.0 session of.1 is of.2.to of.5)
   led s next session used is statement.Report still of =
-      (of.1, subst (λ (t : State). IsKept t kept t.session) (sym of.2) (record { version = is.version; games = is.games; waiting = is.waiting; floor = is.floor; session_is = refl }))
+      (of.1, subst (λ (t : State). IsKeptOfState t kept t.session) (sym of.2) (record { version = is.version; games = is.games; waiting = is.waiting; floor = is.floor; session_is = refl }))
   led s next session used is (statement.Retire name) still of =
-      (of.2, subst (λ (t : State). IsKept t kept t.session) (sym of.3) (record { version = is.version; games = is.games; waiting = is.waiting; floor = is.floor; session_is = refl }))
+      (of.2, subst (λ (t : State). IsKeptOfState t kept t.session) (sym of.3) (record { version = is.version; games = is.games; waiting = is.waiting; floor = is.floor; session_is = refl }))
 
   -- so it leads on
-  led_on : (own : Statement) (s : State) (session told : SessionState) → LeavesBase own → IsKept s kept session → (used : List ImportCourse) (next : State) → IsPassed files rules s line own used text next → next.session ≡ told →
-      (used : List ImportCourse) × (next : State) × IsKept next kept told × IsPassed files rules s line own used text next × RoseBy (losses_of used) before now
+  led_on : (own : Statement) (s : State) (session told : SessionState) → LeavesBase own → IsKeptOfState s kept session → (used : List ImportCourse) (next : State) → IsPassed files rules s line own used text next → next.session ≡ told →
+      (used : List ImportCourse) × (next : State) × IsKeptOfState next kept told × IsPassed files rules s line own used text next × RoseBy (losses_of used) before now
   led_on own s session told still is used next of tells =
       let on = led s next session used is own still of in
-      (used, next, subst (IsKept next kept) tells on.1, of, subst (λ (u : List ImportCourse). RoseBy (losses_of u) before now) (sym on.0) (rose_by_none before now later))
+      (used, next, subst (IsKeptOfState next kept) tells on.1, of, subst (λ (u : List ImportCourse). RoseBy (losses_of u) before now) (sym on.0) (rose_by_none before now later))
 
   pub leads-still : (own : Statement) → LeavesBase own → LeadsOn files rules kept line own text kept before now
   leads-still (statement.Import path) still = absurd still
@@ -239,7 +239,7 @@ placed_as p from is = λ i. record { line = p.line; statement = (sym is) i }
 
 -- an import that found this leads on to what is kept with its games and its report
 pub leads-import : (rules : Rules) (files : List File) (kept : Kept) (line : ℕ) (from : Source) (text : List ℕ) (before now : ℕ) (entry : ImportCourse) (finding : Finding) (games : List Game) (report : List ℕ) (version : ℕ) →
-    IsImported files from (counts_of (trees_in kept.games)) entry finding → version ≡ kept.version + length (segments_of rules.batch finding) → games ≡ kept.games ++ games_in (segments_of rules.batch finding) → report ≡ report_text line finding version →
+    IsImported files from (counts_of (trees_in kept.games)) entry finding → version ≡ kept.version + length (segments_of rules.batch finding) → games ≡ kept.games ++ games_of_segments (segments_of rules.batch finding) → report ≡ report_text line finding version →
     RoseBy (losses_of (entry ∷ [])) before now →
     LeadsOn files rules kept line (statement_of from) text (record { version = version; games = games; waiting = Some report }) before now
 leads-import rules files kept line from text before now entry finding games report version found version_is games_are report_is paid = λ session told s is of.
@@ -249,7 +249,7 @@ leads-import rules files kept line from text before now entry finding games repo
       after_import rules s line finding,
       record {
         version = counted;
-        games = games_are ∙ ap (λ gs. gs ++ games_in (segments_of rules.batch finding)) is.games ∙ sym (flat_map-append (λ (g : List Game). g) s.log (segments_of rules.batch finding));
+        games = games_are ∙ ap (λ gs. gs ++ games_of_segments (segments_of rules.batch finding)) is.games ∙ sym (flat_map-append (λ (g : List Game). g) s.log (segments_of rules.batch finding));
         waiting = ap (λ r. Some r) (report_is ∙ ap (λ n. report_text line finding n) counted);
         floor = rw length-append (omega (arith, floor-joined s.waiting s.floor (last_of s) is.floor));
         session_is = sym own.1;

@@ -20,7 +20,7 @@ use Rattle.import_work.specs.declared.source.Source.{Source}
 use Rattle.import_work.specs.declared.source.Source.TheVariants as source
 use Rattle.session_core.specs.Lawful.{HasPrinted, IsPassed, Rules, State, last_of, waiting_text}
 use Rattle.session_core.specs.ImportTexts.{import_line_text}
-use Rattle.import_work.specs.Log.{games_in}
+use Rattle.import_work.specs.Log.{games_of_segments}
 
 -- what the code keeps of a state: the number and the games of the last version, and the report that
 -- waits
@@ -42,9 +42,9 @@ kept_at version waiting = record {
 }
 
 -- this is kept of the state, and its statements left this
-pub record IsKept (s : State) (kept : Kept) (session : SessionState) : Type 0 where
+pub record IsKeptOfState (s : State) (kept : Kept) (session : SessionState) : Type 0 where
   pub version : kept.version ≡ last_of s
-  pub games : kept.games ≡ games_in s.log
+  pub games : kept.games ≡ games_of_segments s.log
   pub waiting : kept.waiting ≡ s.waiting
   pub floor : s.floor ≤ last_of s
   pub session_is : s.session ≡ session
@@ -96,16 +96,16 @@ IsTextTo files rules s line other text after =
 abbrev pub IsTextByKept : Rules → Kept → SessionState → ℕ → Statement → List ℕ →
     SessionState → Type 0
 IsTextByKept rules kept session line own text after =
-    (files : List File) (s : State) → IsKept s kept session →
+    (files : List File) (s : State) → IsKeptOfState s kept session →
     IsTextTo files rules s line own text after
 
 -- The statement was passed with this text: from each state of which one was kept it leads to one of
 -- which the other is, by a course whose losses are at most the rise of the folder's count.
 abbrev pub LeadsOn : List File → Rules → Kept → ℕ → Statement → List ℕ → Kept → ℕ → ℕ → Type 0
 LeadsOn files rules kept line own text after faults_before faults_now =
-    (session left : SessionState) (s : State) → IsKept s kept session →
+    (session left : SessionState) (s : State) → IsKeptOfState s kept session →
     IsTextTo files rules s line own text left →
-    (used : List ImportCourse) × (next : State) × IsKept next after left
+    (used : List ImportCourse) × (next : State) × IsKeptOfState next after left
     × IsPassed files rules s line own used text next
     × RoseBy (losses_of used) faults_before faults_now
 
@@ -148,7 +148,7 @@ pub record HasRun (rules : Rules) (files : List File) (start : List BoxTally)
     (placed : List Placed) (kept : Kept) (session : SessionState) (before : List ℕ)
     (written : Option (List ℕ)) (faults_before faults_now : ℕ) : Type 0 where
   pub state : State
-  pub is_kept : IsKept state kept session
+  pub is_kept : IsKeptOfState state kept session
   pub course : List ImportCourse
   pub text : List ℕ
   pub printed : HasPrinted files rules start course placed state text

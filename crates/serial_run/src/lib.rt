@@ -4,7 +4,7 @@
 //! Stands on session_core, hit_collectors, import_segments, import_work, search_engine, query_script,
 //! segment_store, version_publisher, node_position, sgf_reader, kb_edges, kb_geometry and the library
 //! bstr. In `specs/` are the script that is too long, and one statement of a run by what is kept of
-//! it; the lawful outputs are words of session_core. The layer above uses that [`run_serial`] writes
+//! it; session_core defines lawful outputs. The layer above uses that [`run_serial`] writes
 //! a lawful output where it is done and a prefix of one where it stops, and that [`RunState`] tells
 //! the text of a statement, and leads from one statement to the next.
 #![tactic(auto)]

@@ -22,6 +22,8 @@ ghost use Rattle.serial_run.specs.declared.read.ReadScriptError.TheVariants.{NoM
 use kb_edges::{ReadFailed, Source};
 use query_script::MAX_SCRIPT;
 use std::alloc::{AllocError, Global};
+use std::error::Error;
+use std::fmt;
 
 // Why a script was not read.
 #[derive(Clone, Copy, Debug, PartialEq, Eq)]
@@ -31,6 +33,17 @@ pub(crate) enum ReadScriptError {
     /// Want of memory.
     NoMemory,
 }
+
+impl fmt::Display for ReadScriptError {
+    fn fmt<W: fmt::Write>(&self, f: &mut fmt::Formatter<W>) -> fmt::Result {
+        f.write_str(match self {
+            ReadScriptError::Unread => "a read failed",
+            ReadScriptError::NoMemory => "out of memory",
+        })
+    }
+}
+
+impl Error for ReadScriptError {}
 
 impl From<ReadFailed> for ReadScriptError {
     ghost from_gives = { λ _ e. e ≡ Unread };

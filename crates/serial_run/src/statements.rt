@@ -70,7 +70,7 @@ pub fn run_statements<R: Threads + Sync, F: Folder, K: Sink, C: Collector>(
     rt: &R,
     alloc: Global,
     batch: u32,
-    boards: Vec<C>,
+    boxes: Vec<C>,
     placed: &[Placed],
     folder: &mut F,
     out: &mut K,
@@ -79,11 +79,11 @@ pub fn run_statements<R: Threads + Sync, F: Folder, K: Sink, C: Collector>(
     requires few { length placed.now ≤ 1048576 }
     ensures lawful { IfTold (F.files folder.old)
         (λ files. IfTold (K.written out.old) (λ before. OnOk result
-        (WritesLawful (serial_rules batch) files (map (λ board. C.tally board) boards.items)
+        (WritesLawful (serial_rules batch) files (map (λ b. C.tally b) boxes.items)
         placed.now before (K.written out.new) (F.faults folder.old) (F.faults folder.new)))) }
     ensures prefix { IfTold (F.files folder.old)
         (λ files. IfTold (K.written out.old) (λ before. OnErr result
-        (WritesPrefix (serial_rules batch) files (map (λ board. C.tally board) boards.items)
+        (WritesPrefix (serial_rules batch) files (map (λ b. C.tally b) boxes.items)
         placed.now before (K.written out.new) (F.faults folder.old) (F.faults folder.new)))) }
     ensures sink_fault { IsErrOf result Stopped.SinkFault →
         Rose (K.faults out.old) (K.faults out.new) }
@@ -91,7 +91,7 @@ pub fn run_statements<R: Threads + Sync, F: Folder, K: Sink, C: Collector>(
     ensures later { F.faults folder.old ≤ F.faults folder.new }
     ensures sink_later { K.faults out.old ≤ K.faults out.new }
 {
-    let mut session = Session::new(boards);
+    let mut session = Session::new(boxes);
     let mut state = RunState::new(alloc);
     for statement in placed {
         state = run_statement(

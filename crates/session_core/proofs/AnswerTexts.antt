@@ -53,14 +53,14 @@ pub IsRetiredBy-retired : (line : ℕ) (name : List ℕ) (boxes after : List Box
 IsRetiredBy-retired line name boxes after old new gone printed = (retire_text line name, IsRetiredBy.retired after gone, printed)
 
 -- none was, and that was told, in place of what stood behind the old text
-pub IsRetiredBy-none : {A T E : Type 0} (result : Result T E) (told : A → BoxTally) (line : ℕ) (name : List ℕ) (boards after : List A) (old more between new : List ℕ) (count : ℕ)
-    → All (λ (board : A). (told board).name ≢ name) boards → after ≡ boards → count ≡ length old → between ≡ take count (old ++ more) → OnOk result (new ≡ between ++ no_retire_text line name)
-    → OnOk result ((text : List ℕ) × IsRetiredBy line name (new_session (map told boards)) text (new_session (map told after)) × (new ≡ old ++ text))
-IsRetiredBy-none (Err e) told line name boards after old more between new count none same counted cut printed = tt
-IsRetiredBy-none (Ok x) told line name boards after old more between new count none same counted cut printed =
-    let all = All-map (λ (box : BoxTally). box.name ≢ name) told boards none in (
+pub IsRetiredBy-none : {A T E : Type 0} (result : Result T E) (told : A → BoxTally) (line : ℕ) (name : List ℕ) (boxes after : List A) (old more between new : List ℕ) (count : ℕ)
+    → All (λ (box : A). (told box).name ≢ name) boxes → after ≡ boxes → count ≡ length old → between ≡ take count (old ++ more) → OnOk result (new ≡ between ++ no_retire_text line name)
+    → OnOk result ((text : List ℕ) × IsRetiredBy line name (new_session (map told boxes)) text (new_session (map told after)) × (new ≡ old ++ text))
+IsRetiredBy-none (Err e) told line name boxes after old more between new count none same counted cut printed = tt
+IsRetiredBy-none (Ok x) told line name boxes after old more between new count none same counted cut printed =
+    let all = All-map (λ (box : BoxTally). box.name ≢ name) told boxes none in (
       no_retire_text line name,
-      subst (λ boxes. IsRetiredBy line name (new_session (map told boards)) (no_retire_text line name) (new_session boxes)) (ap (map told) (sym same)) (IsRetiredBy.none all),
+      subst (λ boxes. IsRetiredBy line name (new_session (map told boxes)) (no_retire_text line name) (new_session boxes)) (ap (map told) (sym same)) (IsRetiredBy.none all),
       printed ∙ ap (λ text. text ++ no_retire_text line name) (cut ∙ ap (λ n. take n (old ++ more)) counted ∙ take-append_seam old more),
     )
 

@@ -14,7 +14,7 @@ use Rattle.dyer_signature.proofs.SoFar.{signature-on_board}
 use Rattle.node_position.specs.Games.{Game}
 use Rattle.query_script.specs.Texts.{found_game_text}
 use Rattle.segment_store.specs.Finished.{IsCanonicalOf}
-use Rattle.session_core.specs.Listing.{AreFormsOf, form_at, found_at, found_text, games_of}
+use Rattle.session_core.specs.Listing.{AreFormsOf, form_at, found_at, found_text, borrowed_games}
 use Rattle.session_core.specs.Signed.{AreGamesFound, FoundGame, HasSignature}
 
 -- the relation of two lists holds at each place
@@ -25,7 +25,7 @@ zipped_at R (a ∷ xs) (b ∷ ys) zero x y all below = all.0
 zipped_at R (a ∷ xs) (b ∷ ys) (suc n) x y all below = zipped_at R xs ys n x y all.1 (omega (arith, below))
 
 -- there are not more than a version may have
-pub few_games : (slice games : List (Bor Game)) (all : List Game) (count : ℕ) → slice ≡ games → games_of games ≡ all → count ≡ length all → count ≤ 400000 → length slice ≤ 400000
+pub few_games : (slice games : List (Bor Game)) (all : List Game) (count : ℕ) → slice ≡ games → borrowed_games games ≡ all → count ≡ length all → count ≤ 400000 → length slice ≤ 400000
 few_games slice games all count same are counted most = omega (arith, ap length same, length-map games (λ (g : Bor Game). g.now), ap length are, counted, most)
 
 -- the canonical form that is kept of a game
@@ -48,15 +48,15 @@ module _ (games : List (Bor Game)) (forms : List Signature) (n : ℕ) (game : Bo
   form-of = subst (λ (g : Bor Game). IsCanonicalOf g.now.tree form.bytes) (sym at) (zipped_at (λ (g : Bor Game) (s : Signature). IsCanonicalOf g.now.tree s.bytes) games forms n game d are below)
 
   -- the first games with the next one
-  games-next : games_of (take (n + 1) games) ≡ games_of (take n games) ++ game.now ∷ []
+  games-next : borrowed_games (take (n + 1) games) ≡ borrowed_games (take n games) ++ game.now ∷ []
   games-next =
-      ap games_of (take_more games n game below ∙ ap (λ (g : Bor Game). take n games ++ g ∷ []) (sym at))
+      ap borrowed_games (take_more games n game below ∙ ap (λ (g : Bor Game). take n games ++ g ∷ []) (sym at))
       ∙ map-append (λ (g : Bor Game). g.now) (take n games) (game ∷ [])
 
-  length-before : length (games_of (take n games)) ≡ n
+  length-before : length (borrowed_games (take n games)) ≡ n
   length-before = length-map (take n games) (λ (g : Bor Game). g.now) ∙ length-take-le n games (omega (arith, below))
 
-  found-is : record { game = length (games_of (take n games)); form = form.bytes } ≡ found_at forms n
+  found-is : record { game = length (borrowed_games (take n games)); form = form.bytes } ≡ found_at forms n
   found-is = let same = sym (form-is forms n d within) in λ i. record { game = length-before i; form = same i }
 
   module _ (tree : IsTree game.now.tree) (pattern : List ℕ) where
@@ -69,21 +69,21 @@ module _ (games : List (Bor Game)) (forms : List Signature) (n : ℕ) (game : Bo
         matches-image game.now.tree.shape form-of.signature form.bytes pattern
         (signature-on_board game.now.tree tree form-of.signature form-of.of_tree) form-of.canonical.is_image
 
-    pub found-more : (found new : List ℕ) → AreGamesFound pattern (games_of (take n games)) (map (found_at forms) found) → Matches game.now.tree.shape form.bytes pattern → new ≡ found ++ n ∷ []
-        → AreGamesFound pattern (games_of (take (n + 1) games)) (map (found_at forms) new)
+    pub found-more : (found new : List ℕ) → AreGamesFound pattern (borrowed_games (take n games)) (map (found_at forms) found) → Matches game.now.tree.shape form.bytes pattern → new ≡ found ++ n ∷ []
+        → AreGamesFound pattern (borrowed_games (take (n + 1) games)) (map (found_at forms) new)
     found-more found new so_far matches pushed =
         let one_more = AreGamesFound.found game.now form-of.signature form.bytes so_far signed (same_matches.0 matches) in
         let list : map (found_at forms) new ≡ map (found_at forms) found ++ found_at forms n ∷ [] = ap (map (found_at forms)) pushed ∙ map-append (found_at forms) found (n ∷ []) in
-        let told = subst (λ (f : FoundGame). AreGamesFound pattern (games_of (take n games) ++ game.now ∷ []) (map (found_at forms) found ++ f ∷ [])) found-is one_more in
+        let told = subst (λ (f : FoundGame). AreGamesFound pattern (borrowed_games (take n games) ++ game.now ∷ []) (map (found_at forms) found ++ f ∷ [])) found-is one_more in
         subst (λ gs. AreGamesFound pattern gs (map (found_at forms) new)) (sym games-next)
-        (subst (λ fs. AreGamesFound pattern (games_of (take n games) ++ game.now ∷ []) fs) (sym list) told)
+        (subst (λ fs. AreGamesFound pattern (borrowed_games (take n games) ++ game.now ∷ []) fs) (sym list) told)
 
-    pub found-left_out : (found new : List ℕ) → AreGamesFound pattern (games_of (take n games)) (map (found_at forms) found) → ¬ Matches game.now.tree.shape form.bytes pattern → new ≡ found
-        → AreGamesFound pattern (games_of (take (n + 1) games)) (map (found_at forms) new)
+    pub found-left_out : (found new : List ℕ) → AreGamesFound pattern (borrowed_games (take n games)) (map (found_at forms) found) → ¬ Matches game.now.tree.shape form.bytes pattern → new ≡ found
+        → AreGamesFound pattern (borrowed_games (take (n + 1) games)) (map (found_at forms) new)
     found-left_out found new so_far differs same =
         let left_out = AreGamesFound.left_out game.now form-of.signature form.bytes so_far signed (λ matches. differs (same_matches.1 matches)) in
         subst (λ gs. AreGamesFound pattern gs (map (found_at forms) new)) (sym games-next)
-        (subst (λ (ns : List ℕ). AreGamesFound pattern (games_of (take n games) ++ game.now ∷ []) (map (found_at forms) ns)) (sym same) left_out)
+        (subst (λ (ns : List ℕ). AreGamesFound pattern (borrowed_games (take n games) ++ game.now ∷ []) (map (found_at forms) ns)) (sym same) left_out)
 
 -- one line more
 pub line-more : (forms : List Signature) (found : List ℕ) (k : ℕ) (d : Signature) (old out new : List ℕ) → k < length found → get_or found k 0 < length forms

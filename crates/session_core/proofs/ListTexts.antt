@@ -14,16 +14,16 @@ use Rattle.query_script.specs.Texts.{double_text, doubles_head, found_game_text,
 use Rattle.session_core.specs.Answers.{IsDoublesText, IsPlayersText, IsSignatureText, View}
 use Rattle.session_core.specs.Doubles.{AreKeysOf, DoubleKey, Group, IsKeyOf, groups_of}
 use Rattle.session_core.specs.Grouping.{key_with, keys_with}
-use Rattle.session_core.specs.Listing.{AreFormsOf, found_at, found_text, games_of, infos_of}
+use Rattle.session_core.specs.Listing.{AreFormsOf, found_at, found_text, borrowed_games, infos_of}
 use Rattle.session_core.specs.Signed.{AreGamesFound, FoundGame}
 
-infos-same : (games : List (Bor Game)) → infos_of games ≡ map (λ (g : Game). g.tree.info) (games_of games)
+infos-same : (games : List (Bor Game)) → infos_of games ≡ map (λ (g : Game). g.tree.info) (borrowed_games games)
 infos-same [] = refl
 infos-same (g ∷ gs) = ap (λ (rest : List Information). g.now.tree.info ∷ rest) (infos-same gs)
 
 -- the text of the players was appended
 pub IsPlayersText-printed : {T E : Type 0} (result : Result T E) (line : ℕ) (view : View) (version count : ℕ) (games : List (Bor Game)) (rows : List TableRow) (old new : List ℕ)
-    → version ≡ view.version → count ≡ length view.games → games_of games ≡ view.games → IsPlayersTable (infos_of games) rows → OnOk result (new ≡ old ++ players_text line version count rows)
+    → version ≡ view.version → count ≡ length view.games → borrowed_games games ≡ view.games → IsPlayersTable (infos_of games) rows → OnOk result (new ≡ old ++ players_text line version count rows)
     → OnOk result ((text : List ℕ) × IsPlayersText line view text × (new ≡ old ++ text))
 IsPlayersText-printed result line view version count games rows old new own counted all table printed =
     OnOk-map result _ _ (λ same. (
@@ -38,14 +38,14 @@ IsPlayersText-printed result line view version count games rows old new own coun
 
 -- ---- the groups of double games
 
-length-keys : (games : List (Bor Game)) (forms : List Signature) → AreFormsOf games forms → length (keys_with games forms) ≡ length (games_of games)
+length-keys : (games : List (Bor Game)) (forms : List Signature) → AreFormsOf games forms → length (keys_with games forms) ≡ length (borrowed_games games)
 length-keys [] [] are = refl
 length-keys [] (s ∷ ss) are = absurd are
 length-keys (g ∷ gs) [] are = absurd are
 length-keys (g ∷ gs) (s ∷ ss) are = ap suc (length-keys gs ss are.1)
 
 -- the keys are those of the games
-kept_key : (games : List (Bor Game)) (forms : List Signature) → AreFormsOf games forms → (k : ℕ) (game : Game) (key : DoubleKey) → slice_get (games_of games) k ≡ Some game → slice_get (keys_with games forms) k ≡ Some key → IsKeyOf game key
+kept_key : (games : List (Bor Game)) (forms : List Signature) → AreFormsOf games forms → (k : ℕ) (game : Game) (key : DoubleKey) → slice_get (borrowed_games games) k ≡ Some game → slice_get (keys_with games forms) k ≡ Some key → IsKeyOf game key
 kept_key [] forms are k game key at is = absurd cc
 kept_key (g ∷ gs) [] are k game key at is = absurd are
 kept_key (g ∷ gs) (s ∷ ss) are zero game key at is =
@@ -56,10 +56,10 @@ kept_key (g ∷ gs) (s ∷ ss) are zero game key at is =
     subst (λ (x : Game). IsKeyOf x key) same (subst (λ (k : DoubleKey). IsKeyOf g.now k) one here)
 kept_key (g ∷ gs) (s ∷ ss) are (suc k) game key at is = kept_key gs ss are.1 k game key at is
 
-AreKeysOf-kept : (games : List (Bor Game)) (forms : List Signature) → AreFormsOf games forms → AreKeysOf (games_of games) (keys_with games forms)
+AreKeysOf-kept : (games : List (Bor Game)) (forms : List Signature) → AreFormsOf games forms → AreKeysOf (borrowed_games games) (keys_with games forms)
 AreKeysOf-kept games forms are = record { as_many = length-keys games forms are; each = kept_key games forms are }
 
-pub IsDoublesText-printed : (line : ℕ) (view : View) (version count : ℕ) (games : List (Bor Game)) (forms : List Signature) (old new : List ℕ) → version ≡ view.version → count ≡ length view.games → games_of games ≡ view.games → AreFormsOf games forms
+pub IsDoublesText-printed : (line : ℕ) (view : View) (version count : ℕ) (games : List (Bor Game)) (forms : List Signature) (old new : List ℕ) → version ≡ view.version → count ≡ length view.games → borrowed_games games ≡ view.games → AreFormsOf games forms
     → new ≡ (old ++ doubles_head line version count (length (groups_of (keys_with games forms)))) ++ flat_map (λ (g : Group). double_text g.form g.games) (groups_of (keys_with games forms))
     → (text : List ℕ) × IsDoublesText line view text × (new ≡ old ++ text)
 IsDoublesText-printed line view version count games forms old new own counted all are printed =
@@ -78,7 +78,7 @@ IsDoublesText-printed line view version count games forms old new own counted al
 -- ---- the games found by their signatures
 
 pub IsSignatureText-printed : {T E : Type 0} (result : Result T E) (line : ℕ) (view : View) (version count long : ℕ) (games : List (Bor Game)) (forms : List Signature) (pattern numbers old between new : List ℕ)
-    → version ≡ view.version → count ≡ length view.games → long ≡ length numbers → games_of games ≡ view.games → AreGamesFound pattern (games_of games) (map (found_at forms) numbers)
+    → version ≡ view.version → count ≡ length view.games → long ≡ length numbers → borrowed_games games ≡ view.games → AreGamesFound pattern (borrowed_games games) (map (found_at forms) numbers)
     → between ≡ old ++ signature_head line version count long → OnOk result (new ≡ between ++ flat_map (found_text forms) numbers)
     → OnOk result ((text : List ℕ) × IsSignatureText line view pattern text × (new ≡ old ++ text))
 IsSignatureText-printed result line view version count long games forms pattern numbers old between new own counted as_many all are head_is printed =

@@ -14,7 +14,7 @@ use Rattle.session_core.proofs.OneAnswer.{answer-unique, retired-one, search-one
 use Rattle.import_work.specs.Course.{ImportCourse, IsImported, losses_of, nothing_lost, trees_in}
 use Rattle.session_core.specs.Lawful.{AreSearched, HasPrinted, IsLawful, IsNamed, OpensImport, IsPassed, Rules, State, after_import, last_of, view_at, waiting_text, with_session, with_floor}
 use Rattle.session_core.specs.SessionState.{SessionState}
-use Rattle.import_work.specs.Log.{games_in}
+use Rattle.import_work.specs.Log.{games_of_segments}
 use Rattle.import_work.specs.Outcome.{counts_of}
 use Rattle.import_work.proofs.Losses.{losses_of-append}
 use Rattle.import_work.specs.declared.source.Source.{Source}
@@ -82,10 +82,9 @@ module _ (files : List File) (rules : Rules) (serial : IsTrue rules.serial) (s :
   -- an import is begun in one way
   one-opening : (line : ℕ) (from : Source) (used more : List ImportCourse) (a b : List ℕ) (next after : State) → OpensImport files rules s line from used a next → losses_of used ≡ 0 → OpensImport files rules s line from more b after → losses_of more ≡ 0 → passed_by a next ≡ passed_by b after
   one-opening line from used more a b next after one none other too =
-      let counts = counts_of (trees_in (games_in s.log)) in
-      let found = finding-one files from counts one.1 other.1
-      (subst (λ e. IsImported files from counts e one.1) (no_loss_is one.0 (ap losses_of (sym one.2) ∙ none)) one.3)
-      (subst (λ e. IsImported files from counts e other.1) (no_loss_is other.0 (ap losses_of (sym other.2) ∙ too)) other.3) in
+      let counts = counts_of (trees_in (games_of_segments s.log)) in
+      let entry : one.0 ≡ other.0 = no_loss_is one.0 (ap losses_of (sym one.2) ∙ none) ∙ sym (no_loss_is other.0 (ap losses_of (sym other.2) ∙ too)) in
+      let found = finding-one files from counts other.0 one.1 other.1 (subst (λ e. IsImported files from counts e one.1) entry one.3) other.3 in
       let text = one.4 ∙ sym other.4 in
       let state = one.5 ∙ ap (after_import rules s line) found ∙ sym other.5 in
       λ i. passed_by (text i) (state i)

@@ -21,14 +21,14 @@ use Rattle.session_core.proofs.OneAnswer.{answer-found, retired-found, search-fo
 use Rattle.import_work.specs.Course.{Finding, ImportCourse, IsImported, losses_of, nothing_lost, trees_in}
 use Rattle.session_core.specs.Lawful.{AreSearched, HasPrinted, IsBegun, IsLawful, IsNamed, IsNextPrefix, IsPassed, IsStatementText, Rules, State, after_import, at_start, report_printed, last_of, view_at, waiting_text, with_session, with_floor}
 use Rattle.session_core.specs.SessionState.{SessionState}
-use Rattle.import_work.specs.Log.{Segment, games_at, games_in, segments_of}
+use Rattle.import_work.specs.Log.{Segment, games_at, games_of_segments, segments_of}
 use Rattle.import_work.specs.Outcome.{counts_of}
 use Rattle.import_work.specs.declared.source.Source.{Source}
 use Rattle.import_work.specs.declared.source.Source.TheVariants as source
 use Rattle.session_core.specs.Sources.{statement_of}
 use Rattle.session_core.specs.ImportTexts.{import_line_text}
 use Rattle.import_work.proofs.Losses.{losses_of-append}
-use Rattle.import_work.proofs.ImportsExist.{HasTree, import-found, imported-trees}
+use Rattle.import_work.proofs.ImportsExist.{HasTree, imported-trees, lossless-found}
 use Rattle.session_core.proofs.StateLemmas.{floor-joined, floor-named, greatest-le, last_named, log_grows, opens-passed}
 
 -- ---- prefixes
@@ -42,13 +42,13 @@ prefix_behind text more whole p = (p.0, append_assoc text more p.0 ∙ ap (λ t.
 -- log are trees.
 pub record IsReached (s : State) : Type 0 where
   pub floor : s.floor ≤ last_of s
-  pub trees : All HasTree (games_in s.log)
+  pub trees : All HasTree (games_of_segments s.log)
 
 -- the games of each version are trees
 pub trees-at : (s : State) → IsReached s → (n : ℕ) → All HasTree (games_at s.log n)
 trees-at s h n =
-    All-before HasTree (games_in (take n s.log)) (games_in (drop n s.log))
-    (subst (All HasTree) (ap games_in (sym (take-append-drop n s.log)) ∙ flat_map-append (λ (g : Segment). g) (take n s.log) (drop n s.log)) h.trees)
+    All-before HasTree (games_of_segments (take n s.log)) (games_of_segments (drop n s.log))
+    (subst (All HasTree) (ap games_of_segments (sym (take-append-drop n s.log)) ∙ flat_map-append (λ (g : Segment). g) (take n s.log) (drop n s.log)) h.trees)
 
 module _ (files : List File) (rules : Rules) where
   -- ---- each statement leads to such a state
@@ -59,12 +59,12 @@ module _ (files : List File) (rules : Rules) where
   waited : (s : State) → IsReached s → IsReached (with_floor (report_printed s) (last_of s))
   waited s h = record { floor = max-le (floor-joined s.waiting s.floor (last_of s) h.floor) (omega arith); trees = h.trees }
 
-  imported : (s : State) (line : ℕ) (from : Source) (entry : ImportCourse) (finding : Finding) → IsReached s → IsImported files from (counts_of (trees_in (games_in s.log))) entry finding → IsReached (after_import rules s line finding)
+  imported : (s : State) (line : ℕ) (from : Source) (entry : ImportCourse) (finding : Finding) → IsReached s → IsImported files from (counts_of (trees_in (games_of_segments s.log))) entry finding → IsReached (after_import rules s line finding)
   imported s line from entry finding h is = record {
     floor = rw length-append (omega (arith, floor-joined s.waiting s.floor (last_of s) h.floor));
     trees = subst (All HasTree) (sym (flat_map-append (λ (g : Segment). g) s.log (segments_of rules.batch finding)))
-        (All-append HasTree (games_in s.log) (games_in (segments_of rules.batch finding)) h.trees
-        (imported-trees files from (counts_of (trees_in (games_in s.log))) entry rules.batch finding is));
+        (All-append HasTree (games_of_segments s.log) (games_of_segments (segments_of rules.batch finding)) h.trees
+        (imported-trees files from (counts_of (trees_in (games_of_segments s.log))) entry rules.batch finding is));
   }
 
   pub passed-on : (s next : State) (line : ℕ) (own : Statement) (used : List ImportCourse) (text : List ℕ) → IsReached s → IsPassed files rules s line own used text next → IsReached next
@@ -102,7 +102,7 @@ module _ (files : List File) (rules : Rules) where
 
   import-passes : (s : State) (line : ℕ) (from : Source) (text : List ℕ) → text ≡ waiting_text s ++ import_line_text line from → Passes s line (statement_of from) text
   import-passes s line from text of =
-      let found = import-found files from (counts_of (trees_in (games_in s.log))) in
+      let found = lossless-found files from (counts_of (trees_in (games_of_segments s.log))) in
       let next = after_import rules s line found.0 in
       (nothing_lost ∷ [], next, opens-passed files rules s line from (nothing_lost ∷ []) text next (nothing_lost, found.0, refl, found.1, of, refl), refl)
 

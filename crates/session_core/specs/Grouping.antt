@@ -1,4 +1,4 @@
--- Words of the private functions that group double games.
+-- Definitions of the private functions that group double games.
 use Rattle.std.specs.Prelude.{◌&&◌, ◌++◌, ℕ, Bool, true, false, List, [], ◌∷◌, map, zip, if◌then◌else◌}
 use Rattle.std.specs.Borrow.{Bor}
 use Rattle.std.specs.List.{flat_map}

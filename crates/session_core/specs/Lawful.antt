@@ -13,7 +13,7 @@ use Rattle.hit_collectors.specs.Tallies.{BoxTally}
 use Rattle.session_core.specs.Answers.{IsAnswer, IsRetiredBy, IsSearched, View, boxes_text}
 use Rattle.session_core.specs.SessionState.{SessionState, new_session}
 use Rattle.import_work.specs.Course.{Finding, ImportCourse, IsImported, trees_in}
-use Rattle.import_work.specs.Log.{Segment, games_at, games_in, segments_of}
+use Rattle.import_work.specs.Log.{Segment, games_at, games_of_segments, segments_of}
 use Rattle.import_work.specs.Outcome.{counts_of}
 use Rattle.import_work.specs.declared.source.Source.{Source}
 use Rattle.import_work.specs.declared.source.Source.TheVariants as source
@@ -118,7 +118,7 @@ abbrev pub OpensImport : List File → Rules → State → ℕ → Source → Li
     State → Type 0
 OpensImport files rules s line source used text next =
     (entry : ImportCourse) × (finding : Finding) × (used ≡ entry ∷ [])
-    × IsImported files source (counts_of (trees_in (games_in s.log))) entry finding
+    × IsImported files source (counts_of (trees_in (games_of_segments s.log))) entry finding
     × (text ≡ waiting_text s ++ import_line_text line source)
     × (next ≡ after_import rules s line finding)
 

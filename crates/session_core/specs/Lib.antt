@@ -1,4 +1,4 @@
--- Words that contracts of public functions rest on.
+-- Definitions that contracts of public functions rest on.
 pub mod Answers
 pub mod Doubles
 pub mod ImportTexts
@@ -7,6 +7,6 @@ pub mod SessionState
 pub mod Signed
 pub mod Sources
 pub mod Stores
--- Words of private functions.
+-- Definitions of private functions.
 pub mod Listing
 pub mod Grouping

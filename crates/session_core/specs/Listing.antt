@@ -1,4 +1,4 @@
--- Words of the private functions that list games and players.
+-- Definitions of the private functions that list games and players.
 use Rattle.std.specs.Prelude.{ℕ, List, [], map, slice_get}
 use Rattle.std.specs.Borrow.{Bor}
 use Rattle.std.specs.List.{AllZip}
@@ -11,8 +11,8 @@ use Rattle.segment_store.specs.Finished.{IsCanonicalOf}
 use Rattle.session_core.specs.Signed.{FoundGame}
 
 -- the games behind references
-abbrev pub games_of : List (Bor Game) → List Game
-games_of games = map (λ (g : Bor Game). g.now) games
+abbrev pub borrowed_games : List (Bor Game) → List Game
+borrowed_games games = map (λ (g : Bor Game). g.now) games
 
 -- the information of each game
 abbrev pub infos_of : List (Bor Game) → List Information

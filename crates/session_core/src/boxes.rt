@@ -14,58 +14,58 @@ use query_script::{print_no_retire, print_report_head, print_retire};
 // Appends the text of a report: how many boxes there are, and the report line of each.
 pub(crate) fn append_report<C: Collector>(
     line: u32,
-    boards: &[C],
+    boxes: &[C],
     out: &mut Vec<u8>,
 ) -> Result<(), NoMemory>
     ensures ok { OnOk result (out.new.items
-        ≡ out.old.items ++ boxes_text line (map (λ board. C.tally board) boards.now)) }
+        ≡ out.old.items ++ boxes_text line (map (λ b. C.tally b) boxes.now)) }
     ensures refused { OnErr result (IsPrefix out.old.items out.new.items) }
 {
-    print_report_head(line, boards.len(), out)?;
-    for board in boards {
-        append_line(board, out)?;
+    print_report_head(line, boxes.len(), out)?;
+    for collector in boxes {
+        append_line(collector, out)?;
     }
     Ok(())
 }
 
 // Appends the report line of a box.
-fn append_line<C: Collector>(board: &C, out: &mut Vec<u8>) -> Result<(), NoMemory>
-    ensures ok { OnOk result (out.new.items ≡ out.old.items ++ report_line (C.tally board.now)) }
+fn append_line<C: Collector>(collector: &C, out: &mut Vec<u8>) -> Result<(), NoMemory>
+    ensures ok { OnOk result (out.new.items ≡ out.old.items ++ report_line (C.tally collector.now)) }
     ensures refused { OnErr result (out.new.items ≡ out.old.items) }
 {
-    board.report(out)?;
+    collector.report(out)?;
     Ok(())
 }
 
 // Gives all hits to each box.
-pub(crate) fn feed_boxes<C: Collector>(boards: &mut Vec<C>, hits: &[Hit]) -> Result<(), NoMemory>
-    ensures ok { OnOk result (map (λ board. C.tally board) boards.new.items
-        ≡ all_with_hits hits.now (map (λ board. C.tally board) boards.old.items)) }
+pub(crate) fn feed_boxes<C: Collector>(boxes: &mut Vec<C>, hits: &[Hit]) -> Result<(), NoMemory>
+    ensures ok { OnOk result (map (λ b. C.tally b) boxes.new.items
+        ≡ all_with_hits hits.now (map (λ b. C.tally b) boxes.old.items)) }
     ensures refused { OnErr result (IsFedInPart hits.now
-        (map (λ board. C.tally board) boards.old.items)
-        (map (λ board. C.tally board) boards.new.items)) }
+        (map (λ b. C.tally b) boxes.old.items)
+        (map (λ b. C.tally b) boxes.new.items)) }
 {
-    feed(boards, hits)
+    feed(boxes, hits)
 }
 
 // Drops the first box of this name and appends that it is retired, or that none has the name.
 pub(crate) fn retire_box<C: Collector>(
     line: u32,
     name: &str,
-    boards: &mut Vec<C>,
+    boxes: &mut Vec<C>,
     out: &mut Vec<u8>,
 ) -> Result<(), NoMemory>
     ensures ok { OnOk result ((text : List ℕ)
-        × IsRetiredBy line name.now (new_session (map (λ board. C.tally board) boards.old.items))
-        text (new_session (map (λ board. C.tally board) boards.new.items))
+        × IsRetiredBy line name.now (new_session (map (λ b. C.tally b) boxes.old.items))
+        text (new_session (map (λ b. C.tally b) boxes.new.items))
         × (out.new.items ≡ out.old.items ++ text)) }
     ensures refused { OnErr result (out.new.items ≡ out.old.items) }
-    ensures same { OnErr result (boards.new.items ≡ boards.old.items) }
+    ensures same { OnErr result (boxes.new.items ≡ boxes.old.items) }
 {
     // The text is there before the box is dropped, so that want of memory drops none.
     let len = out.len();
     print_retire(line, name, out)?;
-    match retire(boards, name) {
+    match retire(boxes, name) {
         Ok(()) => Ok(()),
         Err(NoSuchName) => {
             out.truncate(len);

@@ -18,7 +18,13 @@ ghost use mathlib.Core.List.{IsPrefix};
 ghost use Rattle.info_filter.specs.Players.{IsPlayersTable};
 ghost use Rattle.session_core.specs.Answers.{IsDoublesText, IsPlayersText, IsSignatureText};
 ghost use Rattle.session_core.specs.Grouping.{entries_of, entry_of, group_in, group_text};
-ghost use Rattle.session_core.specs.Listing.{AreFormsOf, found_at, found_text, games_of, infos_of};
+ghost use Rattle.session_core.specs.Listing.{
+  AreFormsOf,
+  borrowed_games,
+  found_at,
+  found_text,
+  infos_of,
+};
 ghost use Rattle.session_core.specs.Signed.{AreGamesFound};
 ghost use Rattle.session_core.specs.Stores.{view_of};
 
@@ -82,7 +88,7 @@ fn found_by(
 ) -> Result<Vec<u32>, NoMemory>
     requires most { length games.now ≤ 400000 }
     requires forms { AreFormsOf games.now forms.now }
-    ensures found { IfOk result (λ found. AreGamesFound pattern.now.bytes (games_of games.now)
+    ensures found { IfOk result (λ found. AreGamesFound pattern.now.bytes (borrowed_games games.now)
         (map (found_at forms.now) found.items)) }
     ensures in_range { IfOk result (λ found.
         All (λ (number : ℕ). number < length forms.now) found.items) }

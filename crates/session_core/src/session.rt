@@ -39,7 +39,7 @@ use version_publisher::Version;
 /// boxes tell, in order.
 #[derive(Drop)]
 pub struct Session<C: Collector> {
-    boards: Vec<C>,
+    boxes: Vec<C>,
 }
 
 impl<C: Collector> Model for Session<C> {
@@ -48,7 +48,7 @@ impl<C: Collector> Model for Session<C> {
 
     ghost Value = { SessionState };
 
-    ghost view = { λ s. new_session (map (λ board. C.tally board) s.boards.items) };
+    ghost view = { λ s. new_session (map (λ board. C.tally board) s.boxes.items) };
 }
 
 impl<C: Collector> Session<C> {
@@ -56,7 +56,7 @@ impl<C: Collector> Session<C> {
     pub fn new(boards: Vec<C>) -> Session<C>
         ensures { result ≡ new_session (map (λ board. C.tally board) boards.items) }
     {
-        Session { boards }
+        Session { boxes: boards }
     }
 
     /// Appends the text of a search, of a count of kept games, of the games whose signature matches
@@ -95,8 +95,8 @@ impl<C: Collector> Session<C> {
             Statement::Players => append_players(alloc, line, version, out),
             Statement::Doubles => append_doubles(rt, alloc, line, version, out),
             Statement::Game { number: game } => append_game(line, *game, version, out),
-            Statement::Report => append_report(line, &self.boards, out),
-            Statement::Retire { name } => retire_box(line, name.as_str(), &mut self.boards, out),
+            Statement::Report => append_report(line, &self.boxes, out),
+            Statement::Retire { name } => retire_box(line, name.as_str(), &mut self.boxes, out),
             Statement::Import { .. }
             | Statement::Make { .. }
             | Statement::Wait
@@ -175,7 +175,7 @@ impl<C: Collector> Session<C> {
         ensures left { OnErr result
             (IsLeft (λ hits. hits ≡ answer.now.hits.items) self.old self.new) }
     {
-        feed_boxes(&mut self.boards, &answer.hits)
+        feed_boxes(&mut self.boxes, &answer.hits)
     }
 }
 

@@ -11,11 +11,11 @@ use Rattle.atomic_table.proofs.Lists.{at_set}
 use Rattle.logbook.specs.Pages.{Book}
 use Rattle.version_publisher.specs.declared.state.Content.{Content}
 use Rattle.version_publisher.specs.declared.state.Knowledge.{Knowledge}
-use Rattle.version_publisher.specs.Contents.{Opening, opening_of, content, KnowsOnly, KnowsOne, IsLawfulContent, IsLawfulSeat, IsEmptyOrAmong, AreEmpty, ArePrefixes, LookTells, PublishTells, ReadsArePublished, MayFollow, nothing_known, after_look, after_publish}
+use Rattle.version_publisher.specs.Contents.{BookName, book_name_of, content, KnowsOnly, KnowsOne, IsLawfulContent, IsLawfulSeat, IsEmptyOrAmong, AreEmpty, ArePrefixes, LookTells, PublishTells, ReadsArePublished, MayFollow, nothing_known, after_look, after_publish}
 use Rattle.kb_geometry.proofs.Prefixes.{prefix_same, prefix_trans}
 use Rattle.version_publisher.proofs.Prefixes.{prefix_of_empty}
 
-pub both_know : (b : Opening) (v w : List Opening) → KnowsOnly b v → KnowsOnly b w → KnowsOnly b (v ++ w)
+pub both_know : (b : BookName) (v w : List BookName) → KnowsOnly b v → KnowsOnly b w → KnowsOnly b (v ++ w)
 both_know b [] w p q = q
 both_know b (x ∷ v) w p q = (p.0, both_know b v w p.1 q)
 
@@ -94,7 +94,7 @@ lawful_first most c log b e none =
       is_seat = omega arith;
       is_published = refl;
       rises = tt;
-      each_seat = each_end (IsLawfulSeat 0 [] (opening_of b)) [] nothing_known (λ seat v at. absurd (some-ne-none v (sym at))) (tt, refl, (λ is. refl), (λ isnt. tt));
+      each_seat = each_end (IsLawfulSeat 0 [] (book_name_of b)) [] nothing_known (λ seat v at. absurd (some-ne-none v (sym at))) (tt, refl, (λ is. refl), (λ isnt. tt));
     } in subst (λ z. IsLawfulContent most z (nothing_known ∷ [])) (sym (e ∙ ap (λ l. content 0 [] l b) none)) first
 
 module _ {T A : Type 0} (c : T → Content A) (most : ℕ) where
@@ -169,7 +169,7 @@ module _ {T A : Type 0} (c : T → Content A) (most : ℕ) where
       }
 
 -- whoever knows that what is published was published by itself has published all that was
-pub all_its_own : {A : Type 0} (publisher : ℕ) (history : List (List (List A))) (o : Opening) (log : List (List A)) (seat : ℕ) (v : Knowledge A)
+pub all_its_own : {A : Type 0} (publisher : ℕ) (history : List (List (List A))) (o : BookName) (log : List (List A)) (seat : ℕ) (v : Knowledge A)
     → ArePrefixes history log → IsLawfulSeat publisher history o seat v → IsEmptyOrAmong log v.published
     → (ArePrefixes v.published log) × ((l : List (List A)) → IsEmptyOrAmong l history → IsEmptyOrAmong l v.published)
     × ((j : ℕ) (u : Knowledge A) → j ≢ seat → IsLawfulSeat publisher history o j u → AreEmpty u.published)
@@ -221,7 +221,7 @@ publishes c most seat v x y follows known views h at =
     )
 
 -- who knows one opening knows this one
-pub knows_this : (b x : Opening) (v : List Opening) → v ≡ b ∷ [] → KnowsOnly x v → v ≡ x ∷ []
+pub knows_this : (b x : BookName) (v : List BookName) → v ≡ b ∷ [] → KnowsOnly x v → v ≡ x ∷ []
 knows_this b x v e n = let m : KnowsOnly x (b ∷ []) = subst (KnowsOnly x) e n in e ∙ (λ i. m.0 i ∷ [])
 
 -- what a reader of one opening knows after a look, of which it then knows the same

@@ -14,15 +14,15 @@ abbrev pub items_in : {A : Type 0} → List (List A) → List A
 items_in [] = []
 items_in (x ∷ xs) = x ++ items_in xs
 
--- Names one opening: the three numbers of its log's book
-abbrev pub Opening : Type 0
-Opening = ℕ × ℕ × ℕ
+-- the name of a log's book, its three numbers: it tells one opening of a publisher from all others
+abbrev pub BookName : Type 0
+BookName = ℕ × ℕ × ℕ
 
-abbrev pub opening_of : Book → Opening
-opening_of b = (b.number, b.log_name, b.cells_name)
+abbrev pub book_name_of : Book → BookName
+book_name_of b = (b.number, b.log_name, b.cells_name)
 
 abbrev pub content : {A : Type 0} → ℕ → List (List A) → List (List A) → Book → Content A
-content n parts log b = record { number = n; parts = parts; log = log; opening = opening_of b }
+content n parts log b = record { number = n; parts = parts; log = log; opening = book_name_of b }
 
 -- the content with these parts behind its own, the log then being this one
 abbrev pub extended : {A : Type 0} → Content A → ℕ → List (List A) → List (List A) → Book →
@@ -31,7 +31,7 @@ extended c n parts log b = record {
   number = n;
   parts = c.parts ++ parts;
   log = log;
-  opening = opening_of b;
+  opening = book_name_of b;
 }
 
 -- the list with this element in the place of its last two; a list of fewer stays
@@ -59,13 +59,13 @@ IsConsistent most c = (c.number ≡ length c.log) × (items_in c.parts ≡ items
     × (length (items_in c.log) ≤ most)
 
 -- no opening but this one is known
-abbrev pub KnowsOnly : Opening → List Opening → Type 0
+abbrev pub KnowsOnly : BookName → List BookName → Type 0
 KnowsOnly b [] = Unit {0}
 KnowsOnly b (x ∷ xs) = (x ≡ b) × KnowsOnly b xs
 
 -- exactly one opening is known
-abbrev pub KnowsOne : List Opening → Type 0
-KnowsOne v = (b : Opening) × (v ≡ b ∷ [])
+abbrev pub KnowsOne : List BookName → Type 0
+KnowsOne v = (b : BookName) × (v ≡ b ∷ [])
 
 -- the log is empty, or one of these
 abbrev pub IsEmptyOrAmong : {B : Type 0} → List B → List (List B) → Type 0
@@ -85,7 +85,7 @@ ArePrefixes (x ∷ xs) log = IsPrefix x log × ArePrefixes xs log
 -- What one seat may know, where the publisher's seat is this and these logs were published, in
 -- order: no opening but this one, it has read none but published logs, and the publisher alone has
 -- published
-abbrev pub IsLawfulSeat : {A : Type 0} → ℕ → List (List (List A)) → Opening → ℕ → Knowledge A →
+abbrev pub IsLawfulSeat : {A : Type 0} → ℕ → List (List (List A)) → BookName → ℕ → Knowledge A →
     Type 0
 IsLawfulSeat publisher history opening seat v =
     KnowsOnly opening v.openings × IsEmptyOrAmong v.read history
@@ -145,14 +145,14 @@ pub record IsReady {A : Type 0} (most : ℕ) (published next : Content A)
     (waiting whole : List (List A)) (b : Book) : Type 0 where
   pub published_consistent : IsConsistent most published
   pub next_consistent : IsConsistent most next
-  pub published_opening : published.opening ≡ opening_of b
-  pub next_opening : next.opening ≡ opening_of b
+  pub published_opening : published.opening ≡ book_name_of b
+  pub next_opening : next.opening ≡ book_name_of b
   pub grows : IsPrefix published.log next.log
   pub is_whole : next.log ++ waiting ≡ whole
   pub fits : length (items_in whole) ≤ most
 
 -- a searcher of this opening that has read, seen and learned nothing
-abbrev pub IsNewSearcher : {A : Type 0} → Opening → SearcherState A → Type 0
+abbrev pub IsNewSearcher : {A : Type 0} → BookName → SearcherState A → Type 0
 IsNewSearcher b s = (s.opening ≡ b) × (s.read ≡ []) × (s.seen ≡ []) × (s.learned ≡ [])
 
 -- the longer of two lists, and the second where they are as long

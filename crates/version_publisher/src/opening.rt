@@ -1,7 +1,7 @@
 // How a publisher and its searchers are made.
 ghost use Rattle.std.specs.Prelude.{◌≡◌, ◌≤◌, [], ◌∷◌, length, drop, false, All, IfOk};
 ghost use Rattle.left_right.specs.Sides.{view as seat_view};
-ghost use Rattle.version_publisher.specs.Contents.{opening_of, content, IsNewSearcher};
+ghost use Rattle.version_publisher.specs.Contents.{book_name_of, content, IsNewSearcher};
 ghost use Rattle.version_publisher.specs.Replicas.{content_of};
 
 use crate::handles::{ReplicaWriter, new_reader, publish_queued};
@@ -63,7 +63,8 @@ fn new_writer<P: Part, R: Wait>(
 ) -> Result<ReplicaWriter<P>, NoMemory>
     requires places { (1 ≤ places) × (places ≤ 64) }
     requires empty { token.now.log ≡ [] }
-    ensures { IfOk result (λ w. ((seat_view w.desk.place).openings ≡ opening_of token.now.book ∷ [])
+    ensures { IfOk result (λ w.
+        ((seat_view w.desk.place).openings ≡ book_name_of token.now.book ∷ [])
         × ((seat_view w.desk.place).published ≡ [] ∷ [])
         × (content_of P.items w.desk.shown.value ≡ content 0 [] [] token.now.book)
         × (drop w.behind w.log.items ≡ [])) }

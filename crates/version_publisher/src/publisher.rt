@@ -21,7 +21,7 @@ ghost use Rattle.std.specs.Bool.{OnFalse};
 ghost use Rattle.std.specs.Arc.{arc_value};
 ghost use Rattle.left_right.specs.Sides.{view as seat_view};
 ghost use Rattle.version_publisher.specs.Contents.{
-  opening_of,
+  book_name_of,
   items_in,
   content,
   merged_last,
@@ -63,7 +63,7 @@ where
     ghost use Rattle.left_right.specs.Sides.{view as seat_view};
     ghost use Rattle.version_publisher.specs.declared.state.PublisherState.{PublisherState};
     ghost use Rattle.version_publisher.specs.Contents.{
-      opening_of,
+      book_name_of,
       is_nonempty,
       IsEmptyOrAmong,
       IsReady,
@@ -73,7 +73,7 @@ where
     ghost Value = { PublisherState P.Item };
 
     ghost view = { λ p. record {
-      opening = opening_of p.end.token.book;
+      opening = book_name_of p.end.token.book;
       log = p.writer.desk.shown.value.token.log;
       published = (seat_view p.writer.desk.place).published;
       pending = drop (length p.writer.desk.shown.value.token.log) p.end.token.log;
@@ -86,7 +86,7 @@ where
     } };
 
     ghost invariant = { λ p.
-        (((seat_view p.writer.desk.place).openings ≡ opening_of p.end.token.book ∷ [])
+        (((seat_view p.writer.desk.place).openings ≡ book_name_of p.end.token.book ∷ [])
         × IsEmptyOrAmong (content_of P.items p.writer.desk.shown.value).log
         (seat_view p.writer.desk.place).published)
         × IsReady P.MOST (content_of P.items p.writer.desk.shown.value)
@@ -96,11 +96,12 @@ where
 
 impl<P: Part> Publisher<P> {
     pub(crate) fn new(alloc: Global, writer: ReplicaWriter<P>, end: LogEnd<P>) -> Publisher<P>
-        requires opening { (seat_view writer.desk.place).openings ≡ opening_of end.token.book ∷ [] }
+        requires opening { (seat_view writer.desk.place).openings
+            ≡ book_name_of end.token.book ∷ [] }
         requires empty { (end.token.log ≡ [])
             × (content_of P.items writer.desk.shown.value ≡ content 0 [] [] end.token.book)
             × (drop writer.behind writer.log.items ≡ []) }
-        ensures { (result.opening ≡ opening_of end.token.book) × (result.log ≡ [])
+        ensures { (result.opening ≡ book_name_of end.token.book) × (result.log ≡ [])
             × (result.published ≡ (seat_view writer.desk.place).published) × (result.pending ≡ [])
             × (result.parts ≡ []) × (result.next_parts ≡ []) × (result.has_pending ≡ false) }
     {

@@ -2,7 +2,7 @@
 ghost use Rattle.std.specs.Prelude.{◌≡◌, List, [], ◌∷◌, length, IfOk, IfSome};
 ghost use mathlib.Core.List.{IsPrefix};
 ghost use Rattle.left_right.specs.Sides.{view};
-ghost use Rattle.version_publisher.specs.Contents.{opening_of, items_in, IsConsistent, KnowsOne};
+ghost use Rattle.version_publisher.specs.Contents.{book_name_of, items_in, IsConsistent, KnowsOne};
 ghost use Rattle.version_publisher.specs.Replicas.{content_of};
 
 use crate::handles::ReplicaReader;
@@ -20,7 +20,7 @@ fn version_of<P: Part>(
     alloc: Global,
 ) -> Result<(Version<P>, Receipt<P>), LookError>
     requires consistent { IsConsistent P.MOST (content_of P.items replica.now) }
-    ensures { IfOk result (λ t. (t.1.opening ≡ opening_of replica.now.token.book)
+    ensures { IfOk result (λ t. (t.1.opening ≡ book_name_of replica.now.token.book)
         × (t.1.log ≡ replica.now.token.log) × (t.0.number ≡ length t.1.log)
         × (items_in t.0.parts ≡ items_in t.1.log)) }
 {

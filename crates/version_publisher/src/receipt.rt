@@ -1,7 +1,7 @@
 // A proof that the log had reached a list, to be handed on and compared.
 ghost use Rattle.std.specs.Prelude.{◌≡◌, ◌≤◌, length};
 ghost use mathlib.Core.List.{IsPrefix};
-ghost use Rattle.version_publisher.specs.Contents.{opening_of};
+ghost use Rattle.version_publisher.specs.Contents.{book_name_of};
 
 use crate::log::LogToken;
 use crate::part::Part;
@@ -17,11 +17,11 @@ pub struct Receipt<P: Part> {
 impl<P: Part> Model for Receipt<P> {
     ghost use Rattle.std.specs.Prelude.{◌≡◌, length};
     ghost use Rattle.version_publisher.specs.declared.state.ReceiptState.{ReceiptState};
-    ghost use Rattle.version_publisher.specs.Contents.{opening_of};
+    ghost use Rattle.version_publisher.specs.Contents.{book_name_of};
 
     ghost Value = { ReceiptState P.Item };
 
-    ghost view = { λ r. record { opening = opening_of r.token.book; log = r.token.log } };
+    ghost view = { λ r. record { opening = book_name_of r.token.book; log = r.token.log } };
 
     ghost invariant = { λ r. r.number ≡ length r.token.log };
 }
@@ -29,7 +29,7 @@ impl<P: Part> Model for Receipt<P> {
 impl<P: Part> Receipt<P> {
     pub(crate) fn new(number: u64, token: &LogToken<P>) -> Receipt<P>
         requires number { number ≡ length token.now.log }
-        ensures opening { result.opening ≡ opening_of token.now.book }
+        ensures opening { result.opening ≡ book_name_of token.now.book }
         ensures log { result.log ≡ token.now.log }
     {
         Receipt {

@@ -2,7 +2,7 @@ use Rattle.std.proofs.Common.{◌∙◌, arith, sym}
 use Rattle.std.proofs.lemmas.Iterator.Adapters.{YieldsList-from_vec}
 use Rattle.std.proofs.lemmas.Iterator.Consumers.{YieldsList-so_far, YieldsList-turn}
 use Rattle.std.proofs.lemmas.List.{map-id}
-use Rattle.import_work.proofs.Joined.{AreJoined-more, room_left}
+use Rattle.import_work.proofs.Joined.{ArePiecesJoined-more, room_left}
 use Rattle.import_work.proofs.making.joined.Goals as goal
 
 pub add_piece-requires : goal.add_piece-requires
@@ -14,4 +14,4 @@ add_piece-requires c =
     room_left c.args.made.items c.loop-piece.yielded c.in-Some.piece c.loop-piece.games 400000 c.requires so_far turn.0 turn.1 c.loop-piece.invariant
 
 pub loop-piece-preserved : goal.loop-piece-preserved
-loop-piece-preserved c = AreJoined-more c.loop-piece.yielded c.in-Some.piece c.loop-piece.games c.add_piece.new.games c.loop-piece.invariant c.in_ok-add_piece.ensures
+loop-piece-preserved c = ArePiecesJoined-more c.loop-piece.yielded c.in-Some.piece c.loop-piece.games c.add_piece.new.games c.loop-piece.invariant c.in_ok-add_piece.ensures

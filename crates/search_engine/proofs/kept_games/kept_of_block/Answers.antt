@@ -5,7 +5,7 @@ use Rattle.node_position.specs.Games.{Game}
 use Rattle.std.specs.Prelude.{Contains}
 use Rattle.std.proofs.lemmas.Nat.Bits.{bit_at_ones}
 use Rattle.search_engine.specs.BlockCandidates.{AreAllowedFor, AreInRangeFor}
-use Rattle.search_engine.specs.Items.{games_in}
+use Rattle.search_engine.specs.Items.{games_of_item}
 use Rattle.search_engine.specs.KeptGames.{AreKept}
 use Rattle.search_engine.specs.Searching.{IsCovered}
 use Rattle.search_engine.proofs.CutLists.{slice_get-behind}
@@ -16,7 +16,7 @@ pub loop-at-init : goal.loop-at-init
 loop-at-init c =
     let none : c.args.item.now.skip - c.args.item.now.skip ≡ 0 = omega arith in
     record {
-      kept = λ covered. subst (λ n. AreKept c.args.matchers.now.query (take n (games_in c.args.item.now)) 0) (sym none) AreKept.nothing;
+      kept = λ covered. subst (λ n. AreKept c.args.matchers.now.query (take n (games_of_item c.args.item.now)) 0) (sym none) AreKept.nothing;
       most = omega arith;
       all = omega arith;
       from = omega arith;
@@ -27,7 +27,7 @@ loop-at-preserved c =
     let query = c.args.matchers.now.query in
     let block = c.args.item.now.block.now in
     let skip = c.args.item.now.skip in
-    let games = games_in c.args.item.now in
+    let games = games_of_item c.args.item.now in
     let at = c.loop-at.at in
     let k = at - skip in
     let from : skip ≤ at = c.loop-at.invariant.from in
@@ -53,7 +53,7 @@ is_kept-requires c =
 pub returns-clause-kept : goal.returns-clause-kept
 returns-clause-kept c = λ covered.
     let item = c.args.item.now in
-    let games = games_in item in
+    let games = games_of_item item in
     subst (λ gs. AreKept c.args.matchers.now.query gs c.loop-at.count) (take_all (c.loop-at.at - item.skip) games (omega (arith, c.loop-at-test.false, c.len-at-end.ensures.value, length-drop item.skip item.block.now))) (c.loop-at.invariant.kept covered)
 
 pub returns-clause-most : goal.returns-clause-most

@@ -6,7 +6,7 @@ use Rattle.run_matcher.specs.GoingOn.{occurrences_of}
 use Rattle.run_matcher.specs.declared.begun.Begun.{Begun}
 use Rattle.search_engine.specs.Gathering.{GoOnIn, HasOccurrences}
 use Rattle.search_engine.specs.Hits.{AreHitsFrom}
-use Rattle.search_engine.specs.Items.{games_in}
+use Rattle.search_engine.specs.Items.{games_of_item}
 use Rattle.search_engine.specs.Searching.{AreHitsAdded, IsCovered}
 use Rattle.search_engine.specs.StepBounds.{AreStepsIn}
 use Rattle.search_engine.proofs.CutLists.{slice_get-behind}
@@ -17,7 +17,7 @@ use Rattle.search_engine.proofs.search_items.add_found.Goals as goal
 pub loop-at-init : goal.loop-at-init
 loop-at-init g c =
     let item = c.args.item.now in
-    let games = games_in item in
+    let games = games_of_item item in
     let old = c.args.hits.now.items in
     let none : 0 ≡ item.skip - item.skip = omega arith in
     record {
@@ -39,7 +39,7 @@ loop-at-preserved g c =
     let query = c.args.matchers.now.query in
     let item = c.args.item.now in
     let block = item.block.now in
-    let games = games_in item in
+    let games = games_of_item item in
     let at = c.loop-at.at in
     let asked : item.skip ≤ at = c.loop-at.invariant.asked in
     let k = at - item.skip in
@@ -66,7 +66,7 @@ returns-in_err-add_one-clause-steps g c =
     let query = c.args.matchers.now.query in
     let item = c.args.item.now in
     let block = item.block.now in
-    let games = games_in item in
+    let games = games_of_item item in
     let at = c.loop-at.at in
     let k = at - item.skip in
     let (game, here) = some_there block at (omega (arith, c.loop-at-test.true, c.len-at-end.ensures.value)) in
@@ -77,10 +77,10 @@ returns-in_err-add_one-clause-steps g c =
 pub returns-clause-hits : goal.returns-clause-hits
 returns-clause-hits g c = λ covered.
     let item = c.args.item.now in
-    let games = games_in item in
+    let games = games_of_item item in
     subst (λ gs. AreHitsAdded (AreHitsFrom item.first c.args.matchers.now.query c.args.filter.now gs) c.args.hits.now.items c.loop-at.hits.items)
     (take_all (c.loop-at.at - item.skip) games (omega (arith, c.loop-at-test.false, c.len-at-end.ensures.value, length-drop item.skip item.block.now)))
     (c.loop-at.invariant.hits covered)
 
 pub returns-clause-steps : goal.returns-clause-steps
-returns-clause-steps g c = AreStepsIn-all c.args.matchers.now.query (games_in c.args.item.now) (c.loop-at.at - c.args.item.now.skip) c.args.steps.now c.loop-at.steps c.loop-at.invariant.steps
+returns-clause-steps g c = AreStepsIn-all c.args.matchers.now.query (games_of_item c.args.item.now) (c.loop-at.at - c.args.item.now.skip) c.args.steps.now c.loop-at.steps c.loop-at.invariant.steps

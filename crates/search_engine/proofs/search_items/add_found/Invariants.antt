@@ -3,7 +3,7 @@ use Rattle.std.specs.List.{slice_get}
 use Rattle.node_position.specs.Games.{Game}
 use Rattle.search_engine.specs.Gathering.{GoOnIn, HasOccurrences, begun_at, gathered_of}
 use Rattle.search_engine.specs.Hits.{AreHitsFrom}
-use Rattle.search_engine.specs.Items.{games_in}
+use Rattle.search_engine.specs.Items.{games_of_item}
 use Rattle.search_engine.specs.Searching.{AreCovered, AreHitsAdded}
 use Rattle.search_engine.specs.StepBounds.{AreStepsIn}
 use Rattle.search_engine.proofs.search_items.add_found.Given as goal
@@ -13,6 +13,6 @@ invariant-loop-at g l = record {
   asked : l.item.skip ≤ l.at;
   rest : (k : ℕ) (game : Game) → l.at ≤ k → slice_get l.item.block.now k ≡ Some game → HasOccurrences l.matchers.query l.filter l.matchers.shapes game.tree (gathered_of l.gathered k);
   known : (k : ℕ) (game : Game) → l.at ≤ k → slice_get l.item.block.now k ≡ Some game → GoOnIn l.matchers.query game.tree (begun_at l.gathered k);
-  hits : AreCovered l.matchers.query l.matchers.shapes (games_in l.item) → AreHitsAdded (AreHitsFrom l.item.first l.matchers.query l.filter (take (l.at - l.item.skip) (games_in l.item))) l.fn.hits.items l.hits.items;
-  steps : AreStepsIn l.matchers.query (take (l.at - l.item.skip) (games_in l.item)) l.fn.steps l.steps;
+  hits : AreCovered l.matchers.query l.matchers.shapes (games_of_item l.item) → AreHitsAdded (AreHitsFrom l.item.first l.matchers.query l.filter (take (l.at - l.item.skip) (games_of_item l.item))) l.fn.hits.items l.hits.items;
+  steps : AreStepsIn l.matchers.query (take (l.at - l.item.skip) (games_of_item l.item)) l.fn.steps l.steps;
 }

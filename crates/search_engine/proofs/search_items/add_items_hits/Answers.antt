@@ -1,16 +1,16 @@
 use Rattle.std.proofs.Common.{◌+◌, arith, take}
-use Rattle.search_engine.specs.Items.{games_of}
+use Rattle.search_engine.specs.Items.{games_of_items}
 use Rattle.search_engine.proofs.BlocksSearched.{so_far-all, so_far-more, so_far-none}
 use Rattle.search_engine.proofs.StepsTaken.{AreStepsIn-block, AreStepsIn-items, AreStepsIn-none}
 use Rattle.search_engine.proofs.search_items.add_items_hits.Goals as goal
 
 pub returns-in_err-new-clause-steps : goal.returns-in_err-new-clause-steps
-returns-in_err-new-clause-steps g c = AreStepsIn-none c.args.matchers.now.query (games_of c.args.items.now) c.args.steps.now
+returns-in_err-new-clause-steps g c = AreStepsIn-none c.args.matchers.now.query (games_of_items c.args.items.now) c.args.steps.now
 
 pub loop-item-init : goal.loop-item-init
 loop-item-init g c = record {
   hits = so_far-none c.args.matchers.now.query c.args.filter.now c.args.matchers.now.shapes c.args.items.now c.args.hits.now.items;
-  steps = AreStepsIn-none c.args.matchers.now.query (games_of (take 0 c.args.items.now)) c.args.steps.now;
+  steps = AreStepsIn-none c.args.matchers.now.query (games_of_items (take 0 c.args.items.now)) c.args.steps.now;
 }
 
 pub loop-item-preserved : goal.loop-item-preserved

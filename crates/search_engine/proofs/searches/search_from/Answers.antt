@@ -1,5 +1,5 @@
 use Rattle.std.proofs.Common.{◌∙◌, drop, refl, subst}
-use Rattle.search_engine.specs.Items.{games_of}
+use Rattle.search_engine.specs.Items.{games_of_items}
 use Rattle.search_engine.specs.Searching.{AreCovered, AreItemHitsAdded}
 use Rattle.search_engine.proofs.BlocksSearched.{hits_of_items}
 use Rattle.search_engine.proofs.StepsTaken.{steps_of_items}
@@ -13,7 +13,7 @@ returns-clause-hits g c =
     let items = c.in_ok-items.items.items in
     let new = c.add_items_hits.new.hits.items in
     let made = c.in_ok-matchers.ensures ∙ c.in_ok-images.ensures in
-    let covered = subst (λ is. AreCovered query shapes (games_of is)) c.deref.ensures.value c.in_ok-shapes.ensures.covered in
+    let covered = subst (λ is. AreCovered query shapes (games_of_items is)) c.deref.ensures.value c.in_ok-shapes.ensures.covered in
     let added = subst (λ is. AreItemHitsAdded c.in_ok-matchers.matchers.query filter c.in_ok-matchers.matchers.shapes is c.new-hits.result.items new) c.deref-2.ensures.value c.in_ok-add_items_hits.ensures.hits in
     hits_of_items query filter shapes items c.args.first (drop c.args.from c.args.part.now) c.new-hits.result.items new c.in_ok-items.ensures covered c.new-hits.ensures.items
     (subst (λ m. AreItemHitsAdded m.query filter m.shapes items c.new-hits.result.items new) made added)

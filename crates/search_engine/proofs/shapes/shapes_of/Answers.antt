@@ -1,6 +1,6 @@
 use Rattle.std.proofs.Common.{[], arith, subst}
 use Rattle.std.proofs.lemmas.List.{take_all}
-use Rattle.search_engine.specs.Items.{games_of}
+use Rattle.search_engine.specs.Items.{games_of_items}
 use Rattle.search_engine.specs.Searching.{AreCovered}
 use Rattle.search_engine.proofs.ShapesSought.{AreCovered-added, AreShapesAdded-block}
 use Rattle.search_engine.proofs.shapes.shapes_of.Goals as goal
@@ -11,5 +11,5 @@ loop-item-preserved c =
 
 pub returns-clause-covered : goal.returns-clause-covered
 returns-clause-covered c =
-    subst (λ items. AreCovered c.args.query.now c.loop-item.shapes (games_of items)) (take_all c.loop-item.item-index c.args.items.now (omega (arith, c.loop-item-test.false)))
+    subst (λ items. AreCovered c.args.query.now c.loop-item.shapes (games_of_items items)) (take_all c.loop-item.item-index c.args.items.now (omega (arith, c.loop-item-test.false)))
     (AreCovered-added c.args.query.now _ [] c.loop-item.shapes c.loop-item.invariant)

@@ -7,7 +7,7 @@ use Rattle.search_run.proofs.run_beside.run_beside.Goals as goal
 pub returns-clause-lawful : goal.returns-clause-lawful
 returns-clause-lawful g c = λ files told before written.
     let run = c.run_all-importer in
-    closed-run run.result.outcome c.close.result (beside_rules c.args.batch) files (map (λ board. g.C.Collector.tally board) c.args.boards.items) run.new.session c.args.placed.now run.result.importer.owned.publisher before _ _ (g.F.Folder.faults c.args.importer.folder) (g.F.Folder.faults run.result.importer.folder)
+    closed-run run.result.outcome c.close.result (beside_rules c.args.batch) files (map (λ b. g.C.Collector.tally b) c.args.boxes.items) run.new.session c.args.placed.now run.result.importer.owned.publisher before _ _ (g.F.Folder.faults c.args.importer.folder) (g.F.Folder.faults run.result.importer.folder)
     (rw c.new-session.ensures at (run.ensures.ran files told before written)) run.ensures.idle run.ensures.merged c.close.ensures.whole c.close.ensures.ran
 
 pub returns-clause-sink_fault : goal.returns-clause-sink_fault
@@ -16,10 +16,10 @@ returns-clause-sink_fault g c = λ is.
 
 pub returns-in-Err-clause-stopped : goal.returns-in-Err-clause-stopped
 returns-in-Err-clause-stopped g c = λ files told before written.
-    stops-first (beside_rules c.args.batch) files (map (λ board. g.C.Collector.tally board) c.args.boards.items) c.args.placed.now c.args.importer.owned.publisher.log before _ (g.F.Folder.faults c.args.importer.folder) c.requires.empty written
+    stops-first (beside_rules c.args.batch) files (map (λ b. g.C.Collector.tally b) c.args.boxes.items) c.args.placed.now c.args.importer.owned.publisher.log before _ (g.F.Folder.faults c.args.importer.folder) c.requires.empty written
 
 pub returns-clause-stopped : goal.returns-clause-stopped
 returns-clause-stopped g c = λ files told before written.
     let run = c.run_all-importer in
-    closed-stopped run.result.outcome c.close.result (beside_rules c.args.batch) files (map (λ board. g.C.Collector.tally board) c.args.boards.items) run.new.session c.args.placed.now run.result.importer.owned.publisher.log before _ _ (g.F.Folder.faults c.args.importer.folder) (g.F.Folder.faults run.result.importer.folder)
+    closed-stopped run.result.outcome c.close.result (beside_rules c.args.batch) files (map (λ b. g.C.Collector.tally b) c.args.boxes.items) run.new.session c.args.placed.now run.result.importer.owned.publisher.log before _ _ (g.F.Folder.faults c.args.importer.folder) (g.F.Folder.faults run.result.importer.folder)
     (rw c.new-session.ensures at (run.ensures.ran files told before written)) (rw c.new-session.ensures at (run.ensures.stopped files told before written)) c.close.ensures.part

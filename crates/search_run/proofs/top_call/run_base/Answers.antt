@@ -29,7 +29,7 @@ returns-then-said-clause-stopped_beside g c = λ files told before written. afte
 
 pub returns-in_default-clause-stopped_beside : goal.returns-in_default-clause-stopped_beside
 returns-in_default-clause-stopped_beside g c = λ files told before written. λ beside.
-    stops-first (beside_rules c.args.said.batch) files (map (λ board. g.C.Collector.tally board) c.args.boards.items) c.args.placed.now c.args.publisher.log before _ (g.F.Folder.faults c.args.folder) c.requires.base.log written
+    stops-first (beside_rules c.args.said.batch) files (map (λ b. g.C.Collector.tally b) c.args.boxes.items) c.args.placed.now c.args.publisher.log before _ (g.F.Folder.faults c.args.folder) c.requires.base.log written
 
 pub returns-clause-stopped_beside : goal.returns-clause-stopped_beside
 returns-clause-stopped_beside g c = λ files told before written.

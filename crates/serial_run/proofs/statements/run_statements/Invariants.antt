@@ -10,5 +10,5 @@ invariant-loop-statement g l = record {
   later : g.F.Folder.faults l.fn.folder ≤ g.F.Folder.faults l.folder;
   sink_later : g.K.Sink.faults l.fn.out ≤ g.K.Sink.faults l.out;
   version : l.state.version ≤ l.statement-index * 4294967295;
-  run : IfTold (g.F.Folder.files l.fn.folder) (λ files. IfTold (g.K.Sink.written l.fn.out) (λ before. HasRun (serial_rules l.fn.batch) files (map (λ b. g.C.Collector.tally b) l.fn.boards.items) (take l.statement-index l.placed) l.state l.session before (g.K.Sink.written l.out) (g.F.Folder.faults l.fn.folder) (g.F.Folder.faults l.folder)));
+  run : IfTold (g.F.Folder.files l.fn.folder) (λ files. IfTold (g.K.Sink.written l.fn.out) (λ before. HasRun (serial_rules l.fn.batch) files (map (λ b. g.C.Collector.tally b) l.fn.boxes.items) (take l.statement-index l.placed) l.state l.session before (g.K.Sink.written l.out) (g.F.Folder.faults l.fn.folder) (g.F.Folder.faults l.folder)));
 }

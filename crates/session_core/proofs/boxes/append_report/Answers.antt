@@ -7,8 +7,8 @@ use Rattle.session_core.proofs.boxes.append_report.Goals as goal
 
 pub returns-clause-ok : goal.returns-clause-ok
 returns-clause-ok g c =
-    let boards = c.args.boards.now in
+    let boxes = c.args.boxes.now in
     let out = c.args.out.now.items in
-    c.loop-board.invariant
-    ∙ ap (λ bs. out ++ (report_head c.args.line (length boards) ++ flat_map report_line (map (λ b. g.C.Collector.tally b) bs))) (take_all c.loop-board.board-index boards (omega arith))
-    ∙ ap (λ (n : ℕ). out ++ (report_head c.args.line n ++ flat_map report_line (map (λ b. g.C.Collector.tally b) boards))) (sym (length-map boards (λ b. g.C.Collector.tally b)))
+    c.loop-collector.invariant
+    ∙ ap (λ bs. out ++ (report_head c.args.line (length boxes) ++ flat_map report_line (map (λ b. g.C.Collector.tally b) bs))) (take_all c.loop-collector.collector-index boxes (omega arith))
+    ∙ ap (λ (n : ℕ). out ++ (report_head c.args.line n ++ flat_map report_line (map (λ b. g.C.Collector.tally b) boxes))) (sym (length-map boxes (λ b. g.C.Collector.tally b)))

@@ -4,6 +4,6 @@ use Rattle.hit_collectors.specs.Reports.{report_line}
 use Rattle.query_script.specs.Texts.{report_head}
 use Rattle.session_core.proofs.boxes.append_report.Given as goal
 
-abbrev pub invariant-loop-board : goal.invariant-loop-board
-invariant-loop-board g l =
-    l.out.items ≡ l.fn.out.items ++ (report_head l.line (length l.boards) ++ flat_map report_line (map (λ b. g.C.Collector.tally b) (take l.board-index l.boards)))
+abbrev pub invariant-loop-collector : goal.invariant-loop-collector
+invariant-loop-collector g l =
+    l.out.items ≡ l.fn.out.items ++ (report_head l.line (length l.boxes) ++ flat_map report_line (map (λ b. g.C.Collector.tally b) (take l.collector-index l.boxes)))

@@ -9,6 +9,6 @@ returns-in-Ok-clause-ok g c =
 
 pub returns-in-Err-clause-ok : goal.returns-in-Err-clause-ok
 returns-in-Err-clause-ok g c =
-    IsRetiredBy-none c.print_no_retire.result (λ board. g.C.Collector.tally board) c.args.line c.args.name.now c.args.boards.now.items c.retire.new.boards.items
+    IsRetiredBy-none c.print_no_retire.result (λ b. g.C.Collector.tally b) c.args.line c.args.name.now c.args.boxes.now.items c.retire.new.boards.items
     c.args.out.now.items (retire_text c.args.line c.args.name.now) c.truncate.new.self.items c.print_no_retire.new.out.items c.len-len.result
     c.in-Err.ensures.none c.in-Err.ensures.same (c.len-len.ensures ∙ c.args.out.now.ok.0) (rw c.in_ok-print_retire.ensures.ok at c.truncate.ensures.items) c.print_no_retire.ensures.ok

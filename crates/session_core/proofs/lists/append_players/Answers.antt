@@ -1,5 +1,5 @@
 use Rattle.std.proofs.Common.{◌∙◌, ap}
-use Rattle.session_core.specs.Listing.{games_of}
+use Rattle.session_core.specs.Listing.{borrowed_games}
 use Rattle.session_core.specs.Stores.{view_of}
 use Rattle.session_core.proofs.FoundGames.{few_games}
 use Rattle.session_core.proofs.ListTexts.{IsPlayersText-printed}
@@ -11,4 +11,4 @@ players_of-requires c = few_games c.as_slice.result.now c.in_ok-games.games.item
 pub returns-clause-ok : goal.returns-clause-ok
 returns-clause-ok c =
     IsPlayersText-printed c.print_players.result c.args.line (view_of c.args.version.now) c.number.result c.game_count-count.result c.as_slice.result.now c.in_ok-players.players c.args.out.now.items c.print_players.new.out.items
-    c.number.ensures c.game_count-count.ensures.value (ap games_of c.as_slice.ensures.value ∙ c.in_ok-games.ensures) c.in_ok-players.ensures c.print_players.ensures.ok
+    c.number.ensures c.game_count-count.ensures.value (ap borrowed_games c.as_slice.ensures.value ∙ c.in_ok-games.ensures) c.in_ok-players.ensures c.print_players.ensures.ok

@@ -1,6 +1,6 @@
 use Rattle.std.proofs.Common.{◌≡◌, [], ◌∷◌, sym, ap, subst, ◌∙◌}
 use Rattle.std.proofs.lemmas.Result.{IfOk-weaker}
-use Rattle.version_publisher.specs.Contents.{IsConsistent, opening_of}
+use Rattle.version_publisher.specs.Contents.{IsConsistent, book_name_of}
 use Rattle.version_publisher.specs.Replicas.{content_of}
 use Rattle.version_publisher.proofs.Prefixes.{prefix_into}
 use Rattle.version_publisher.proofs.RuleSteps.{looks, look_opening, look_read, look_keeps}
@@ -25,5 +25,5 @@ returns-clause-read g c =
     IfOk-weaker c.version_of-found.result _ _
     (λ t h.
     let found = h.1 ∙ (ap (λ b. b.token.log) same ∙ sym read) in
-    (mine ∙ (ap (λ b. opening_of b.token.book ∷ []) (sym same) ∙ ap (λ z. z ∷ []) (sym h.0)), found, h.2, h.3, (λ log p. prefix_into log _ _ _ p kept.1 found)))
+    (mine ∙ (ap (λ b. book_name_of b.token.book ∷ []) (sym same) ∙ ap (λ z. z ∷ []) (sym h.0)), found, h.2, h.3, (λ log p. prefix_into log _ _ _ p kept.1 found)))
     c.version_of-found.ensures
