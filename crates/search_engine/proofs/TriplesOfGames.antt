@@ -1,5 +1,5 @@
 -- The hits of games are those of exactly the triples that a search finds, in order, and no other list of hits is.
-use Rattle.std.proofs.Common.{◌≡◌, inl, inr, ℕ, ◌+◌, ◌<◌, List, [], ◌∷◌, ◌++◌, length, get_or, refl, sym, ◌∙◌, subst, zero-add, arith}
+use Rattle.std.proofs.Common.{◌≡◌, inl, inr, ℕ, ◌<◌, List, [], ◌∷◌, ◌++◌, length, get_or, refl, sym, ◌∙◌, subst, zero-add, arith}
 use Rattle.std.specs.Prelude.{All}
 use Rattle.core.specs.List.{AllZip}
 use Rattle.std.proofs.lemmas.List.{ext_get_or}

@@ -1,7 +1,6 @@
-use Rattle.std.proofs.Common.{◌-◌, ◌+◌, ◌++◌, ◌∙◌, ap, arith, drop, length, length-drop, subst, sym, take}
+use Rattle.std.proofs.Common.{◌-◌, ◌++◌, ◌∙◌, ap, arith, drop, length, length-drop, subst, sym, take}
 use Rattle.std.proofs.lemmas.List.{take_all}
-use Rattle.node_position.specs.Games.{Game}
-use Rattle.segment_store.specs.Blocks.{games_in, games_of}
+use Rattle.segment_store.specs.Blocks.{games_in}
 use Rattle.search_engine.specs.Items.{AreItems}
 use Rattle.search_engine.proofs.ItemLists.{AreItems-start, block_within, blocks_to_next, number_before}
 use Rattle.search_engine.proofs.items.add_items.Goals as goal
