@@ -119,12 +119,12 @@ module _ (all : List File) (path : List ℕ) (before : Counts) (is_unread : List
   import-named : (names : List (List ℕ)) → HasPath all path → AreNames all path names → Finds false
   import-named names there are = elim (cases_lt 100000 (length names)) [
     | inl many ↦ record {
-        entry = nothing_lost;
-        finding = TooMany (length names);
-        imported = (record { names = names; path_there = there; are_names = are; counted = refl; many = many }, refl);
-        unlisted = (λ e. absurd (false≢true e), λ h. absurd (false≢true h.0));
-        unread = refl;
-      }
+      entry = nothing_lost;
+      finding = TooMany (length names);
+      imported = (record { names = names; path_there = there; are_names = are; counted = refl; many = many }, refl);
+      unlisted = (λ e. absurd (false≢true e), λ h. absurd (false≢true h.0));
+      unread = refl;
+    }
     | inr few ↦
         let h = all-read all path before [] [] is_unread names (AreNames-there all path names are) AreRead.nothing in
         let counted : length h.more ≡ length names = sym (length-map h.more (λ (f : ImportFile). f.report.name)) ∙ ap length h.named in record {

@@ -3,7 +3,7 @@ use Rattle.std.specs.Prelude.{ℕ, ◌+◌, ◌≤◌, List}
 use Rattle.node_position.specs.Games.{Game}
 use Rattle.pattern_images.specs.declared.query.Query.{Query}
 use Rattle.search_engine.specs.KeptGames.{HaveKeptNodes}
-use Rattle.search_engine.specs.Nodes.{nodes_of}
+use Rattle.segment_store.specs.Nodes.{nodes_of}
 
 -- The count of steps only grows: by at most the number of the nodes of these games, and by at most
 -- the number of those of the games among them that are kept for the query.

@@ -4,7 +4,7 @@ ghost use Rattle.version_publisher.specs.Contents.{items_in};
 ghost use Rattle.continuation_table.specs.Table.{IsTable};
 ghost use Rattle.search_engine.specs.Hits.{AreHits, AreHitsFrom};
 ghost use Rattle.search_engine.specs.KeptGames.{HaveKeptNodes};
-ghost use Rattle.search_engine.specs.Nodes.{nodes_of};
+ghost use Rattle.segment_store.specs.Nodes.{nodes_of};
 
 use crate::answer::Answer;
 use crate::items::{items_of_part, items_of_version};
