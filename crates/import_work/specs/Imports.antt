@@ -182,7 +182,8 @@ pub record AddsUp (start now : ImportState) (segments : List Segment) : Type 0 w
   pub number : now.number ≡ start.number
   pub counted : AreAdded start.counts now.counts (trees_in (games_of_segments segments))
   pub given : now.given ≡ start.given + length segments
-  pub told : games_reported now.body ≡ games_reported start.body + length (games_of_segments segments)
+  pub told : games_reported now.body
+      ≡ games_reported start.body + length (games_of_segments segments)
   pub few : length segments + length now.left ≤ length start.left
   pub room : games_of_segments segments ≢ [] → AreWithinLimits now.counts
 

@@ -78,7 +78,8 @@ pub record Finds (files : List File) (source : Source) (log : List Segment)
     (faults_before faults_now : ℕ) : Type 0 where
   pub entry : ImportCourse
   pub finding : Finding
-  pub imported : IsImported files source (counts_of (trees_in (games_of_segments log))) entry finding
+  pub imported : IsImported files source (counts_of (trees_in (games_of_segments log))) entry
+      finding
   pub paid : RoseBy (losses_of (entry ∷ [])) faults_before faults_now
 
 -- the log has grown by the segments of what it found, and the report tells that

@@ -18,7 +18,13 @@ ghost use mathlib.Core.List.{IsPrefix};
 ghost use Rattle.info_filter.specs.Players.{IsPlayersTable};
 ghost use Rattle.session_core.specs.Answers.{IsDoublesText, IsPlayersText, IsSignatureText};
 ghost use Rattle.session_core.specs.Grouping.{entries_of, entry_of, group_in, group_text};
-ghost use Rattle.session_core.specs.Listing.{AreFormsOf, found_at, found_text, borrowed_games, infos_of};
+ghost use Rattle.session_core.specs.Listing.{
+  AreFormsOf,
+  borrowed_games,
+  found_at,
+  found_text,
+  infos_of,
+};
 ghost use Rattle.session_core.specs.Signed.{AreGamesFound};
 ghost use Rattle.session_core.specs.Stores.{view_of};
 

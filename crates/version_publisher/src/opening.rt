@@ -63,7 +63,8 @@ fn new_writer<P: Part, R: Wait>(
 ) -> Result<ReplicaWriter<P>, NoMemory>
     requires places { (1 ≤ places) × (places ≤ 64) }
     requires empty { token.now.log ≡ [] }
-    ensures { IfOk result (λ w. ((seat_view w.desk.place).openings ≡ book_name_of token.now.book ∷ [])
+    ensures { IfOk result (λ w.
+        ((seat_view w.desk.place).openings ≡ book_name_of token.now.book ∷ [])
         × ((seat_view w.desk.place).published ≡ [] ∷ [])
         × (content_of P.items w.desk.shown.value ≡ content 0 [] [] token.now.book)
         × (drop w.behind w.log.items ≡ [])) }

@@ -96,7 +96,8 @@ where
 
 impl<P: Part> Publisher<P> {
     pub(crate) fn new(alloc: Global, writer: ReplicaWriter<P>, end: LogEnd<P>) -> Publisher<P>
-        requires opening { (seat_view writer.desk.place).openings ≡ book_name_of end.token.book ∷ [] }
+        requires opening { (seat_view writer.desk.place).openings
+            ≡ book_name_of end.token.book ∷ [] }
         requires empty { (end.token.log ≡ [])
             × (content_of P.items writer.desk.shown.value ≡ content 0 [] [] end.token.book)
             × (drop writer.behind writer.log.items ≡ []) }
