@@ -10,5 +10,6 @@ pub mod Words
 -- Definitions of private functions.
 pub mod CommandLine
 pub mod Lines
+pub mod Pieces
 pub mod Progress
 pub mod Reading

@@ -16,6 +16,7 @@ mod laws;
 mod line;
 mod list_text;
 mod number;
+mod pieces;
 mod print;
 mod progress;
 mod script;

@@ -15,6 +15,7 @@ ghost use Rattle.query_script.specs.Texts.{
 };
 
 use crate::head::append_head;
+use crate::pieces::{Piece, append_line};
 use dyer_signature::Signature;
 use info_filter::{PlayerRow, Players};
 use kb_geometry::{NoMemory, append, append_decimal, append_decimal_and, cut_back};
@@ -31,9 +32,7 @@ pub fn print_kept(
     ensures ok { OnOk result (out.new.items ≡ out.old.items ++ kept_text line version games kept) }
     ensures refused { OnErr result (out.new.items ≡ out.old.items) }
 {
-    let len = out.len();
-    let done = append_head(out, line, b"kept", version, games, b"kept", kept as usize);
-    cut_back(out, len, done)
+    append_head(out, line, b"kept", version, games, b"kept", kept as usize)
 }
 
 /// Appends the first line of the games whose signature matches a pattern:
@@ -50,9 +49,7 @@ pub fn print_signature_head(
         ≡ out.old.items ++ signature_head line version games found) }
     ensures refused { OnErr result (out.new.items ≡ out.old.items) }
 {
-    let len = out.len();
-    let done = append_head(out, line, b"signature", version, games, b"found", found);
-    cut_back(out, len, done)
+    append_head(out, line, b"signature", version, games, b"found", found)
 }
 
 /// Appends a line for a game that was found by its signature: `game GAME SIGNATURE`. The
@@ -62,21 +59,15 @@ pub fn print_found_game(game: u32, signature: &Signature, out: &mut Vec<u8>) -> 
         ≡ out.old.items ++ found_game_text game signature.now.bytes) }
     ensures refused { OnErr result (out.new.items ≡ out.old.items) }
 {
-    let len = out.len();
-    let done = append_found_game(out, game, signature);
-    cut_back(out, len, done)
-}
-
-fn append_found_game(out: &mut Vec<u8>, game: u32, signature: &Signature) -> Result<(), NoMemory>
-    ensures ok { OnOk result (out.new.items
-        ≡ out.old.items ++ found_game_text game signature.now.bytes) }
-    ensures refused { OnErr result (IsPrefix out.old.items out.new.items) }
-{
-    append(out, b"game ")?;
-    append_decimal_and(out, u64::from(game), b' ')?;
-    append(out, &signature.bytes)?;
-    append(out, b"\n")?;
-    Ok(())
+    append_line(
+        out,
+        &[
+            Piece::Text(b"game "),
+            Piece::Number(u64::from(game)),
+            Piece::Text(b" "),
+            Piece::Text(&signature.bytes),
+        ],
+    )
 }
 
 /// Appends the text of the players: its first line, `LINE players version V games G names N`, and
@@ -151,9 +142,7 @@ pub fn print_doubles_head(
         ≡ out.old.items ++ doubles_head line version games groups) }
     ensures refused { OnErr result (out.new.items ≡ out.old.items) }
 {
-    let len = out.len();
-    let done = append_head(out, line, b"doubles", version, games, b"groups", groups);
-    cut_back(out, len, done)
+    append_head(out, line, b"doubles", version, games, b"groups", groups)
 }
 
 /// Appends a line for a group of double games: `double SIGNATURE` and the numbers of the games,

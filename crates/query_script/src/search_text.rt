@@ -217,9 +217,7 @@ pub fn print_search_head(
     ensures ok { OnOk result (out.new.items ≡ out.old.items ++ search_head line number games hits) }
     ensures refused { OnErr result (out.new.items ≡ out.old.items) }
 {
-    let len = out.len();
-    let done = append_head(out, line, b"search", number, games, b"hits", hits);
-    cut_back(out, len, done)
+    append_head(out, line, b"search", number, games, b"hits", hits)
 }
 
 /// Appends a line for each of these hits, in order. The only error is `NoMemory`, and then `out` is
