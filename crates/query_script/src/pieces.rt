@@ -30,16 +30,17 @@ fn append_pieces(out: &mut Vec<u8>, pieces: &[Piece<'_>]) -> Result<(), NoMemory
     ensures refused { OnErr result (IsPrefix out.old.items out.new.items) }
 {
     for piece in pieces {
-        append_piece(out, *piece)?;
+        append_piece(out, piece)?;
     }
-    append(out, b"\n")
+    append(out, b"\n")?;
+    Ok(())
 }
 
-fn append_piece(out: &mut Vec<u8>, piece: Piece<'_>) -> Result<(), NoMemory>
-    ensures ok { OnOk result (out.new.items ≡ out.old.items ++ piece_text piece) }
-    ensures refused { OnErr result (out.new.items ≡ out.old.items) }
+fn append_piece(out: &mut Vec<u8>, piece: &Piece<'_>) -> Result<(), NoMemory>
+    ensures ok { OnOk result (out.new.items ≡ out.old.items ++ piece_text piece.now) }
+    ensures refused { OnErr result (IsPrefix out.old.items out.new.items) }
 {
-    match piece {
+    match *piece {
         Piece::Text(text) => append(out, text),
         Piece::Number(number) => append_decimal(out, number),
     }
