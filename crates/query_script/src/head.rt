@@ -7,13 +7,13 @@ use kb_geometry::NoMemory;
 
 // Appends the first line: the number of the line, what is asked of which version, how many games it
 // has, and how many of what is counted there.
-pub(crate) fn append_head(
+pub(crate) fn append_head<'a>(
     out: &mut Vec<u8>,
     line: u32,
-    asked: &[u8],
+    asked: &'a [u8],
     version: u64,
     games: u32,
-    counted: &[u8],
+    counted: &'a [u8],
     count: usize,
 ) -> Result<(), NoMemory>
     ensures ok { OnOk result (out.new.items ≡ out.old.items
