@@ -60,7 +60,7 @@ IsRetiredBy-none (Err e) told line name boxes after old more between new count n
 IsRetiredBy-none (Ok x) told line name boxes after old more between new count none same counted cut printed =
     let all = All-map (λ (box : BoxTally). box.name ≢ name) told boxes none in (
       no_retire_text line name,
-      subst (λ boxes. IsRetiredBy line name (new_session (map told boxes)) (no_retire_text line name) (new_session boxes)) (ap (map told) (sym same)) (IsRetiredBy.none all),
+      subst (λ left. IsRetiredBy line name (new_session (map told boxes)) (no_retire_text line name) (new_session left)) (ap (map told) (sym same)) (IsRetiredBy.none all),
       printed ∙ ap (λ text. text ++ no_retire_text line name) (cut ∙ ap (λ n. take n (old ++ more)) counted ∙ take-append_seam old more),
     )
 
