@@ -7,3 +7,7 @@ pub mod GameParts
 pub mod PositionsThere
 pub mod OneOpening
 pub mod OpeningsExist
+pub mod ImageChanges
+pub mod LeastImages
+pub mod FramesOfGames
+pub mod FoundNodes
