@@ -11,3 +11,9 @@ pub mod ImageChanges
 pub mod LeastImages
 pub mod FramesOfGames
 pub mod FoundNodes
+pub mod SamePositions
+pub mod RowsGrow
+pub mod PlaysInOrder
+pub mod GroupsGrow
+pub mod NextsFollow
+pub mod GroupBounds

@@ -8,3 +8,4 @@ pub mod Openings
 pub mod Packing
 pub mod Frames
 pub mod GameFrames
+pub mod Groups

@@ -13,6 +13,7 @@ mod answer;
 mod found;
 mod frame;
 mod game_frames;
+mod groups;
 mod images;
 mod laws;
 mod packed;
