@@ -1,12 +1,10 @@
 -- No opening counts more entries, or next moves, than there are.
-use Rattle.std.proofs.Common.{◌≡◌, ℕ, ◌≤◌, Bool, List, [], ◌∷◌, length, map, arith}
+use Rattle.std.proofs.Common.{ℕ, ◌≤◌, Bool, List, [], ◌∷◌, length, map, arith}
 use Rattle.std.specs.Prelude.{All, filter}
 use Rattle.std.proofs.lemmas.List.Elements.{All-cons, All-filter, All-nil}
 use Rattle.std.proofs.lemmas.List.Sums.{count_by-le-length, length-filter}
 use Rattle.kb_geometry.specs.declared.shape.Shape.{Shape}
-use Rattle.kb_geometry.specs.Capture.{Position}
 use Rattle.game_tree.specs.declared.node.Move.{Move}
-use Rattle.opening_tree.specs.declared.answer.NextMove.{NextMove}
 use Rattle.opening_tree.specs.Entries.{Entry}
 use Rattle.opening_tree.specs.Groups.{Grouped, IsGroupWithin, IsRowWithin, groups_of}
 use Rattle.opening_tree.specs.NextMoves.{NextAt}

@@ -1,7 +1,7 @@
 -- The openings of entries and next moves, one entry or one next move more.
-use Rattle.std.proofs.Common.{◌≡◌, ℕ, ◌⊎◌, ◌||◌, inl, inr, Bool, true, false, cond, List, [], ◌∷◌, ◌++◌, length-append, map, refl, sym, ap, ◌∙◌, subst}
+use Rattle.std.proofs.Common.{◌≡◌, ◌⊎◌, ◌||◌, inl, inr, Bool, true, false, cond, List, [], ◌∷◌, ◌++◌, length-append, map, refl, sym, ap, ◌∙◌, subst}
 use Rattle.std.specs.List.{list_any}
-use Rattle.std.proofs.lemmas.Bool.{false_from_ne_true, false≢true, or_from, or_left}
+use Rattle.std.proofs.lemmas.Bool.{false_from_ne_true, false≢true, or_left}
 use Rattle.std.proofs.lemmas.List.{append-nil}
 use Rattle.std.proofs.lemmas.List.Folds.{list_any-append}
 use Rattle.kb_geometry.specs.declared.shape.Shape.{Shape}
@@ -11,7 +11,7 @@ use Rattle.opening_tree.specs.declared.answer.Opening.{Opening}
 use Rattle.opening_tree.specs.Entries.{Entry}
 use Rattle.opening_tree.specs.Groups.{Grouped, groups_of, none_yet, with_entry, with_next, with_one, with_row, with_rows}
 use Rattle.opening_tree.specs.NextMoves.{NextAt}
-use Rattle.opening_tree.specs.Openings.{entries_at, first_entries, first_entries_behind, is_black_win, is_no_win, is_same_position, is_white_win, nexts_at, opening_of, plays_on, rows_of}
+use Rattle.opening_tree.specs.Openings.{entries_at, first_entries_behind, is_black_win, is_no_win, is_same_position, is_white_win, nexts_at, opening_of, plays_on, rows_of}
 use Rattle.opening_tree.proofs.RowsGrow.{AreInOrder, IsOneOf, rows-grow, rows-none}
 use Rattle.opening_tree.proofs.SamePositions.{count_by-push, filter-push, same_position, told}
 

@@ -1,6 +1,6 @@
 -- Each next move is from the canonical position of an entry, so a canonical position without an entry has none.
 use Rattle.std.proofs.Common.{◌≡◌, inl, inr, true, false, cond, List, [], ◌∷◌, get_or, refl, sym, ap, ◌∙◌}
-use Rattle.std.specs.Prelude.{All, Any}
+use Rattle.std.specs.Prelude.{Any}
 use Rattle.std.proofs.lemmas.Bool.{false≢true}
 use Rattle.std.proofs.lemmas.List.Elements.{All-head, All-tail}
 use Rattle.std.proofs.lemmas.List.Folds.{list_any_at}

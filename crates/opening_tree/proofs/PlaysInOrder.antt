@@ -1,20 +1,20 @@
 -- What can be played on a board stands in order, and each move on the board is among it.
 use Prim.Native.Nat.{zero}
-use Rattle.std.proofs.Common.{◌≡◌, ℕ, suc, ◌+◌, ◌*◌, ◌/◌, ◌%◌, ◌<◌, ◌≤◌, inl, inr, List, [], ◌∷◌, ◌++◌, Option, Some, None, map, refl, sym, ap, ◌∙◌, subst, arith}
+use Rattle.std.proofs.Common.{◌≡◌, ℕ, suc, ◌+◌, ◌*◌, ◌/◌, ◌%◌, ◌<◌, ◌≤◌, inl, inr, List, [], ◌∷◌, ◌++◌, Option, Some, None, map, refl, ap, ◌∙◌, arith}
 use Rattle.std.specs.Prelude.{IfSome}
 use Rattle.std.specs.List.{range_with_len}
-use Rattle.std.proofs.lemmas.Bool.{cases_eq, cases_lt, cases_order}
+use Rattle.std.proofs.lemmas.Bool.{cases_eq, cases_order}
 use Rattle.std.proofs.lemmas.Nat.{div-add-mod', div_below, mod_below}
 use Rattle.kb_geometry.specs.declared.shape.Point.{Point}
 use Rattle.kb_geometry.specs.declared.shape.Shape.{Shape}
 use Rattle.kb_geometry.specs.declared.stone.Colour.{Colour}
 use Rattle.kb_geometry.specs.declared.stone.Colour.TheVariants as colour
-use Rattle.kb_geometry.specs.Board.{IsOnBoard, cols_of, number_of, point_count, rows_of}
+use Rattle.kb_geometry.specs.Board.{IsOnBoard, cols_of, number_of, point_count}
 use Rattle.kb_geometry.specs.Symmetry.{point_of}
 use Rattle.kb_geometry.proofs.Shapes.{number_of-lt-count}
 use Rattle.game_tree.specs.declared.node.Move.{Move}
-use Rattle.opening_tree.specs.Groups.{place_order, play_order}
-use Rattle.opening_tree.specs.Openings.{plays_of, plays_on, points_of}
+use Rattle.opening_tree.specs.Groups.{play_order}
+use Rattle.opening_tree.specs.Openings.{plays_of, plays_on}
 use Rattle.opening_tree.proofs.PositionImages.{number_of-point_with, point_with-on_board, same_point_from_number}
 use Rattle.opening_tree.proofs.RowsGrow.{AreBehind, AreInOrder, IsOneOf, order_of}
 

@@ -1,5 +1,5 @@
 -- The openings of the entries and next moves so far, as private functions keep them.
-use Rattle.std.specs.Prelude.{◌≡◌, ℕ, ◌+◌, ◌*◌, ◌<◌, ◌≤◌, ◌==◌, nat_lt, nat_eq, Bool, if◌then◌else◌, List, [], ◌∷◌, map, Option, Some, None, All, Any}
+use Rattle.std.specs.Prelude.{◌≡◌, ℕ, ◌+◌, ◌*◌, ◌≤◌, nat_lt, nat_eq, Bool, if◌then◌else◌, List, [], ◌∷◌, map, Option, Some, None, All, Any}
 use Rattle.kb_geometry.specs.declared.shape.Shape.{Shape}
 use Rattle.kb_geometry.specs.declared.shape.Point.{Point}
 use Rattle.kb_geometry.specs.declared.stone.Colour.{Colour}
