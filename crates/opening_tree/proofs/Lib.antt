@@ -7,3 +7,13 @@ pub mod GameParts
 pub mod PositionsThere
 pub mod OneOpening
 pub mod OpeningsExist
+pub mod ImageChanges
+pub mod LeastImages
+pub mod FramesOfGames
+pub mod FoundNodes
+pub mod SamePositions
+pub mod RowsGrow
+pub mod PlaysInOrder
+pub mod GroupsGrow
+pub mod NextsFollow
+pub mod GroupBounds

@@ -6,3 +6,6 @@ pub mod Games
 pub mod Openings
 -- Words of private functions.
 pub mod Packing
+pub mod Frames
+pub mod GameFrames
+pub mod Groups

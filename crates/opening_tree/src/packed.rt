@@ -77,6 +77,17 @@ impl PackedPosition {
         Ok(PackedPosition { points, words })
     }
 
+    // An equal one. The only error is `NoMemory`.
+    pub(crate) fn copy(&self, alloc: Global) -> Result<Self, NoMemory>
+        ensures { IfOk result (λ p. p ≡ self.now) }
+    {
+        let words = self.words.as_slice().to_vec(alloc)?;
+        Ok(PackedPosition {
+            points: self.points,
+            words,
+        })
+    }
+
     // Takes all stones away.
     pub(crate) fn clear(&mut self)
         ensures { self.new ≡ replicate (length self.old) cell.Empty }
