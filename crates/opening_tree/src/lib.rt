@@ -17,13 +17,11 @@ mod games;
 mod groups;
 mod images;
 mod laws;
-
 mod opening_so_far;
 mod openings;
 mod packed;
 
 pub use answer::{NextMove, NextMoves, Opening};
-
 pub use laws::{
     a_position_has_one_canonical_position, games_have_one_list_of_openings,
     images_alone_have_one_canonical_position,

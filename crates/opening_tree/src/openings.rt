@@ -70,7 +70,14 @@ fn openings_in(
 {
     let mut openings = IndexMap::new(alloc);
     for number in 0..games.len() {
-        add_game(alloc, &mut openings, shape, depth, number as u32, games[number])?;
+        add_game(
+            alloc,
+            &mut openings,
+            shape,
+            depth,
+            number as u32,
+            games[number],
+        )?;
     }
     Ok(openings)
 }

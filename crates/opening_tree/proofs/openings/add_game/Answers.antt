@@ -6,9 +6,13 @@ use Rattle.opening_tree.proofs.openings.add_game.Goals as goal
 pub add_entries-requires : goal.add_entries-requires
 add_entries-requires c =
     let (games, count, are) = c.requires.so_far in
-    let is_tree = subst (λ (t : Tree). IsTree t) c.tree.ensures c.node_count-nodes.ensures.tree in
-    (c.args.shape, are.entries, are.nexts, ready-entries c.args.shape c.args.depth c.args.number c.args.game.now is_tree c.in_ok-found.found.entries.items c.in_ok-found.found.nexts.items c.in_ok-found.ensures
-    games count c.requires.most c.args.openings.now.entries are c.as_slice.result.now c.as_slice.ensures.value)
+    let is_tree = subst (λ (t : Tree). IsTree t) c.tree.ensures c.node_count-nodes.ensures.tree in (
+      c.args.shape,
+      are.entries,
+      are.nexts,
+      ready-entries c.args.shape c.args.depth c.args.number c.args.game.now is_tree c.in_ok-found.found.entries.items c.in_ok-found.found.nexts.items c.in_ok-found.ensures
+          games count c.requires.most c.args.openings.now.entries are c.as_slice.result.now c.as_slice.ensures.value,
+    )
 
 pub add_nexts-requires : goal.add_nexts-requires
 add_nexts-requires c =
@@ -16,9 +20,13 @@ add_nexts-requires c =
     let is_tree = subst (λ (t : Tree). IsTree t) c.tree.ensures c.node_count-nodes.ensures.tree in
     let ready = ready-entries c.args.shape c.args.depth c.args.number c.args.game.now is_tree c.in_ok-found.found.entries.items c.in_ok-found.found.nexts.items c.in_ok-found.ensures
     games count c.requires.most c.args.openings.now.entries are c.as_slice.result.now c.as_slice.ensures.value in
-    let then = c.in_ok-add_entries.ensures c.args.shape are.entries are.nexts ready in
-    (c.args.shape, _, are.nexts, ready-nexts c.args.shape c.args.depth c.args.number c.args.game.now is_tree c.in_ok-found.found.entries.items c.in_ok-found.found.nexts.items c.in_ok-found.ensures
-    games count c.requires.most c.args.openings.now.entries are c.as_slice.result.now c.add_entries.new.openings.entries c.as_slice-2.result.now c.as_slice.ensures.value c.as_slice-2.ensures.value then)
+    let then = c.in_ok-add_entries.ensures c.args.shape are.entries are.nexts ready in (
+      c.args.shape,
+      _,
+      are.nexts,
+      ready-nexts c.args.shape c.args.depth c.args.number c.args.game.now is_tree c.in_ok-found.found.entries.items c.in_ok-found.found.nexts.items c.in_ok-found.ensures
+          games count c.requires.most c.args.openings.now.entries are c.as_slice.result.now c.add_entries.new.openings.entries c.as_slice-2.result.now c.as_slice.ensures.value c.as_slice-2.ensures.value then,
+    )
 
 pub returns : goal.returns
 returns c games count are =
