@@ -53,31 +53,26 @@ pub fn opening(
         IsOpenings shape depth least (items_in version.now.parts) openings.items) }
 {
     let games = games_of(alloc, version)?;
-    let openings = openings_in(alloc, shape, depth, games.as_slice())?;
+    let openings = openings_in(alloc, Asked { shape, depth }, games.as_slice())?;
     listed(alloc, &openings, least)
 }
 
-// The openings of these games, those with few entries too.
-fn openings_in(
-    alloc: Global,
+// On which boards openings are asked for, and down to which move number.
+#[derive(Clone, Copy, Debug)]
+struct Asked {
     shape: Shape,
     depth: u32,
-    games: &[&FinishedGame],
-) -> Result<OpeningMap, NoMemory>
+}
+
+// The openings of these games, those with few entries too.
+fn openings_in(alloc: Global, asked: Asked, games: &[&FinishedGame]) -> Result<OpeningMap, NoMemory>
     requires { length games.now ≤ 400000 }
     ensures { IfOk result (λ openings.
-        AreOpeningsOf shape depth (map (λ g. g.now) games.now) openings.entries) }
+        AreOpeningsOf asked.shape asked.depth (map (λ g. g.now) games.now) openings.entries) }
 {
     let mut openings = IndexMap::new(alloc);
     for number in 0..games.len() {
-        add_game(
-            alloc,
-            &mut openings,
-            shape,
-            depth,
-            number as u32,
-            games[number],
-        )?;
+        add_game(alloc, &mut openings, asked, number as u32, games[number])?;
     }
     Ok(openings)
 }
@@ -86,20 +81,19 @@ fn openings_in(
 fn add_game(
     alloc: Global,
     openings: &mut OpeningMap,
-    shape: Shape,
-    depth: u32,
+    asked: Asked,
     number: u32,
     game: &FinishedGame,
 ) -> Result<(), NoMemory>
     requires most { number < 400000 }
     requires so_far { (games : List Game) × (length games ≡ number)
-        × AreOpeningsOf shape depth games openings.old.entries }
+        × AreOpeningsOf asked.shape asked.depth games openings.old.entries }
     ensures { OnOk result ((games : List Game) → length games ≡ number →
-        AreOpeningsOf shape depth games openings.old.entries →
-        AreOpeningsOf shape depth (games ++ game.now ∷ []) openings.new.entries) }
+        AreOpeningsOf asked.shape asked.depth games openings.old.entries →
+        AreOpeningsOf asked.shape asked.depth (games ++ game.now ∷ []) openings.new.entries) }
 {
     let _nodes = game.tree().node_count();
-    let found = found_in(alloc, shape, depth, number, game)?;
+    let found = found_in(alloc, asked.shape, asked.depth, number, game)?;
     add_entries(alloc, openings, found.entries.as_slice())?;
     add_nexts(openings, found.nexts.as_slice())?;
     Ok(())

@@ -5,4 +5,4 @@ use Rattle.opening_tree.proofs.StoredSteps.{openings-start}
 use Rattle.opening_tree.proofs.openings.openings_in.Goals as goal
 
 pub loop-number-init : goal.loop-number-init
-loop-number-init c = subst (AreOpeningsOf c.args.shape c.args.depth []) (sym c.new-openings.ensures.empty) (openings-start c.args.shape c.args.depth)
+loop-number-init c = subst (AreOpeningsOf c.args.asked.shape c.args.asked.depth []) (sym c.new-openings.ensures.empty) (openings-start c.args.asked.shape c.args.asked.depth)
