@@ -1,7 +1,7 @@
 -- What the entries and the next moves of one game say of themselves: their positions, their points, how many they are,
 -- and that each next move follows an entry.
 use Prim.Native.Nat.{zero}
-use Rattle.std.proofs.Common.{◌≡◌, ◌≢◌, ℕ, suc, ◌+◌, ◌<◌, ◌≤◌, ◌⊎◌, inl, inr, List, [], ◌∷◌, ◌++◌, Option, Some, None, length, length-append, get_or, refl, sym, ap, ◌∙◌, subst, arith}
+use Rattle.std.proofs.Common.{◌≡◌, ◌≢◌, ℕ, suc, ◌<◌, ◌≤◌, ◌⊎◌, inl, inr, List, [], ◌∷◌, ◌++◌, Option, Some, None, length, length-append, refl, sym, ◌∙◌, subst, arith}
 use Rattle.std.specs.Prelude.{All, Any, IfSome}
 use Rattle.std.proofs.lemmas.Bool.{cases_eq}
 use Rattle.std.proofs.lemmas.Grind.{common_steps}
@@ -18,7 +18,7 @@ use Rattle.game_tree.specs.Tree.{IsTree, Tree, move_number_of, node_count, paren
 use Rattle.node_paths.proofs.Ancestors.{parent-lt}
 use Rattle.opening_tree.specs.Canonical.{IsCanonicalPosition}
 use Rattle.opening_tree.specs.Entries.{AreEntriesTo, Entry, IsEntryAt, position_in}
-use Rattle.opening_tree.specs.Games.{AreOfGame, AreOnBoard}
+use Rattle.opening_tree.specs.Games.{AreOnBoard}
 use Rattle.opening_tree.specs.Groups.{AreFollowing}
 use Rattle.opening_tree.specs.NextMoves.{AreNextsTo, IsPlaceInFrame, NextAt}
 use Rattle.opening_tree.specs.StoredGames.{AreEntriesOn, AreNextsOn}

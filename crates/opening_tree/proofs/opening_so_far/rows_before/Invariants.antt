@@ -1,4 +1,4 @@
-use Rattle.std.proofs.Common.{◌≡◌, ◌≤◌, ℕ, ◌<◌, length, slice_index_or}
+use Rattle.std.proofs.Common.{◌≡◌, ℕ, ◌<◌, slice_index_or}
 use Rattle.opening_tree.specs.declared.answer.NextMove.{NextMove}
 use Rattle.opening_tree.specs.Groups.{row_order}
 use Rattle.opening_tree.proofs.opening_so_far.rows_before.Given as goal

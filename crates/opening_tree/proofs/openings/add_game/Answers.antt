@@ -1,4 +1,4 @@
-use Rattle.std.proofs.Common.{◌∙◌, ap, subst}
+use Rattle.std.proofs.Common.{subst}
 use Rattle.game_tree.specs.Tree.{IsTree, Tree}
 use Rattle.opening_tree.proofs.StoredSteps.{openings-more, ready-entries, ready-nexts}
 use Rattle.opening_tree.proofs.openings.add_game.Goals as goal

@@ -1,4 +1,4 @@
-use Rattle.std.proofs.Common.{List, ap, map, subst, ◌≡◌, ◌∙◌}
+use Rattle.std.proofs.Common.{ap, map, ◌≡◌, ◌∙◌}
 use Rattle.std.specs.Borrow.{Bor}
 use Rattle.std.specs.Map.{values_of}
 use Rattle.std.specs.Prelude.{filter, nat_le}

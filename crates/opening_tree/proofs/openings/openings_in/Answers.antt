@@ -1,6 +1,5 @@
 use Rattle.std.proofs.Common.{[], subst, sym}
 use Rattle.opening_tree.specs.StoredGames.{AreOpeningsOf}
-use Rattle.opening_tree.specs.StoredGroups.{Stored}
 use Rattle.opening_tree.proofs.StoredSteps.{openings-start}
 use Rattle.opening_tree.proofs.openings.openings_in.Goals as goal
 
