@@ -17,3 +17,7 @@ pub mod PlaysInOrder
 pub mod GroupsGrow
 pub mod NextsFollow
 pub mod GroupBounds
+pub mod GroupEntries
+pub mod VersionGames
+pub mod GamesRead
+pub mod StoredSteps

@@ -55,7 +55,7 @@ module _ (depth number : ℕ) (tree : Tree) (positions : List Position) where
 -- ---- next moves
 
 module _ (shape : Shape) (position canonical : Position) where
-  frame-on_board : (p q : Point) → IsOnBoard shape p → IsPointInFrame shape position canonical p q → IsOnBoard shape q
+  pub frame-on_board : (p q : Point) → IsOnBoard shape p → IsPointInFrame shape position canonical p q → IsOnBoard shape q
   frame-on_board p q on is = subst (IsOnBoard shape) (sym is.is_moved) (moved-on_board shape p on is.number is.brings.is_symmetry is.brings.is_allowed)
 
   one_point : (p a b : Point) → IsOnBoard shape p → IsPointInFrame shape position canonical p a → IsPointInFrame shape position canonical p b → a ≡ b
@@ -81,7 +81,7 @@ module _ (depth : ℕ) (tree : Tree) (is_tree : IsTree tree) (positions : List P
   abbrev those : ℕ → List NextAt → Type 0
   those = AreNextsTo depth tree positions
 
-  played_on_board : (n : ℕ) (m : Move) → n < node_count tree → (node_at tree n).played ≡ Some m → IfSome m.point (λ (q : Point). IsOnBoard tree.shape q)
+  pub played_on_board : (n : ℕ) (m : Move) → n < node_count tree → (node_at tree n).played ≡ Some m → IfSome m.point (λ (q : Point). IsOnBoard tree.shape q)
   played_on_board n m lt e = subst (λ (o : Option Move). IfSome o (λ (k : Move). IfSome k.point (λ (q : Point). IsOnBoard tree.shape q))) e (is_tree.on_board n lt).played
 
   -- a node has one parent and plays one move

@@ -186,3 +186,9 @@ row_begun (r ∷ rs) zero m o le before behind = sym (with_row-front (r ∷ rs) 
 row_begun (r ∷ rs) (suc at) m o le before behind =
     ap (λ (xs : List NextMove). r ∷ xs) (row_begun rs at m o (omega (arith, le)) (λ j d below. before (suc j) d (omega (arith, below))) (λ d below. behind d (omega (arith, below))))
     ∙ sym (with_row-later r rs m o (before 0 r (omega arith)))
+
+-- what stands in a list doesn't hang on what would stand behind it
+pub any_default : (rows : List NextMove) (at : ℕ) (d e : NextMove) → at < length rows → get_or rows at d ≡ get_or rows at e
+any_default [] at d e lt = absurd (omega (arith, lt))
+any_default (r ∷ rs) zero d e lt = refl
+any_default (r ∷ rs) (suc at) d e lt = any_default rs at d e (omega (arith, lt))

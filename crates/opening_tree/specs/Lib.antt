@@ -9,3 +9,5 @@ pub mod Packing
 pub mod Frames
 pub mod GameFrames
 pub mod Groups
+pub mod StoredGroups
+pub mod StoredGames

@@ -42,6 +42,39 @@ impl Model for FoundEntry {
     } };
 }
 
+impl FoundEntry {
+    // Its canonical position.
+    pub(crate) fn canonical(&self) -> &PackedPosition
+        ensures { result.now ≡ self.now.canonical }
+    {
+        &self.canonical
+    }
+
+    // The number of its game.
+    pub(crate) fn game(&self) -> u32
+        ensures { result ≡ self.now.game }
+    {
+        let _canonical = &self.canonical;
+        self.game
+    }
+
+    // Its node.
+    pub(crate) fn node(&self) -> u32
+        ensures { result ≡ self.now.node }
+    {
+        let _canonical = &self.canonical;
+        self.node
+    }
+
+    // How its game ended.
+    pub(crate) fn outcome(&self) -> Outcome
+        ensures { result ≡ self.now.outcome }
+    {
+        let _canonical = &self.canonical;
+        self.outcome
+    }
+}
+
 // A next move in the frame of the canonical position from which it was played.
 #[derive(Debug, Drop)]
 pub(crate) struct FoundNext {
@@ -60,6 +93,31 @@ impl Model for FoundNext {
       played = n.played;
       outcome = n.outcome;
     } };
+}
+
+impl FoundNext {
+    // The canonical position from which it was played.
+    pub(crate) fn canonical(&self) -> &PackedPosition
+        ensures { result.now ≡ self.now.canonical }
+    {
+        &self.canonical
+    }
+
+    // What was played.
+    pub(crate) fn played(&self) -> Move
+        ensures { result ≡ self.now.played }
+    {
+        let _canonical = &self.canonical;
+        self.played
+    }
+
+    // How its game ended.
+    pub(crate) fn outcome(&self) -> Outcome
+        ensures { result ≡ self.now.outcome }
+    {
+        let _canonical = &self.canonical;
+        self.outcome
+    }
 }
 
 // What is found in a game.

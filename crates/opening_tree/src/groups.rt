@@ -1,5 +1,5 @@
-// The openings of entries and next moves, as they grow: the words by which a map of them will be
-// told.
+// The openings of the entries and next moves so far, by their canonical positions. indexmap keeps
+// them in the order of their first entries.
 ghost use Rattle.std.specs.Prelude.{
   ◌≡◌,
   ◌≤◌,
@@ -10,6 +10,7 @@ ghost use Rattle.std.specs.Prelude.{
   All,
   IfSome,
   List,
+  OnOk,
   length,
 };
 ghost use Rattle.kb_geometry.specs.declared.shape.Point.{Point};
@@ -25,6 +26,59 @@ ghost use Rattle.opening_tree.specs.Groups.{
   with_next,
 };
 ghost use Rattle.opening_tree.specs.NextMoves.{NextAt};
+ghost use Rattle.opening_tree.specs.StoredGroups.{AreKeys, groups_shown};
+
+use crate::found::{FoundEntry, FoundNext};
+use crate::opening_so_far::{OpeningSoFar, add_to_rows};
+use indexmap::IndexMap;
+use kb_geometry::NoMemory;
+use std::alloc::Global;
+
+// Openings by the words of their canonical positions.
+pub(crate) type OpeningMap = IndexMap<Vec<u64>, OpeningSoFar>;
+
+// Adds an entry to the openings of positions with as many points. The only error is `NoMemory`.
+pub(crate) fn add_entry(
+    alloc: Global,
+    openings: &mut OpeningMap,
+    entry: &FoundEntry,
+) -> Result<(), NoMemory>
+    requires keys { AreKeys (length entry.now.canonical) openings.old.entries }
+    requires room { All (λ (g : Grouped). IsGroupWithin 18446744073709551614 g.opening)
+        (groups_shown (length entry.now.canonical) openings.old.entries) }
+    ensures keys { OnOk result (AreKeys (length entry.now.canonical) openings.new.entries) }
+    ensures added { OnOk result (groups_shown (length entry.now.canonical) openings.new.entries
+        ≡ with_entry (groups_shown (length entry.now.canonical) openings.old.entries) entry.now) }
+{
+    let words = entry.canonical().words();
+    match openings.get_index_of(words) {
+        Some(at) => openings[at].count(entry.outcome()),
+        None => {
+            let key = words.to_vec(alloc)?;
+            let mut opening = OpeningSoFar::none(alloc, entry.game(), entry.node());
+            opening.count(entry.outcome());
+            openings.insert(key, opening)?;
+        }
+    }
+    Ok(())
+}
+
+// Adds a next move to the opening from whose canonical position it was played, if there is that
+// opening. The only error is `NoMemory`.
+pub(crate) fn add_next(openings: &mut OpeningMap, next: &FoundNext) -> Result<(), NoMemory>
+    requires keys { AreKeys (length next.now.canonical) openings.old.entries }
+    requires room { All (λ (g : Grouped). IsGroupWithin 18446744073709551614 g.opening)
+        (groups_shown (length next.now.canonical) openings.old.entries) }
+    ensures keys { OnOk result (AreKeys (length next.now.canonical) openings.new.entries) }
+    ensures added { OnOk result (groups_shown (length next.now.canonical) openings.new.entries
+        ≡ with_next (groups_shown (length next.now.canonical) openings.old.entries) next.now) }
+{
+    let words = next.canonical().words();
+    if let Some(at) = openings.get_index_of(words) {
+        add_to_rows(&mut openings[at].rows, next.played(), next.outcome())?;
+    }
+    Ok(())
+}
 
 // One entry more, and one next move more, make of the openings of some entries and next moves those
 // of one more. No opening counts more of them than there are.

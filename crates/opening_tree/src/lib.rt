@@ -1,21 +1,24 @@
 //! An opening tree: positions that games reach by other orders of moves, or turned, are one, with
 //! what was played next and who won.
 //!
-//! Stands on segment_store and what it names, for games and the changes at their nodes. In `specs/`
-//! are the words for the canonical position, for the entries and the next moves of games, and for
-//! the groups of these; the laws say that each list of games has openings, and one list of them.
-//! The call that makes them isn't there yet. Private functions find the entries and the next moves
-//! of one game: images of a position packed in words, changed point by point from node to node and
-//! compared with one another.
+//! Stands on segment_store and what it names, for games and the changes at their nodes, and on
+//! version_publisher, for versions. [`opening`] gives the openings of a version. In `specs/` are
+//! the words for the canonical position, for the entries and the next moves of games, and for the
+//! groups of these; the laws say that each list of games has openings, and one list of them.
+//! Images of a position are packed in words, changed point by point from node to node and compared
+//! with one another; the words of the canonical one are the key of a map.
 #![tactic(auto)]
 
 mod answer;
 mod found;
 mod frame;
 mod game_frames;
+mod games;
 mod groups;
 mod images;
 mod laws;
+mod opening_so_far;
+mod openings;
 mod packed;
 
 pub use answer::{NextMove, NextMoves, Opening};
@@ -23,3 +26,4 @@ pub use laws::{
     a_position_has_one_canonical_position, games_have_one_list_of_openings,
     images_alone_have_one_canonical_position,
 };
+pub use openings::opening;

@@ -1,0 +1,7 @@
+use Rattle.std.proofs.Common.{[], subst, sym}
+use Rattle.opening_tree.specs.StoredGames.{AreOpeningsOf}
+use Rattle.opening_tree.proofs.StoredSteps.{openings-start}
+use Rattle.opening_tree.proofs.openings.openings_in.Goals as goal
+
+pub loop-number-init : goal.loop-number-init
+loop-number-init c = subst (AreOpeningsOf c.args.asked.shape c.args.asked.depth []) (sym c.new-openings.ensures.empty) (openings-start c.args.asked.shape c.args.asked.depth)

@@ -1,0 +1,39 @@
+-- The openings of the entries and next moves so far, as a map keeps them.
+use Rattle.std.specs.Prelude.{ℕ, List, map, All}
+use Rattle.std.specs.declared.alloc.Global.{Global}
+use Rattle.std.specs.declared.vec.Vec.{Vec}
+use Rattle.opening_tree.specs.declared.answer.Opening.{Opening}
+use Rattle.opening_tree.specs.declared.opening_so_far.OpeningSoFar.{OpeningSoFar}
+use Rattle.opening_tree.specs.Groups.{Grouped}
+use Rattle.opening_tree.specs.Packing.{AreCells, cells_of}
+
+-- the opening that is stored
+abbrev pub opening_shown : OpeningSoFar → Opening
+opening_shown o = record {
+  count = o.count;
+  black = o.black;
+  white = o.white;
+  other = o.other;
+  game = o.game;
+  node = o.node;
+  nexts = o.rows.items;
+}
+
+-- an entry of the map
+abbrev pub Stored : Type 0
+Stored = Vec ℕ Global × OpeningSoFar
+
+-- the opening of an entry of the map, on a board of so many points
+abbrev pub group_shown : ℕ → Stored → Grouped
+group_shown points e = record {
+  canonical = cells_of points e.0.items;
+  opening = opening_shown e.1;
+}
+
+-- the openings of the map
+abbrev pub groups_shown : ℕ → List Stored → List Grouped
+groups_shown points entries = map (group_shown points) entries
+
+-- the keys of the map are positions of so many points
+abbrev pub AreKeys : ℕ → List Stored → Type 0
+AreKeys points entries = All (λ (e : Stored). AreCells points e.0.items) entries
