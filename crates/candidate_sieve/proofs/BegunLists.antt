@@ -19,7 +19,7 @@ use Rattle.pattern_images.specs.Placements.{Placement}
 use Rattle.capture_index.specs.NodePositions.{NodePositions, count_in, nodes_where}
 use Rattle.candidate_sieve.specs.declared.asked.AskedPoints.{AskedPoints}
 use Rattle.candidate_sieve.specs.NodeCandidates.{AreAsked, IsAskedBySome, IsNodeCandidate, noted}
-use Rattle.candidate_sieve.specs.Noting.{AreBeginsAdded, AreBegun, BeginsAt}
+use Rattle.candidate_sieve.specs.Noting.{AreBeginningsAdded, AreBegun, BeginsAt}
 use Rattle.candidate_sieve.proofs.CellsTold.{under-lt}
 
 -- the list gains exactly the nodes at which the point begins to have the cell, if it was noted with it
@@ -44,7 +44,7 @@ module _ (seen : NodePositions) (points : AskedPoints) where
       ]),
     )
 
-    pub begun-each : (before one two after : List ℕ) → IsBegunBy seen points p stone.Empty before one → IsBegunBy seen points p stone.Black one two → IsBegunBy seen points p stone.White two after → AreBeginsAdded seen points p before after
+    pub begun-each : (before one two after : List ℕ) → IsBegunBy seen points p stone.Empty before one → IsBegunBy seen points p stone.Black one two → IsBegunBy seen points p stone.White two after → AreBeginningsAdded seen points p before after
     begun-each before one two after empty black white n = (
       λ h. elim ((white n).0 h) [
         | inr w ↦ inr (stone.White, w)
@@ -70,7 +70,7 @@ module _ (seen : NodePositions) (points : AskedPoints) where
   pub begun-start : (nodes : List ℕ) → ((n : ℕ) → Contains nodes n ↔ ((n ≡ 0) × (0 < count_in seen))) → AreBegunTo seen points 0 nodes
   begun-start nodes root n = (λ h. inl ((root n).0 h), λ h. elim h [ inl is ↦ (root n).1 is | inr some ↦ absurd (omega (arith, some.2)) ])
 
-  pub begun-more : (count : ℕ) (nodes next : List ℕ) → AreBegunTo seen points count nodes → AreBeginsAdded seen points count nodes next → AreBegunTo seen points (count + 1) next
+  pub begun-more : (count : ℕ) (nodes next : List ℕ) → AreBegunTo seen points count nodes → AreBeginningsAdded seen points count nodes next → AreBegunTo seen points (count + 1) next
   begun-more count nodes next so_far now n = (
     λ h. elim ((now n).0 h) [
       | inl was ↦ elim ((so_far n).0 was) [ inl root ↦ inl root | inr some ↦ inr (some.0, some.1, omega (arith, some.2), some.3) ]

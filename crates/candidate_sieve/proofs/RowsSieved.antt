@@ -16,7 +16,7 @@ use Rattle.final_index.specs.Planes.{PlaneGames}
 use Rattle.candidate_sieve.specs.declared.placement_rows.PlacementRow.{PlacementRow}
 use Rattle.candidate_sieve.specs.declared.candidates.Candidate.{Candidate}
 use Rattle.final_index.specs.declared.ever_sets.EverSets.{EverSets}
-use Rattle.candidate_sieve.specs.BlockGames.{AreAddedFor, HaveEach, IsAddedFor, IsRowAdded}
+use Rattle.candidate_sieve.specs.BlockGames.{AreAddedFor, HaveEach, IsAddedFor, AreRowCandidatesAdded}
 use Rattle.candidate_sieve.specs.BlockGames.AreAddedFor.{nothing, one_more}
 use Rattle.candidate_sieve.specs.Candidates.{IsPossibleIn}
 use Rattle.candidate_sieve.specs.PlacementRows.{IsRowIn}
@@ -68,7 +68,7 @@ module _ (images : ImageList) (are-images : AreImages images) (planes : PlaneGam
   pub row-added : (there : ℕ) → ((g : ℕ) → g < 64 → bit_at there g ≡ 1 → IsSome (slice_index_or planes.games g None)) →
       ((j k : ℕ) → j < length numbers → k < length numbers → slice_index numbers j ≡ slice_index numbers k → j ≡ k) →
       (old now next : List Candidate) → AreAddedTo planes images.placements there numbers row.start old now →
-      IsRowAdded planes.games row.base wants there (slice_range numbers row.start (row.start + row.count)) now next →
+      AreRowCandidatesAdded planes.games row.base wants there (slice_range numbers row.start (row.start + row.count)) now next →
       AreAddedTo planes images.placements there numbers (row.start + row.count) old next
   row-added there present once old now next so_far added =
       let part : List ℕ = slice_range numbers row.start (row.start + row.count) in
@@ -78,7 +78,7 @@ module _ (images : ImageList) (are-images : AreImages images) (planes : PlaneGam
 
 -- ---- a row of one placement
 
-pub one-added : (games : List (Option EverSets)) (base : ℕ) (wants : List Want) (there : ℕ) (numbers : List ℕ) (word : ℕ) (old new : List Candidate) → length numbers ≡ 1 → HaveEach games base wants there (length wants) word → IsAddedFor (slice_index numbers 0) word old new → IsRowAdded games base wants there numbers old new
+pub one-added : (games : List (Option EverSets)) (base : ℕ) (wants : List Want) (there : ℕ) (numbers : List ℕ) (word : ℕ) (old new : List Candidate) → length numbers ≡ 1 → HaveEach games base wants there (length wants) word → IsAddedFor (slice_index numbers 0) word old new → AreRowCandidatesAdded games base wants there numbers old new
 one-added games base wants there numbers word old new one have added = record {
   words = word ∷ [];
   have = λ k lt.

@@ -25,16 +25,16 @@ HadEach games base wants count g = (k : ℕ) → k < count →
     HadWanted games g (slice_index_or wants k no_want)
     (base + (slice_index_or wants k no_want).offset)
 
--- the games of the word are those of another that had the first so many wants
+-- the games of the word are those of some games that had the first so many wants
 abbrev pub HaveEach : List (Option EverSets) → ℕ → List Want → ℕ → ℕ → ℕ → Type 0
-HaveEach games base wants there count word =
-    (g : ℕ) → g < 64 → (bit_at word g ≡ 1) ↔ ((bit_at there g ≡ 1)
+HaveEach games base wants among count word =
+    (g : ℕ) → g < 64 → (bit_at word g ≡ 1) ↔ ((bit_at among g ≡ 1)
     × HadEach games base wants count g)
 
 -- in the games of the word each point of the board was empty at some node
-abbrev pub AreBare : PlaneGames → ℕ → Type 0
-AreBare planes bare = (g p : ℕ) → g < 64 → bit_at bare g ≡ 1 → p < point_count planes.shape →
-    HadThere planes.games g cell.Empty p
+abbrev pub AreAlwaysEmpty : PlaneGames → ℕ → Type 0
+AreAlwaysEmpty planes word = (g p : ℕ) → g < 64 → bit_at word g ≡ 1 →
+    p < point_count planes.shape → HadThere planes.games g cell.Empty p
 
 -- the list has gained a candidate with these games, if there is one
 abbrev pub IsAddedFor : ℕ → ℕ → List Candidate → List Candidate → Type 0
@@ -50,12 +50,11 @@ pub data AreAddedFor (numbers words : List ℕ)
       IsAddedFor (slice_index numbers k) (slice_index words k) now next →
       AreAddedFor numbers words old (k + 1) next
 
--- The list has gained the candidates of a row of placements: the word of each has those of the
--- games that are there which had its wants, behind the base for the first, behind the next point
--- for the next.
-pub record IsRowAdded (games : List (Option EverSets)) (base : ℕ) (wants : List Want) (there : ℕ)
-    (numbers : List ℕ) (old new : List Candidate) : Type 0 where
+-- The list has gained the candidates of a row of placements: the word of each has those of some
+-- games that had its wants, behind the base for the first, behind the next point for the next.
+pub record AreRowCandidatesAdded (games : List (Option EverSets)) (base : ℕ) (wants : List Want)
+    (among : ℕ) (numbers : List ℕ) (old new : List Candidate) : Type 0 where
   pub words : List ℕ
   pub have : (k : ℕ) → k < length numbers →
-      HaveEach games (base + k) wants there (length wants) (slice_index words k)
+      HaveEach games (base + k) wants among (length wants) (slice_index words k)
   pub added : AreAddedFor numbers words old (length numbers) new

@@ -35,18 +35,18 @@ IsPossibleIn planes g placement =
 -- The candidates are, for each placement, exactly the games of the block among those that are asked
 -- for whose sets meet its cells. A placement has one candidate at most, and a candidate has some
 -- game.
-pub record AreCandidates (planes : PlaneGames) (placements : List Placement) (asked : ℕ)
+pub record AreCandidates (planes : PlaneGames) (placements : List Placement) (games : ℕ)
     (found : List Candidate) : Type 0 where
   pub in_range : All (λ (c : Candidate). c.placement < length placements) found
   pub some_game : All (λ (c : Candidate). 0 < c.games) found
   pub distinct : AllPairs (λ (c d : Candidate). c.placement ≢ d.placement) found
   pub exact : (i g : ℕ) → i < length placements → g < 64 →
       Any (λ (c : Candidate). (c.placement ≡ i) × (bit_at c.games g ≡ 1)) found
-      ↔ ((bit_at asked g ≡ 1) × IsPossibleIn planes g (placement_at placements i))
+      ↔ ((bit_at games g ≡ 1) × IsPossibleIn planes g (placement_at placements i))
 
 -- the list has gained such candidates
-pub record AreCandidatesAdded (planes : PlaneGames) (placements : List Placement) (asked : ℕ)
+pub record AreCandidatesAdded (planes : PlaneGames) (placements : List Placement) (games : ℕ)
     (old new : List Candidate) : Type 0 where
   pub more : List Candidate
   pub added : new ≡ old ++ more
-  pub are : AreCandidates planes placements asked more
+  pub are : AreCandidates planes placements games more

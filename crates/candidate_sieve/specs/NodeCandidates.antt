@@ -22,7 +22,7 @@ AsksThere shape placement p c =
     (dx : ℕ) × (dy : ℕ) × (dx < placement.grid.cols) × (dy < placement.grid.rows)
     × ((AsksCell (cell_in placement.grid dx dy) c) × (p ≡ number_under shape placement dx dy))
 
--- so does a cell of some placement
+-- a cell of some placement does so
 abbrev pub IsAskedBySome : Shape → List Placement → ℕ → Cell → Type 0
 IsAskedBySome shape placements p c =
     (i : ℕ) × (i < length placements) × AsksThere shape (placement_at placements i) p c

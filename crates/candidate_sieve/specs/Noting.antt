@@ -27,8 +27,8 @@ abbrev pub BeginsAt : NodePositions → AskedPoints → ℕ → Cell → ℕ →
 BeginsAt seen points p c n = Contains (noted points c) p × Contains (nodes_where seen p c 0) n
 
 -- the list gains exactly the nodes at which the point begins to have a cell that was noted
-abbrev pub AreBeginsAdded : NodePositions → AskedPoints → ℕ → List ℕ → List ℕ → Type 0
-AreBeginsAdded seen points p before after = (n : ℕ) → Contains after n
+abbrev pub AreBeginningsAdded : NodePositions → AskedPoints → ℕ → List ℕ → List ℕ → Type 0
+AreBeginningsAdded seen points p before after = (n : ℕ) → Contains after n
     ↔ (Contains before n ⊎ ((c : Cell) × BeginsAt seen points p c n))
 
 -- the list has exactly the root, and the nodes at which a point begins to have a cell that was

@@ -27,15 +27,15 @@ impl AskedPoints {
     pub fn of(images: &Images) -> AskedPoints
         ensures { AreAsked images.now.shape images.now.placements result }
     {
-        let mut asked = AskedPoints {
+        let mut points = AskedPoints {
             empty: BitBoard::empty(),
             black: BitBoard::empty(),
             white: BitBoard::empty(),
         };
         for i in 0..images.len() {
-            asked.add_placement(images, i);
+            points.add_placement(images, i);
         }
-        asked
+        points
     }
 
     // Whether the point was noted with the cell.

@@ -22,11 +22,11 @@ ghost use Rattle.capture_index.specs.Wants.{AreStonesFirst};
 ghost use Rattle.final_index.specs.Planes.{HadThere};
 ghost use Rattle.candidate_sieve.specs.BlockGames.{
   AreAddedFor,
-  AreBare,
+  AreAlwaysEmpty,
   HadWanted,
   HaveEach,
   IsAddedFor,
-  IsRowAdded,
+  AreRowCandidatesAdded,
 };
 ghost use Rattle.candidate_sieve.specs.Candidates.{AreCandidatesAdded};
 
@@ -52,7 +52,7 @@ pub fn add_candidates(
     planes: &Planes,
     rows: &PlacementRows,
     wants: &Wants,
-    asked: u64,
+    games: u64,
     room: &mut Vec<u64>,
     found: &mut Vec<Candidate>,
 ) -> Result<(), NoMemory>
@@ -61,63 +61,84 @@ pub fn add_candidates(
       shape = rows.now.images.now.shape;
       grids = rows.now.images.now.grids;
     } }
-    ensures ok { OnOk result (AreCandidatesAdded planes.now rows.now.images.now.placements asked
+    ensures ok { OnOk result (AreCandidatesAdded planes.now rows.now.images.now.placements games
         found.old.items found.new.items) }
     ensures refused { OnErr result (IsPrefix found.old.items found.new.items) }
 {
-    let there = asked & planes.present();
-    let bare = planes.always_empty();
+    let among = games & planes.present();
+    let always_empty = planes.always_empty();
     let _count = rows.images.len();
     for row in &rows.rows {
         let wants = wants.of_class(row.class).wants;
         let numbers = &rows.numbers[row.start..row.start + row.count];
-        sieve_row(planes, bare, row.base, wants, numbers, there, room, found)?;
+        sieve_row(
+            planes,
+            always_empty,
+            row.base,
+            wants,
+            numbers,
+            among,
+            room,
+            found,
+        )?;
     }
     Ok(())
 }
 
-// Adds a candidate for each placement of a row that some of the games that are there may have: the
-// first has its upper left point on the base. In the bare games each point was empty at some node.
+// Adds a candidate for each placement of a row that some of the games `among` may have: the first has
+// its upper left point on the base. In the games `always_empty` each point was empty at some node.
 // Many rows have one placement, whose word needs no room.
 fn sieve_row(
     planes: &Planes,
-    bare: u64,
+    always_empty: u64,
     base: u16,
     wants: &[Want],
     numbers: &[u32],
-    there: u64,
+    among: u64,
     room: &mut Vec<u64>,
     found: &mut Vec<Candidate>,
 ) -> Result<(), NoMemory>
-    requires bare { AreBare planes.now bare }
+    requires always_empty { AreAlwaysEmpty planes.now always_empty }
     requires stones_first { AreStonesFirst wants.now }
     requires on_board { All (λ (w : Want). base + w.offset + length numbers.now
         ≤ point_count planes.now.shape) wants.now }
-    ensures ok { OnOk result (IsRowAdded planes.now.games base wants.now there numbers.now
+    ensures ok { OnOk result (AreRowCandidatesAdded planes.now.games base wants.now among numbers.now
         found.old.items found.new.items) }
     ensures refused { OnErr result (IsPrefix found.old.items found.new.items) }
 {
     if let [number] = numbers {
-        add_games(*number, games_at(planes, bare, base, wants, there), found)?;
+        add_games(
+            *number,
+            games_at(planes, always_empty, base, wants, among),
+            found,
+        )?;
         return Ok(());
     }
-    fill_room(planes, bare, base, wants, there, numbers.len(), room)?;
+    fill_room(
+        planes,
+        always_empty,
+        base,
+        wants,
+        among,
+        numbers.len(),
+        room,
+    )?;
     add_row(numbers, room, found)?;
     Ok(())
 }
 
-// Those of the games that are there which had, for each want, a cell that it allows on its point
-// behind the base.
-fn games_at(planes: &Planes, bare: u64, base: u16, wants: &[Want], there: u64) -> u64
-    requires bare { AreBare planes.now bare }
+// Those of the games `among` that had, for each want, a cell that it allows on its point behind the
+// base.
+fn games_at(planes: &Planes, always_empty: u64, base: u16, wants: &[Want], among: u64) -> u64
+    requires always_empty { AreAlwaysEmpty planes.now always_empty }
     requires stones_first { AreStonesFirst wants.now }
     requires on_board { All (λ (w : Want). base + w.offset + 1 ≤ point_count planes.now.shape)
         wants.now }
-    ensures { HaveEach planes.now.games base wants.now there (length wants.now) result }
+    ensures { HaveEach planes.now.games base wants.now among (length wants.now) result }
 {
-    let mut games = there;
+    let mut games = among;
     for k in 0..wants.len() {
-        if is_settled(wants[k], bare, games) {
+        if is_settled(wants[k], always_empty, games) {
             return games;
         }
         games = games_with(planes, wants[k], base + wants[k].offset, games);
@@ -125,14 +146,14 @@ fn games_at(planes: &Planes, bare: u64, base: u16, wants: &[Want], there: u64) -
     games
 }
 
-// Whether a want and those behind it ask nothing of the games of a word: there are none, or each is
-// bare and the want allows an empty point, as then the others do too.
-fn is_settled(want: Want, bare: u64, games: u64) -> bool
+// Whether a want and those behind it ask nothing of the games of a word: there are none, or in each
+// every point was empty at some node and the want allows an empty point, as then the others do too.
+fn is_settled(want: Want, always_empty: u64, games: u64) -> bool
     ensures { IsTrue result → (g : ℕ) → bit_at games g ≡ 1 →
-        (bit_at bare g ≡ 1) × IsTrue want.empty }
+        (bit_at always_empty g ≡ 1) × IsTrue want.empty }
 {
     if want.empty {
-        return are_among(games, bare);
+        return are_among(games, always_empty);
     }
     games == 0
 }
@@ -181,36 +202,37 @@ fn games_with_either(planes: &Planes, one: Cell, other: Cell, point: u16, games:
     games & (planes.word(point, one) | planes.word(point, other))
 }
 
-// Fills the room with so many words, one for each placement of a row: the games of those that are
-// there which may have it.
+// Fills the room with so many words, one for each placement of a row: those of the games `among` that
+// may have it.
 fn fill_room(
     planes: &Planes,
-    bare: u64,
+    always_empty: u64,
     base: u16,
     wants: &[Want],
-    there: u64,
+    among: u64,
     count: usize,
     room: &mut Vec<u64>,
 ) -> Result<(), NoMemory>
-    requires bare { AreBare planes.now bare }
+    requires always_empty { AreAlwaysEmpty planes.now always_empty }
     requires stones_first { AreStonesFirst wants.now }
     requires on_board { All (λ (w : Want). base + w.offset + count ≤ point_count planes.now.shape)
         wants.now }
     ensures count { OnOk result (length room.new.items ≡ count) }
     ensures games { OnOk result ((k : ℕ) → k < count → HaveEach planes.now.games (base + k)
-        wants.now there (length wants.now) (slice_index room.new.items k)) }
+        wants.now among (length wants.now) (slice_index room.new.items k)) }
 {
     room.clear();
-    room.resize(count, there)?;
-    keep_wanted(planes, bare, base, wants, room);
+    room.resize(count, among)?;
+    keep_wanted(planes, always_empty, base, wants, room);
     Ok(())
 }
 
 // Keeps in each word the games that had, for each want, a cell that it allows on its point, which
-// stands behind the base for the first word, behind the next point for the next, and so on. Most
-// games are bare, and then wants that allow an empty point ask nothing. The others stand first.
-fn keep_wanted(planes: &Planes, bare: u64, base: u16, wants: &[Want], words: &mut [u64])
-    requires bare { AreBare planes.now bare }
+// stands behind the base for the first word, behind the next point for the next, and so on. In most
+// games each point was empty at some node, and then wants that allow an empty point ask nothing. The
+// others stand first.
+fn keep_wanted(planes: &Planes, always_empty: u64, base: u16, wants: &[Want], words: &mut [u64])
+    requires always_empty { AreAlwaysEmpty planes.now always_empty }
     requires stones_first { AreStonesFirst wants.now }
     requires on_board { All (λ (w : Want). base + w.offset + length words.old
         ≤ point_count planes.now.shape) wants.now }
@@ -219,7 +241,7 @@ fn keep_wanted(planes: &Planes, bare: u64, base: u16, wants: &[Want], words: &mu
         (slice_index words.old k) (length wants.now) (slice_index words.new k) }
 {
     for k in 0..wants.len() {
-        if are_settled(wants[k], bare, words) {
+        if are_settled(wants[k], always_empty, words) {
             return;
         }
         keep_want(planes, wants[k], base + wants[k].offset, words);
@@ -228,14 +250,14 @@ fn keep_wanted(planes: &Planes, bare: u64, base: u16, wants: &[Want], words: &mu
 
 // Whether a want and those behind it ask nothing of the games of some words. Mostly the first word
 // alone tells that they ask something.
-fn are_settled(want: Want, bare: u64, words: &[u64]) -> bool
+fn are_settled(want: Want, always_empty: u64, words: &[u64]) -> bool
     ensures { IsTrue result → (k g : ℕ) → k < length words.now →
-        bit_at (slice_index words.now k) g ≡ 1 → (bit_at bare g ≡ 1) × IsTrue want.empty }
+        bit_at (slice_index words.now k) g ≡ 1 → (bit_at always_empty g ≡ 1) × IsTrue want.empty }
 {
-    if words.len() > 0 && !is_settled(want, bare, words[0]) {
+    if words.len() > 0 && !is_settled(want, always_empty, words[0]) {
         return false;
     }
-    is_settled(want, bare, joined(words))
+    is_settled(want, always_empty, joined(words))
 }
 
 // All games that are in some of the words. Each word is looked at, so the loop has no branch.

@@ -4,7 +4,7 @@ ghost use Rattle.std.specs.List.Sorted.{IsStrictlyIncreasing};
 ghost use Rattle.kb_geometry.specs.Board.{point_count};
 ghost use Rattle.capture_index.specs.NodePositions.{count_in};
 ghost use Rattle.candidate_sieve.specs.NodeCandidates.{AreAsked, IsNodeCandidate};
-ghost use Rattle.candidate_sieve.specs.Noting.{AreBeginsAdded, AreBegun, BeginsAt};
+ghost use Rattle.candidate_sieve.specs.Noting.{AreBeginningsAdded, AreBegun, BeginsAt};
 
 use crate::asked::AskedPoints;
 use capture_index::RunIndex;
@@ -34,16 +34,16 @@ pub fn candidates_under(
     alloc: Global,
     runs: &RunIndex,
     images: &Images,
-    asked: &AskedPoints,
+    points: &AskedPoints,
 ) -> Result<Vec<u32>, NoMemory>
     requires shape { images.now.shape ≡ runs.now.shape }
-    requires asked { AreAsked images.now.shape images.now.placements asked.now }
+    requires points { AreAsked images.now.shape images.now.placements points.now }
     ensures ascending { IfOk result (λ nodes. IsStrictlyIncreasing nodes.items) }
     ensures exact { IfOk result (λ nodes. (n : ℕ) → Contains nodes.items n
         ↔ IsNodeCandidate runs.now images.now.placements n) }
 {
     let _count = images.len();
-    let mut nodes = begun(alloc, runs, asked)?;
+    let mut nodes = begun(alloc, runs, points)?;
     nodes.sort_unstable();
     nodes.dedup();
     Ok(nodes)
@@ -51,12 +51,12 @@ pub fn candidates_under(
 
 // The root, and the nodes at which a point begins to have a cell that was noted; some perhaps
 // twice, in no order.
-fn begun(alloc: Global, runs: &RunIndex, asked: &AskedPoints) -> Result<Vec<u32>, NoMemory>
-    ensures { IfOk result (λ nodes. AreBegun runs.now asked.now nodes.items) }
+fn begun(alloc: Global, runs: &RunIndex, points: &AskedPoints) -> Result<Vec<u32>, NoMemory>
+    ensures { IfOk result (λ nodes. AreBegun runs.now points.now nodes.items) }
 {
     let mut nodes = root(alloc, runs)?;
     for point in 0..runs.shape().count() {
-        add_begun(runs, asked, point, &mut nodes)?;
+        add_begun(runs, points, point, &mut nodes)?;
     }
     Ok(nodes)
 }
@@ -77,33 +77,33 @@ fn root(alloc: Global, runs: &RunIndex) -> Result<Vec<u32>, NoMemory>
 // Adds the nodes at which a point begins to have a cell that was noted.
 fn add_begun(
     runs: &RunIndex,
-    asked: &AskedPoints,
+    points: &AskedPoints,
     point: u16,
     nodes: &mut Vec<u32>,
 ) -> Result<(), NoMemory>
     requires { point < point_count runs.now.shape }
-    ensures { OnOk result (AreBeginsAdded runs.now asked.now point nodes.old.items
+    ensures { OnOk result (AreBeginningsAdded runs.now points.now point nodes.old.items
         nodes.new.items) }
 {
-    add_where(runs, asked, point, Cell::Empty, nodes)?;
-    add_where(runs, asked, point, Cell::Black, nodes)?;
-    add_where(runs, asked, point, Cell::White, nodes)?;
+    add_where(runs, points, point, Cell::Empty, nodes)?;
+    add_where(runs, points, point, Cell::Black, nodes)?;
+    add_where(runs, points, point, Cell::White, nodes)?;
     Ok(())
 }
 
 // Adds the nodes at which a point begins to have a cell, if it was noted with it.
 fn add_where(
     runs: &RunIndex,
-    asked: &AskedPoints,
+    points: &AskedPoints,
     point: u16,
     cell: Cell,
     nodes: &mut Vec<u32>,
 ) -> Result<(), NoMemory>
     requires { point < point_count runs.now.shape }
     ensures { OnOk result ((n : ℕ) → Contains nodes.new.items n
-        ↔ (Contains nodes.old.items n ⊎ BeginsAt runs.now asked.now point cell n)) }
+        ↔ (Contains nodes.old.items n ⊎ BeginsAt runs.now points.now point cell n)) }
 {
-    if !asked.has(point, cell) {
+    if !points.has(point, cell) {
         return Ok(());
     }
     nodes.extend(runs.nodes_where(point, cell))?;

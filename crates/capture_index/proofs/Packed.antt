@@ -11,7 +11,7 @@ use Rattle.capture_board.specs.Deltas.{AreDeltas, Deltas, node_count}
 use Rattle.capture_index.specs.declared.packed_runs.PackedRuns.{PackedRuns}
 use Rattle.capture_index.specs.Branches.{AreBranchesTo}
 use Rattle.capture_index.specs.Building.{AreBuilt}
-use Rattle.capture_index.specs.Finding.{IsIndexOf, no_time}
+use Rattle.capture_index.specs.Finding.{IsRunIndexOf, no_time}
 use Rattle.std.specs.Prelude.{All, slice_range}
 use Rattle.kb_geometry.specs.declared.stone.Cell.TheVariants as stone
 use Rattle.capture_index.specs.declared.run.Run.{Run}
@@ -179,8 +179,8 @@ ArePacked-as points nodes nodes_after all count count_after times ends ends_afte
     (subst (λ (n : ℕ). ArePacked n points all count times ends runs) e packed)))
 
 -- ---- the whole index
-pub IsIndexOf-packed : (deltas : Deltas) (are : AreDeltas deltas) (index : PackedRuns) (points : List (List Run)) (all : ℕ) → AreBuilt deltas (node_count deltas) points → index.shape ≡ deltas.shape → index.nodes ≡ node_count deltas → AreBranchesTo deltas (node_count deltas) index.branches.items → ArePacked (node_count deltas) points all (point_count deltas.shape) index.times.items index.ends.items index.runs.items → IsIndexOf deltas index
-IsIndexOf-packed deltas are index points all built same nodes branches packed = record {
+pub IsRunIndexOf-packed : (deltas : Deltas) (are : AreDeltas deltas) (index : PackedRuns) (points : List (List Run)) (all : ℕ) → AreBuilt deltas (node_count deltas) points → index.shape ≡ deltas.shape → index.nodes ≡ node_count deltas → AreBranchesTo deltas (node_count deltas) index.branches.items → ArePacked (node_count deltas) points all (point_count deltas.shape) index.times.items index.ends.items index.runs.items → IsRunIndexOf deltas index
+IsRunIndexOf-packed deltas are index points all built same nodes branches packed = record {
   are = are;
   branches = branches;
   shape = same;

@@ -17,7 +17,7 @@ use Rattle.capture_index.specs.declared.stretch.Want.{Want}
 use Rattle.capture_index.specs.declared.time.Time.{Time}
 use Rattle.capture_index.specs.Begins.{BeginsFor, HasBegun}
 use Rattle.capture_index.specs.Branches.{parent_by}
-use Rattle.capture_index.specs.Finding.{AreMet, IsIndexOf, no_time, packed_cell}
+use Rattle.capture_index.specs.Finding.{AreMet, IsRunIndexOf, no_time, packed_cell}
 use Rattle.capture_index.specs.Lists.{runs_of}
 use Rattle.capture_index.specs.NodePositions.{NodePositions, cell_in, count_in, parent_in, positions_of}
 use Rattle.capture_index.specs.Runs.{cell_by}
@@ -92,7 +92,7 @@ the_seen shape parents positions = record { shape = shape; parents = parents; po
 same-seen : (s t : Shape) (ps qs : List (Option ℕ)) (xs ys : List Position) → s ≡ t → ps ≡ qs → xs ≡ ys → the_seen s ps xs ≡ the_seen t qs ys
 same-seen s t ps qs xs ys e f g = ap (λ (u : Shape). the_seen u ps xs) e ∙ ap (λ (us : List (Option ℕ)). the_seen t us xs) f ∙ ap (the_seen t qs) g
 
-module _ (deltas : Deltas) (packed : PackedRuns) (is : IsIndexOf deltas packed) where
+module _ (deltas : Deltas) (packed : PackedRuns) (is : IsRunIndexOf deltas packed) where
   count : length packed.times.items ≡ point_count deltas.shape
   count = packed.points ∙ ap point_count is.shape
 

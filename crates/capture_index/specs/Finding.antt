@@ -67,11 +67,11 @@ ArePointsFrom index base points = (length points + base ≡ point_count index.sh
 -- which is at most twice the number of nodes. Where `most` is below `MANY`, each want from the one with
 -- number `empties` on is met at all these nodes.
 pub record IsToldFor (index : PackedRuns) (base : ℕ) (wants : List Want) (empties : ℕ)
-    (told : WordBounds) : Type 0 where
+    (bounds : WordBounds) : Type 0 where
   pub kept : (n : ℕ) → n < index.nodes → AreMet index base wants n →
-      (told.latest / 2 ≤ n) × (n < told.least / 2)
-  pub within : told.least ≤ 2 * index.nodes
-  pub met : told.most < MANY → (n : ℕ) → told.latest / 2 ≤ n → n < told.least / 2 →
+      (bounds.latest / 2 ≤ n) × (n < bounds.least / 2)
+  pub within : bounds.least ≤ 2 * index.nodes
+  pub met : bounds.most < MANY → (n : ℕ) → bounds.latest / 2 ≤ n → n < bounds.least / 2 →
       (k : ℕ) → empties ≤ k → k < length wants → IsMet index base (slice_index_or wants k no_want) n
 
 -- the nodes that are left are those at which the first so many wants with lists are met
@@ -88,7 +88,7 @@ IsCutAt index base want before after =
     (is_many (time_at index (base + want.offset)) ≡ true → IsMet index base want n))
 
 -- the index tells the cell of each point at each node of the game
-pub record IsIndexOf (deltas : Deltas) (index : PackedRuns) : Type 0 where
+pub record IsRunIndexOf (deltas : Deltas) (index : PackedRuns) : Type 0 where
   pub are : AreDeltas deltas
   pub shape : index.shape ≡ deltas.shape
   pub nodes : index.nodes ≡ node_count deltas

@@ -62,15 +62,15 @@ impl PackedRuns {
             });
         }
         let points = self.points_from(base);
-        let Some(told) = self.told_by_words(base, points, class) else {
+        let Some(by_words) = self.told_by_words(base, points, class) else {
             return None;
         };
         let start = Bounds {
-            latest: told.latest,
-            least: told.least,
+            latest: by_words.latest,
+            least: by_words.least,
             gaps: 0,
         };
-        let to = left_by_words(class, told);
+        let to = left_by_words(class, by_words);
         self.with_wants_before(base, points, class.wants, to, start)
     }
 
@@ -122,11 +122,11 @@ impl PackedRuns {
 }
 
 // How many wants are to be looked at still: those of empty points aren't, where words tell all.
-fn left_by_words(class: ClassWants, told: WordBounds) -> usize
+fn left_by_words(class: ClassWants, by_words: WordBounds) -> usize
     ensures { (result ≡ length class.entry.wants.now)
-        ⊎ ((result ≡ class.entry.empties) × (told.most < MANY)) }
+        ⊎ ((result ≡ class.entry.empties) × (by_words.most < MANY)) }
 {
-    if told.most < u32::from(MANY) {
+    if by_words.most < u32::from(MANY) {
         class.empties
     } else {
         class.wants.len()

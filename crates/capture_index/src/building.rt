@@ -8,7 +8,7 @@ ghost use Rattle.capture_board.specs.Deltas.{node_count, parent_of, position_at,
 ghost use Rattle.capture_board.specs.StoredWalking.{with_old_cells};
 ghost use Rattle.capture_index.specs.Branches.{AreBranchesTo};
 ghost use Rattle.capture_index.specs.Building.{AreBuilt, IsMade};
-ghost use Rattle.capture_index.specs.Finding.{IsIndexOf};
+ghost use Rattle.capture_index.specs.Finding.{IsRunIndexOf};
 ghost use Rattle.capture_index.specs.Packing.{IsPacked, IsWordOf, IsWordOfRun};
 ghost use Rattle.capture_index.specs.Runs.{BeginBy, position_by, runs_at};
 ghost use Rattle.capture_index.specs.Lists.{AreLists};
@@ -24,7 +24,7 @@ use std::alloc::Global;
 impl PackedRuns {
     // The runs of a game. The only error is `NoMemory`.
     pub(crate) fn of(alloc: Global, deltas: &NodeDeltas) -> Result<PackedRuns, NoMemory>
-        ensures { IfOk result (IsIndexOf deltas.now) }
+        ensures { IfOk result (IsRunIndexOf deltas.now) }
     {
         let mut growing = Growing::new(alloc, deltas.shape().count(), deltas.node_count())?;
         let mut branches = Vec::new(alloc);
@@ -139,7 +139,7 @@ fn pack(
 ) -> Result<PackedRuns, NoMemory>
     requires built { AreBuilt deltas.now (node_count deltas.now) growing.now }
     requires branches { AreBranchesTo deltas.now (node_count deltas.now) branches.items }
-    ensures { IfOk result (IsIndexOf deltas.now) }
+    ensures { IfOk result (IsRunIndexOf deltas.now) }
 {
     let nodes = deltas.node_count();
     let shape = deltas.shape();

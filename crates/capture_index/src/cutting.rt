@@ -63,13 +63,13 @@ fn cut_one(
     found: &mut Vec<Stretch>,
 ) -> Result<usize, NoMemory>
     requires within { start ≤ length runs.now }
-    requires told { AreToldBehind runs.now start stretch.to }
+    requires behind { AreToldBehind runs.now start stretch.to }
     requires some { stretch.from < stretch.to }
     ensures nodes { OnOk result ((n : ℕ) → IsIn found.new.items n ↔
         (IsIn found.old.items n ⊎ (IsWithin n stretch ×
         IsTrue (is_wanted want (cell_by runs.now n))))) }
     ensures within { IfOk result (λ next. next ≤ length runs.now) }
-    ensures told { IfOk result (λ next. AreToldBehind runs.now next stretch.from) }
+    ensures behind { IfOk result (λ next. AreToldBehind runs.now next stretch.from) }
     ensures apart { OnOk result ((most : ℕ) → stretch.to ≤ most →
         AreApart stretch.to most found.old.items → AreApart stretch.from most found.new.items) }
 {
@@ -91,9 +91,9 @@ fn cut_one(
 // Passes the runs from `start` on that begin at the node or behind it: they tell no cell before it.
 fn pass_later(runs: &[Run], start: usize, node: u32) -> usize
     requires within { start ≤ length runs.now }
-    requires told { AreToldBehind runs.now start node }
+    requires behind { AreToldBehind runs.now start node }
     ensures within { result ≤ length runs.now }
-    ensures told { AreToldBehind runs.now result node }
+    ensures behind { AreToldBehind runs.now result node }
 {
     for at in start..runs.len() {
         if u32::from(runs[at].first) < node {

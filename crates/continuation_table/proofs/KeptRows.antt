@@ -14,7 +14,8 @@ use Rattle.pattern_images.specs.declared.hit.Hit.{Hit}
 use Rattle.pattern_images.specs.declared.hit.Next.{Next}
 use Rattle.continuation_table.specs.declared.table.Row.{Row}
 use Rattle.continuation_table.specs.declared.tally.Tally.{Tally}
-use Rattle.continuation_table.specs.Counting.{HaveSameNext, IsPlaceIn, IsRowAdded, IsWithinCount, absent, counted, one_if, there}
+use Rattle.continuation_table.specs.Counting.{HaveSameNext, IsPlaceIn, IsRowAdded, IsWithinCount, absent, counted, there}
+use Rattle.game_tree.specs.Stored.{one_if}
 use Rattle.continuation_table.specs.Table.{AreRows, IsRowOf, IsTold, going_on, goes_on, is_colour, is_later, is_no_win, is_now, is_win, tally_of}
 use Rattle.continuation_table.proofs.RowOrder.{at_above, at_below, at_place, new_before, no_same, only_one, ordered_insert, ordered_set, same_self, set_same}
 

@@ -1,15 +1,12 @@
 -- Words of the private functions that count hits and keep the rows.
-use Rattle.std.specs.Prelude.{◌≡◌, ℕ, ◌+◌, ◌<◌, ◌≤◌, Bool, List, length, slice_index_or, slice_set, if◌then◌else◌}
+use Rattle.std.specs.Prelude.{◌≡◌, ℕ, ◌+◌, ◌<◌, ◌≤◌, List, length, slice_index_or, slice_set}
 use Rattle.std.specs.List.{insert}
 use Rattle.kb_geometry.specs.declared.stone.Colour.TheVariants as colour
+use Rattle.game_tree.specs.Stored.{one_if}
 use Rattle.pattern_images.specs.declared.hit.Hit.{Hit}
 use Rattle.continuation_table.specs.declared.table.Row.{Row}
 use Rattle.continuation_table.specs.declared.tally.Tally.{Tally}
 use Rattle.continuation_table.specs.Table.{IsRowBefore, is_later, is_no_win, is_now, is_win}
-
--- 1 if it is true, else 0
-abbrev pub one_if : Bool → ℕ
-one_if b = if b then 1 else 0
 
 -- the tally with one hit more
 abbrev pub counted : Tally → Hit → Tally

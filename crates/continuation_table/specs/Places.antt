@@ -11,7 +11,7 @@ IsPlaceBefore a b = (a.y < b.y)
     ⊎ ((a.y ≡ b.y) × ((a.x < b.x)
     ⊎ ((a.x ≡ b.x) × (number_of_label a.label < number_of_label b.label))))
 
--- So many of the placements, the first ones, have a place that comes before this one.
+-- The placements whose place comes before this one are the first so many.
 pub record AreBeforePlace (placements : List Placement) (place : Place) (count : ℕ) : Type 0 where
   pub most : count ≤ length placements
   pub before : (i : ℕ) (other : Place) → i < count → IsPlaceOf (placement_at placements i) other →

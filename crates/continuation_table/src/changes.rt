@@ -16,7 +16,6 @@ ghost use Rattle.continuation_table.specs.Descending.{
   IsSpan,
 };
 
-use crate::allowing::allows;
 use capture_board::NodeDeltas;
 use kb_geometry::{Cell, Change, Point, Shape};
 use pattern_images::{Images, Place};
@@ -148,5 +147,5 @@ fn allows_inside(images: &Images, i: usize, dx: u8, dy: u8, cell: Cell) -> bool
     requires row { dy < (placement_at images.now.placements i).grid.rows }
     ensures { IsTrue result ↔ Allows (cell_in (placement_at images.now.placements i).grid dx dy) cell }
 {
-    allows(images.cell(i, dx, dy), cell)
+    images.cell(i, dx, dy).allows(cell)
 }

@@ -6,7 +6,6 @@
 //! the table.
 #![tactic(auto)]
 
-mod allowing;
 mod changes;
 mod continuation;
 mod known_cells;

@@ -8,7 +8,6 @@ ghost use Rattle.line_matcher.specs.Occurrences.{HoldsAt};
 ghost use Rattle.continuation_table.specs.Places.{AreBeforePlace, IsPlaceBefore};
 ghost use Rattle.continuation_table.specs.Rebuilding.{known_cell};
 
-use crate::allowing::allows;
 use crate::known_cells::KnownCells;
 use capture_board::NodeDeltas;
 use kb_geometry::Point;
@@ -16,8 +15,8 @@ use pattern_images::{Images, Place};
 
 /// The number of the placement with this place, where there is one. In each case it is how many
 /// placements have a place before this one, by row, then by column, then by label. So where no
-/// placement has the place, the number may be that of another one, or the count of placements. It
-/// takes as many comparisons as the logarithm of that count.
+/// placement has the place, the number is that of another one, or the count of placements. It takes
+/// as many comparisons as the logarithm of that count.
 pub fn number_of_place(images: &Images, place: Place) -> usize
     ensures there { (i : ℕ) → i < length images.now.placements →
         IsPlaceOf (placement_at images.now.placements i) place → result ≡ i }
@@ -82,7 +81,7 @@ fn row_holds(images: &Images, i: usize, known: &KnownCells, dy: u8) -> bool
             x: place.x + dx,
             y: place.y + dy,
         });
-        if !allows(images.cell(i, dx, dy), known.cell(point)) {
+        if !images.cell(i, dx, dy).allows(known.cell(point)) {
             return false;
         }
     }

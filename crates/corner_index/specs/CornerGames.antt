@@ -40,7 +40,7 @@ AreEntriesOfBoth a b first joined = (key g : ℕ) → Contains joined (entry key
     ↔ (Contains a (entry key g)
     ⊎ ((h : ℕ) × Contains b (entry key h) × (g ≡ first + h)))
 
--- those of each corner
+-- the entries of each corner are those of two indexes, put together so
 abbrev pub IsIndexOfBoth : List (List Entry) → List (List Entry) → ℕ → List (List Entry) → Type 0
 IsIndexOfBoth a b first joined = (corner : ℕ) → corner < 4 →
     AreEntriesOfBoth (entries_in a corner) (entries_in b corner) first (entries_in joined corner)

@@ -18,7 +18,7 @@ use Rattle.capture_board.proofs.DeltaPaths.{length-position_where, position_at-s
 use Rattle.capture_board.proofs.NetChanges.{AreChangesOf-apart, at_change, changed_or_not, with_changes-new, with_changes-unchanged}
 use Rattle.final_index.specs.declared.ever_sets.EverSets.{EverSets}
 use Rattle.final_index.specs.Ever.{set_of}
-use Rattle.final_index.specs.Gathering.{AreAdded, AreGathered, AreUntouched, HasMade}
+use Rattle.final_index.specs.Gathering.{AreAdded, AreGathered, AreUntouched, MakesCell}
 
 none_there : (ns : List ℕ) → ns ≡ [] → (p : ℕ) → Contains ns p → ⊥
 none_there ns e p there = omega (arith, there.1, ap length e)
@@ -27,16 +27,16 @@ none_there ns e p there = omega (arith, there.1, ap length e)
 
 module _ (before : Position) (changes : List Change) (are : AreChangesOf before changes) (p : ℕ) (stone : Cell) where
   -- what a change makes it stands there
-  cell-made : HasMade changes p stone → cell_at (with_changes before changes) p ≡ stone
+  cell-made : MakesCell changes p stone → cell_at (with_changes before changes) p ≡ stone
   cell-made m =
       let new = at_change (λ (c : Change). cell_at (with_changes before changes) c.point ≡ c.new) changes (with_changes-new before changes are.on_board (AreChangesOf-apart before changes are)) m.0 m.1 m.2 m.3 in
       ap (cell_at (with_changes before changes)) (sym m.4.0) ∙ new ∙ m.4.1
 
-  made-on_board : HasMade changes p stone → p < length before
+  made-on_board : MakesCell changes p stone → p < length before
   made-on_board m = let within = at_change (λ (c : Change). c.point < length before) changes are.on_board m.0 m.1 m.2 m.3 in omega (arith, m.4.0)
 
   -- what stands there was made by a change, or from before
-  cell-cases : cell_at (with_changes before changes) p ≡ stone → HasMade changes p stone ⊎ (All (λ (c : Change). c.point ≢ p) changes × (cell_at before p ≡ stone))
+  cell-cases : cell_at (with_changes before changes) p ≡ stone → MakesCell changes p stone ⊎ (All (λ (c : Change). c.point ≢ p) changes × (cell_at before p ≡ stone))
   cell-cases e =
       elim (changed_or_not p changes) [
         | inl m ↦
@@ -59,13 +59,13 @@ module _ (deltas : Deltas) (are : AreDeltas deltas) where
   within_most n lt changes is = All-weaker (λ (c : Change). c.point < point_count deltas.shape) (λ (c : Change). c.point < MAX_POINTS) (λ c h. omega (arith, point_count-le-most deltas.shape)) changes (on_board n lt changes is)
 
   module _ (n : ℕ) (lt : n < node_count deltas) (p : ℕ) (stone : Cell) where
-    node-made : HasMade (changes_of deltas n) p stone → (p < point_count deltas.shape) × (cell_at (position_at deltas n) p ≡ stone)
+    node-made : MakesCell (changes_of deltas n) p stone → (p < point_count deltas.shape) × (cell_at (position_at deltas n) p ≡ stone)
     node-made m = (
       omega (arith, made-on_board (above n) (changes_of deltas n) (are.changes n lt) p stone m, length-position_where deltas (parent_of deltas n)),
       ap (λ q. cell_at q p) (position_at-step deltas are n) ∙ cell-made (above n) (changes_of deltas n) (are.changes n lt) p stone m,
     )
 
-    node-cases : cell_at (position_at deltas n) p ≡ stone → HasMade (changes_of deltas n) p stone ⊎ (All (λ (c : Change). c.point ≢ p) (changes_of deltas n) × (cell_at (above n) p ≡ stone))
+    node-cases : cell_at (position_at deltas n) p ≡ stone → MakesCell (changes_of deltas n) p stone ⊎ (All (λ (c : Change). c.point ≢ p) (changes_of deltas n) × (cell_at (above n) p ≡ stone))
     node-cases e = cell-cases (above n) (changes_of deltas n) (are.changes n lt) p stone (sym (ap (λ q. cell_at q p) (position_at-step deltas are n)) ∙ e)
 
   -- the first node has no parent

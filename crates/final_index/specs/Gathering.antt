@@ -9,13 +9,13 @@ use Rattle.final_index.specs.declared.ever_sets.EverSets.{EverSets}
 use Rattle.final_index.specs.Ever.{set_of}
 
 -- some change makes the point this cell
-abbrev pub HasMade : List Change → ℕ → Cell → Type 0
-HasMade changes p stone = Any (λ (c : Change). (c.point ≡ p) × (c.new ≡ stone)) changes
+abbrev pub MakesCell : List Change → ℕ → Cell → Type 0
+MakesCell changes p stone = Any (λ (c : Change). (c.point ≡ p) × (c.new ≡ stone)) changes
 
 -- each set has gained the points that these changes make its cell
 abbrev pub AreAdded : EverSets → List Change → EverSets → Type 0
 AreAdded before changes after = (stone : Cell) (p : ℕ) → Contains (set_of after stone) p
-    ↔ (Contains (set_of before stone) p ⊎ HasMade changes p stone)
+    ↔ (Contains (set_of before stone) p ⊎ MakesCell changes p stone)
 
 -- the numbers below the count on which no change is
 abbrev pub AreUntouched : ℕ → List Change → List ℕ → Type 0

@@ -30,7 +30,7 @@ game_in points present words g = if bit_at present g == 1 then Some (record {
   empty = points_with points words g cell.Empty;
 }) else None
 
--- the games of the words, so many
+-- the first so many games, as the words have them
 unfoldable pub games_of_words : ℕ → ℕ → List ℕ → ℕ → List (Option EverSets)
 games_of_words points present words count =
     map (game_in points present words) (range_with_len 0 count)

@@ -34,27 +34,27 @@ module _ (hits : List Hit) (i : ℕ) (hit : Hit) (below : i < length hits) (is :
 
 -- ---- the boxes
 
-module _ {A : Type 0} (told : A → BoxTally) (hits : List Hit) (old now : List A) (i : ℕ) (board : A) (below : i < length old)
+module _ {A : Type 0} (told : A → BoxTally) (hits : List Hit) (old now : List A) (i : ℕ) (some_box : A) (below : i < length old)
     (same_length : length now ≡ length old) (so_far : map told now ≡ all_with_hits hits (take i (map told old)) ++ drop i (map told old)) where
   within : i < length (map told old)
   within = subst (λ n. i < n) (sym (length-map old told)) below
 
-  reads_now : told (get_or now i board) ≡ get_or (map told now) i (told (get_or now i board))
-  reads_now = sym (get_or-map told now i board (told (get_or now i board)) (subst (λ n. i < n) (sym same_length) below))
+  reads_now : told (get_or now i some_box) ≡ get_or (map told now) i (told (get_or now i some_box))
+  reads_now = sym (get_or-map told now i some_box (told (get_or now i some_box)) (subst (λ n. i < n) (sym same_length) below))
 
   fed_length : length (all_with_hits hits (take i (map told old))) ≡ i
   fed_length = length-map (take i (map told old)) (with_hits hits) ∙ length-take-le i (map told old) (omega (arith, within))
 
-  pub fed_next : (new : A) → told new ≡ with_hits hits (told (get_or now i board)) → map told (set now i new) ≡ all_with_hits hits (take (i + 1) (map told old)) ++ drop (i + 1) (map told old)
+  pub fed_next : (new : A) → told new ≡ with_hits hits (told (get_or now i some_box)) → map told (set now i new) ≡ all_with_hits hits (take (i + 1) (map told old)) ++ drop (i + 1) (map told old)
   fed_next new fed =
       map-set told now i new
       ∙ ap (set (map told now) i) fed
-      ∙ map_over_more (with_hits hits) (map told old) (map told now) i (told (get_or now i board)) within so_far reads_now
+      ∙ map_over_more (with_hits hits) (map told old) (map told now) i (told (get_or now i some_box)) within so_far reads_now
 
   -- the box is told alike in both lists
-  same_told : told (get_or now i board) ≡ get_or (map told old) i (told (get_or now i board))
+  same_told : told (get_or now i some_box) ≡ get_or (map told old) i (told (get_or now i some_box))
   same_told =
-      let d = told (get_or now i board) in
+      let d = told (get_or now i some_box) in
       let here : i + (i - i) ≡ i = omega arith in
       reads_now
       ∙ ap (λ (boxes : List BoxTally). get_or boxes i d) so_far
@@ -62,20 +62,20 @@ module _ {A : Type 0} (told : A → BoxTally) (hits : List Hit) (old now : List 
       ∙ get_or-drop i (map told old) (i - i) d
       ∙ ap (λ (k : ℕ). get_or (map told old) k d) here
 
-  pub refused_box : {T E : Type 0} (result : Result T E) (new : A) → IsPartTaken hits (told (get_or now i board)) (told new) → OnErr result (IsFedInPart hits (map told old) (map told (set now i new)))
+  pub refused_box : {T E : Type 0} (result : Result T E) (new : A) → IsPartTaken hits (told (get_or now i some_box)) (told new) → OnErr result (IsFedInPart hits (map told old) (map told (set now i new)))
   refused_box result new part = elim result as (λ r. OnErr r (IsFedInPart hits (map told old) (map told (set now i new)))) [
     | Ok x ↦ tt
     | Err e ↦ record {
       earlier = take i (map told old);
-      before = told (get_or now i board);
+      before = told (get_or now i some_box);
       after = told new;
       later = drop (suc i) (map told old);
-      boxes = split_at (map told old) i (told (get_or now i board)) within ∙ ap (λ (box : BoxTally). take i (map told old) ++ box ∷ drop (suc i) (map told old)) (sym same_told);
+      boxes = split_at (map told old) i (told (get_or now i some_box)) within ∙ ap (λ (box : BoxTally). take i (map told old) ++ box ∷ drop (suc i) (map told old)) (sym same_told);
       in_part = part;
       told = map-set told now i new
           ∙ ap (λ (boxes : List BoxTally). set boxes i (told new))
-          (so_far ∙ ap (λ (rest : List BoxTally). all_with_hits hits (take i (map told old)) ++ rest) (drop-cons (map told old) i (told (get_or now i board)) within))
-          ∙ set_at (all_with_hits hits (take i (map told old))) (get_or (map told old) i (told (get_or now i board))) (drop (suc i) (map told old)) (told new) i fed_length;
+          (so_far ∙ ap (λ (rest : List BoxTally). all_with_hits hits (take i (map told old)) ++ rest) (drop-cons (map told old) i (told (get_or now i some_box)) within))
+          ∙ set_at (all_with_hits hits (take i (map told old))) (get_or (map told old) i (told (get_or now i some_box))) (drop (suc i) (map told old)) (told new) i fed_length;
     }
   ]
 
@@ -91,28 +91,28 @@ module _ {A : Type 0} (told : A → BoxTally) (hits : List Hit) (old now : List 
       ∙ ap (all_with_hits hits) (take-map told i old)
 
   module _ (later : drop i now ≡ drop i old) where
-    same_box : get_or now i board ≡ get_or old i board
+    same_box : get_or now i some_box ≡ get_or old i some_box
     same_box =
         let here : i + 0 ≡ i = omega arith in
-        ap (λ (k : ℕ). get_or now k board) (sym here) ∙ sym (get_or-drop i now 0 board)
-        ∙ ap (λ (boxes : List A). get_or boxes 0 board) later
-        ∙ get_or-drop i old 0 board ∙ ap (λ (k : ℕ). get_or old k board) here
+        ap (λ (k : ℕ). get_or now k some_box) (sym here) ∙ sym (get_or-drop i now 0 some_box)
+        ∙ ap (λ (boxes : List A). get_or boxes 0 some_box) later
+        ∙ get_or-drop i old 0 some_box ∙ ap (λ (k : ℕ). get_or old k some_box) here
 
     same_later : drop (suc i) now ≡ drop (suc i) old
     same_later =
         let next : i + 1 ≡ suc i = omega arith in
         subst (λ (n : ℕ). drop n now ≡ drop n old) next (drop_more_same now old i later)
 
-    pub refused_at : {T E : Type 0} (result : Result T E) (new : A) → IsPartTaken hits (told (get_or now i board)) (told new) → OnErr result (IsRefusedAt told hits old (set now i new))
+    pub refused_at : {T E : Type 0} (result : Result T E) (new : A) → IsPartTaken hits (told (get_or now i some_box)) (told new) → OnErr result (IsRefusedAt told hits old (set now i new))
     refused_at result new part = elim result as (λ r. OnErr r (IsRefusedAt told hits old (set now i new))) [
       | Ok x ↦ tt
       | Err e ↦ record {
         earlier = take i old;
         fed = take i now;
-        before = get_or now i board;
+        before = get_or now i some_box;
         after = new;
         later = drop (suc i) old;
-        boxes = split_at old i board below ∙ ap (λ (box : A). take i old ++ box ∷ drop (suc i) old) (sym same_box);
+        boxes = split_at old i some_box below ∙ ap (λ (box : A). take i old ++ box ∷ drop (suc i) old) (sym same_box);
         in_part = part;
         told = fed_told;
         left = set_split now i new (subst (λ n. i < n) (sym same_length) below) ∙ ap (λ (boxes : List A). take i now ++ new ∷ boxes) same_later;
@@ -123,8 +123,8 @@ module _ {A : Type 0} (old now : List A) (i : ℕ) where
   pub fed_later : (new : A) → drop i now ≡ drop i old → drop (i + 1) (set now i new) ≡ drop (i + 1) old
   fed_later new later = drop-set-lt (i + 1) now i new (omega arith) ∙ drop_more_same now old i later
 
-  pub fed_no_hits : (board : A) → now ≡ old → (new : A) → new ≡ get_or now i board → set now i new ≡ old
-  fed_no_hits board same new is = ap (set now i) is ∙ set-get_or now i board ∙ same
+  pub fed_no_hits : (some_box : A) → now ≡ old → (new : A) → new ≡ get_or now i some_box → set now i new ≡ old
+  fed_no_hits some_box same new is = ap (set now i) is ∙ set-get_or now i some_box ∙ same
 
 module _ {A : Type 0} (told : A → BoxTally) (hits : List Hit) (old now : List A) (i : ℕ) where
   pub all_fed : length old ≤ i → map told now ≡ all_with_hits hits (take i (map told old)) ++ drop i (map told old) → map told now ≡ all_with_hits hits (map told old)

@@ -35,7 +35,7 @@ pub trait Collector: Drop {
 
 /// A box shows what is in it.
 impl Collector for Box<dyn Collector> {
-    ghost tally = { λ board. (Collector-box board).tally board.value };
+    ghost tally = { λ b. (Collector-box b).tally b.value };
 
     fn name(&self) -> &str {
         (**self).name()

@@ -14,12 +14,12 @@ use pattern_images::Hit;
 /// hits, it has those before the hit that it refused, and the later boxes are as they were. So are
 /// all boxes where there is no hit.
 pub fn feed<C: Collector>(boards: &mut [C], hits: &[Hit]) -> Result<(), NoMemory>
-    ensures ok { OnOk result (map (λ board. C.tally board) boards.new
-        ≡ all_with_hits hits.now (map (λ board. C.tally board) boards.old)) }
-    ensures refused { OnErr result (IsFedInPart hits.now (map (λ board. C.tally board) boards.old)
-        (map (λ board. C.tally board) boards.new)) }
+    ensures ok { OnOk result (map (λ b. C.tally b) boards.new
+        ≡ all_with_hits hits.now (map (λ b. C.tally b) boards.old)) }
+    ensures refused { OnErr result (IsFedInPart hits.now (map (λ b. C.tally b) boards.old)
+        (map (λ b. C.tally b) boards.new)) }
     ensures later { OnErr result
-        (IsRefusedAt (λ board. C.tally board) hits.now boards.old boards.new) }
+        (IsRefusedAt (λ b. C.tally b) hits.now boards.old boards.new) }
     ensures no_hits { hits.now ≡ [] → boards.new ≡ boards.old }
 {
     for i in 0..boards.len() {
@@ -29,14 +29,14 @@ pub fn feed<C: Collector>(boards: &mut [C], hits: &[Hit]) -> Result<(), NoMemory
 }
 
 // Gives all hits to a box, in order.
-fn feed_box<C: Collector>(board: &mut C, hits: &[Hit]) -> Result<(), NoMemory>
-    ensures ok { OnOk result (C.tally board.new ≡ with_hits hits.now (C.tally board.old)) }
+fn feed_box<C: Collector>(collector: &mut C, hits: &[Hit]) -> Result<(), NoMemory>
+    ensures ok { OnOk result (C.tally collector.new ≡ with_hits hits.now (C.tally collector.old)) }
     ensures refused { OnErr result
-        (IsPartTaken hits.now (C.tally board.old) (C.tally board.new)) }
-    ensures no_hits { hits.now ≡ [] → board.new ≡ board.old }
+        (IsPartTaken hits.now (C.tally collector.old) (C.tally collector.new)) }
+    ensures no_hits { hits.now ≡ [] → collector.new ≡ collector.old }
 {
     for hit in hits {
-        board.take(hit)?;
+        collector.take(hit)?;
     }
     Ok(())
 }

@@ -23,12 +23,12 @@ impl Error for NoSuchName {}
 /// box has it, and then nothing changes. Nothing is allocated.
 pub fn retire<C: Collector>(boards: &mut Vec<C>, name: &str) -> Result<(), NoSuchName>
     ensures ok { OnOk result
-        (IsRetired (λ board. (C.tally board).name) name.now boards.old.items boards.new.items) }
+        (IsRetired (λ b. (C.tally b).name) name.now boards.old.items boards.new.items) }
     ensures told { OnOk result (IsRetired (λ told. told.name) name.now
-        (map (λ board. C.tally board) boards.old.items)
-        (map (λ board. C.tally board) boards.new.items)) }
+        (map (λ b. C.tally b) boards.old.items)
+        (map (λ b. C.tally b) boards.new.items)) }
     ensures none { OnErr result
-        (All (λ board. (C.tally board).name ≢ name.now) boards.old.items) }
+        (All (λ b. (C.tally b).name ≢ name.now) boards.old.items) }
     ensures same { OnErr result (boards.new.items ≡ boards.old.items) }
 {
     let Some(i) = first_named(boards, name) else {
@@ -54,8 +54,8 @@ fn first_named<C: Collector>(boxes: &[C], name: &str) -> Option<usize>
 }
 
 // Whether a box has this name.
-fn has_name<C: Collector>(board: &C, name: &str) -> bool
-    ensures { IsTrue result ↔ ((C.tally board.now).name ≡ name.now) }
+fn has_name<C: Collector>(collector: &C, name: &str) -> bool
+    ensures { IsTrue result ↔ ((C.tally collector.now).name ≡ name.now) }
 {
-    board.name() == name
+    collector.name() == name
 }

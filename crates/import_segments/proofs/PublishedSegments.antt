@@ -9,12 +9,12 @@ use Rattle.import_work.specs.Course.{trees_in}
 use Rattle.import_work.specs.Imports.{GivesAll, HasGiven, ImportState, IsListedIn}
 use Rattle.import_work.specs.Log.{Segment, games_of_segments}
 use Rattle.import_work.specs.Outcome.{counts_of}
-use Rattle.import_work.specs.Rooms.{AreWithinLimits}
+use Rattle.import_work.specs.Rooms.{AreCountsWithinLimits}
 use Rattle.import_work.specs.declared.report.Report.{Report}
 use Rattle.import_work.proofs.FoundSegments.{gives_all, gives_first}
 use Rattle.import_work.proofs.GivenSegments.{adds_up}
 use Rattle.import_work.proofs.RoomLemmas.{counts_of-more}
-use Rattle.import_segments.specs.Publishing.{IsOpenedWith, IsWithinLimits, PublishesAll, PublishesFirst}
+use Rattle.import_segments.specs.Publishing.{IsOpenedWith, IsLogWithinLimits, PublishesAll, PublishesFirst}
 use Rattle.import_segments.specs.Published.{HasPublished, HasPublishedAll, version_of}
 use Rattle.import_segments.proofs.PushedSegments.{games_pushed}
 
@@ -70,13 +70,13 @@ module _ (told : Option (List File)) (batch : ℕ) (any : 1 ≤ batch) (start : 
         counts_of-more start.counts h.now.counts (items_in log_before) (games_of_segments h.taken.segments) (items_in log_now) opened.counts adds.counted
         (games_pushed (version_of log_before) (version_of log_now) h.taken.segments h.taken.pushed)
 
-    pub limits_kept : IsWithinLimits log_before → IsWithinLimits log_now
+    pub limits_kept : IsLogWithinLimits log_before → IsLogWithinLimits log_now
     limits_kept within = elim (cases_lt 0 (length (games_of_segments h.taken.segments))) [
       | inl some ↦
           let adds = adds_up told batch start first h.now h.taken.segments h.faults any h.taken.given in
-          subst AreWithinLimits counts_now (adds.room (λ none. omega (arith, some, ap length none)))
+          subst AreCountsWithinLimits counts_now (adds.room (λ none. omega (arith, some, ap length none)))
       | inr none ↦
           let empty : games_of_segments h.taken.segments ≡ [] = nil_from_length (games_of_segments h.taken.segments) (omega (arith, none)) in
           let same : items_in log_now ≡ items_in log_before = games_pushed (version_of log_before) (version_of log_now) h.taken.segments h.taken.pushed ∙ ap (λ gs. items_in log_before ++ gs) empty ∙ append-nil (items_in log_before) in
-          subst (λ gs. AreWithinLimits (counts_of (trees_in gs))) (sym same) within
+          subst (λ gs. AreCountsWithinLimits (counts_of (trees_in gs))) (sym same) within
     ]

@@ -10,7 +10,7 @@ use Rattle.import_work.specs.Course.{trees_in}
 use Rattle.import_work.specs.Imports.{GivesAll, GivesFirst, HasGiven, ImportState, IsListed}
 use Rattle.import_work.specs.Log.{Segment}
 use Rattle.import_work.specs.Outcome.{counts_of}
-use Rattle.import_work.specs.Rooms.{AreWithinLimits}
+use Rattle.import_work.specs.Rooms.{AreCountsWithinLimits}
 use Rattle.import_work.specs.declared.report.Report.{Report}
 
 -- nothing is pending
@@ -26,8 +26,8 @@ pub record IsOpenedWith (log : List Segment) (import : ImportState) : Type 0 whe
   pub listed : IsListed import.source import.body import.left
 
 -- the games and nodes of the log are within the limits of the base
-abbrev pub IsWithinLimits : List Segment → Type 0
-IsWithinLimits log = AreWithinLimits (counts_of (trees_in (items_in log)))
+abbrev pub IsLogWithinLimits : List Segment → Type 0
+IsLogWithinLimits log = AreCountsWithinLimits (counts_of (trees_in (items_in log)))
 
 -- The log has grown by segments that the import has given, in order, at a time when the count of
 -- faults was at most what it is now. In a folder that tells its files they are the first of what the

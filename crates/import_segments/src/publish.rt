@@ -22,7 +22,7 @@ ghost use Rattle.import_segments.specs.Merged.{AreMerged, MergesEach};
 ghost use Rattle.import_segments.specs.Publishing.{
   IsIdle,
   IsOpenedWith,
-  IsWithinLimits,
+  IsLogWithinLimits,
   PublishesAll,
   PublishesFirst,
 };
@@ -79,7 +79,7 @@ pub fn publish_import<J: OpenName + Send + Sync, R: Threads + Wait + Sync, F: Fo
         AreMerged publisher.new.parts) }
     ensures parts { IfOk result (λ _. MergesEach publisher.old.log publisher.new.log
         publisher.old.parts publisher.new.parts) }
-    ensures limits { IsWithinLimits publisher.old.log → IsWithinLimits publisher.new.log }
+    ensures limits { IsLogWithinLimits publisher.old.log → IsLogWithinLimits publisher.new.log }
     ensures few { length publisher.new.log ≤ length publisher.old.log + length import.left }
     ensures opening { publisher.new.opening ≡ publisher.old.opening }
     ensures same { F.files folder.new ≡ F.files folder.old }

@@ -7,8 +7,8 @@ use Rattle.std.proofs.lemmas.List.{map_more, map_push}
 use Rattle.kb_edges.specs.Files.{File}
 use Rattle.game_tree.specs.Tree.{Tree}
 use Rattle.node_position.specs.Games.{Game}
-use Rattle.import_work.specs.Batches.{AreImportedInTurn, IsBatchOf, IsImportedFile, names_in, names_of, none, nothing, one_more}
-use Rattle.import_work.specs.Course.{AreRead, FileReport, ImportFile, games_from, games_of_files, import_file, reports_of, trees_in}
+use Rattle.import_work.specs.Batches.{AreImportedInTurn, IsBatchOf, IsImportedFile, names_in, none, nothing, one_more}
+use Rattle.import_work.specs.Course.{AreRead, FileReport, ImportFile, games_from, games_of_files, import_file, names_of, reports_of, trees_in}
 use Rattle.import_work.specs.Outcome.{IsOutcome, with_games}
 use Rattle.import_work.specs.declared.outcome.Counts.{Counts}
 use Rattle.import_work.specs.declared.outcome.FileOutcome.{FileOutcome}

@@ -8,8 +8,8 @@ use Rattle.kb_geometry.proofs.Prefixes.{prefix_same}
 use Rattle.kb_edges.specs.Faults.{RoseBy}
 use Rattle.kb_edges.specs.Files.{File, HasFile, HasPath}
 use mathlib.Core.List.{IsPrefix}
-use Rattle.import_work.specs.Batches.{line_report, line_reports, names_of, unread_in}
-use Rattle.import_work.specs.Course.{AreNames, AreRead, Files, Finding, HasTooMany, ImportCourse, ImportFile, IsImported, IsUnlisted, TooMany, Unlisted, games_of_files, nothing_lost, reports_of, trees_in}
+use Rattle.import_work.specs.Batches.{line_report, line_reports, unread_in}
+use Rattle.import_work.specs.Course.{AreNames, AreRead, Files, Finding, HasTooMany, ImportCourse, ImportFile, IsImported, IsUnlisted, TooMany, Unlisted, games_of_files, names_of, nothing_lost, reports_of, trees_in}
 use Rattle.import_work.specs.Imports.{FindsIn, GivesAll, GivesFirst, HasGiven, ImportState, IsFileStep, IsListed, IsListedIn, IsStep, Tells, lines_in, nothing, of_files, of_made, one_more}
 use Rattle.import_work.specs.Log.{Segment, segments_of}
 use Rattle.import_work.specs.Outcome.{with_games}

@@ -9,7 +9,7 @@ use Rattle.import_work.specs.Course.{FileReport, trees_in}
 use Rattle.import_work.specs.Imports.{AddsUp, HasGiven, ImportState, IsFileStep, IsStep, games_reported, nothing, of_files, of_made, one_more}
 use Rattle.import_work.specs.Log.{Segment, games_of_segments}
 use Rattle.import_work.specs.Outcome.{with_games}
-use Rattle.import_work.specs.Rooms.{AreAdded, AreWithinLimits}
+use Rattle.import_work.specs.Rooms.{AreAdded, AreCountsWithinLimits}
 use Rattle.import_work.proofs.RoomLemmas.{AreAdded-more, AreAdded-none, with_games-none}
 use Rattle.import_work.proofs.SegmentLemmas.{games_of_segments-push}
 use Rattle.import_work.proofs.Turns.{games_counted}
@@ -25,7 +25,7 @@ pub record GoesOn (batch : ℕ) (before after : ImportState) (segment : Segment)
   pub counts : after.counts ≡ with_games before.counts (trees_in segment)
   pub given : after.given ≡ before.given + 1
   pub told : games_reported after.body ≡ games_reported before.body + length segment
-  pub room : segment ≢ [] → AreWithinLimits after.counts
+  pub room : segment ≢ [] → AreCountsWithinLimits after.counts
 
 module _ (told : Option (List File)) (batch : ℕ) (between now : ImportState) (segment : Segment) (before after : ℕ) where
   told-more : (path : List ℕ) (s : IsFileStep told path batch between now segment before after) → games_reported now.body ≡ games_reported between.body + length segment
@@ -97,14 +97,14 @@ module _ (batch : ℕ) (any : 1 ≤ batch) (start between now : ImportState) (se
       let fewer : length (drop batch between.left) < length between.left = rw length-drop (omega (arith, some_left, any)) in
       rw length-append (omega (arith, rest, fewer, h.few))
 
-  room_then : games_of_segments (segments ++ segment ∷ []) ≢ [] → AreWithinLimits now.counts
+  room_then : games_of_segments (segments ++ segment ∷ []) ≢ [] → AreCountsWithinLimits now.counts
   room_then some = elim (cases_lt 0 (length segment)) [
     | inl more ↦ s.room (λ none. omega (arith, more, ap length none))
     | inr none ↦
         let empty : segment ≡ [] = nil_from_length segment (omega (arith, none)) in
         let same : games_of_segments (segments ++ segment ∷ []) ≡ games_of_segments segments = games_of_segments-push segments segment ∙ ap (λ gs. games_of_segments segments ++ gs) empty ∙ append-nil (games_of_segments segments) in
         let counts : between.counts ≡ now.counts = sym (s.counts ∙ ap (λ gs. with_games between.counts (trees_in gs)) empty ∙ with_games-none between.counts) in
-        subst AreWithinLimits counts (h.room (λ nil. some (same ∙ nil)))
+        subst AreCountsWithinLimits counts (h.room (λ nil. some (same ∙ nil)))
   ]
 
   AddsUp-more : AddsUp start now (segments ++ segment ∷ [])

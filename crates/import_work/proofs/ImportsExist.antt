@@ -12,12 +12,11 @@ use Rattle.game_tree.specs.Tree.{IsTree, Tree}
 use Rattle.node_position.specs.Games.{Game}
 use Rattle.made_games.specs.Made.{made_tree}
 use Rattle.made_games.proofs.MadeMoves.{made-tree}
-use Rattle.import_work.specs.Course.{AreMade, AreNames, AreRead, Files, Finding, FindsBy, ImportCourse, ImportFile, IsImported, Made, TooMany, Unlisted, games_from, games_of_files, import_file, made_file, made_name, names_found, nothing_lost, trees_in}
+use Rattle.import_work.specs.Course.{AreMade, AreNames, AreRead, Files, Finding, FindsBy, ImportCourse, ImportFile, IsImported, Made, TooMany, Unlisted, games_from, games_of_files, import_file, made_file, made_name, names_found, names_of, nothing_lost, trees_in}
 use Rattle.import_work.specs.Log.{games_of_segments, segments_of}
 use Rattle.import_work.specs.Outcome.{IsAddedBy, with_games}
 use Rattle.import_work.specs.declared.outcome.Counts.{Counts}
 use Rattle.import_work.specs.declared.outcome.FileOutcome.{FileOutcome}
-use Rattle.import_work.specs.Batches.{names_of}
 use Rattle.import_work.specs.declared.source.Source.{Source}
 use Rattle.import_work.specs.declared.source.Source.TheVariants as source
 use Rattle.import_work.proofs.MadeFiles.{made-found}
@@ -33,48 +32,48 @@ filter-none [] = refl
 filter-none (name ∷ names) = filter-none names
 
 -- these files are read, and then those of these names but for those that pass the test
-pub record AllRead (all : List File) (path : List ℕ) (before : Counts) (files : List ImportFile) (unread : List (List ℕ)) (is_unread : List ℕ → Bool) (names : List (List ℕ)) : Type 0 where
+pub record AllRead (all : List File) (path : List ℕ) (before : Counts) (files : List ImportFile) (unread : List (List ℕ)) (is_lost : List ℕ → Bool) (names : List (List ℕ)) : Type 0 where
   pub more : List ImportFile
-  pub read : AreRead all path before (files ++ more) (unread ++ filter is_unread names)
+  pub read : AreRead all path before (files ++ more) (unread ++ filter is_lost names)
   pub named : names_of more ≡ names
 
-module _ (all : List File) (path : List ℕ) (before : Counts) (files : List ImportFile) (unread : List (List ℕ)) (is_unread : List ℕ → Bool) where
+module _ (all : List File) (path : List ℕ) (before : Counts) (files : List ImportFile) (unread : List (List ℕ)) (is_lost : List ℕ → Bool) where
   abbrev Reads : List (List ℕ) → Type 0
-  Reads names = AllRead all path before files unread is_unread names
+  Reads names = AllRead all path before files unread is_lost names
 
   -- the names that pass the test, with one more
-  filter-push : (names : List (List ℕ)) (name : List ℕ) (b : Bool) → is_unread name ≡ b → filter is_unread (names ++ name ∷ []) ≡ filter is_unread names ++ cond b (name ∷ []) []
-  filter-push names name b is = filter-append is_unread names (name ∷ []) ∙ ap (λ r. filter is_unread names ++ cond r (name ∷ []) []) is
+  filter-push : (names : List (List ℕ)) (name : List ℕ) (b : Bool) → is_lost name ≡ b → filter is_lost (names ++ name ∷ []) ≡ filter is_lost names ++ cond b (name ∷ []) []
+  filter-push names name b is = filter-append is_lost names (name ∷ []) ∙ ap (λ r. filter is_lost names ++ cond r (name ∷ []) []) is
 
   -- one file more is read
-  one-read : (names : List (List ℕ)) (name : List ℕ) (content : Option (List ℕ)) → content_of all path name ≡ content → HasFile all path name → is_unread name ≡ false → Reads names → Reads (names ++ name ∷ [])
+  one-read : (names : List (List ℕ)) (name : List ℕ) (content : Option (List ℕ)) → content_of all path name ≡ content → HasFile all path name → is_lost name ≡ false → Reads names → Reads (names ++ name ∷ [])
   one-read names name None is there kept h = absurd (content_of-there all path name there is)
   one-read names name (Some whole) is there kept h =
       let bytes = take 16777217 whole in
       let found = outcome-found bytes (with_games before (trees_in (games_of_files (files ++ h.more)))) in
       let f = import_file name found.0 found.1 in
-      let same : filter is_unread names ≡ filter is_unread (names ++ name ∷ []) = sym (filter-push names name false kept ∙ append-nil (filter is_unread names)) in record {
+      let same : filter is_lost names ≡ filter is_lost (names ++ name ∷ []) = sym (filter-push names name false kept ∙ append-nil (filter is_lost names)) in record {
         more = h.more ++ f ∷ [];
         read =
             subst (λ us. AreRead all path before (files ++ (h.more ++ f ∷ [])) (unread ++ us)) same
-            (subst (λ fs. AreRead all path before fs (unread ++ filter is_unread names)) (append_assoc files h.more (f ∷ [])) (AreRead.read name bytes found.0 found.1 h.read (whole, is, refl) found.2));
+            (subst (λ fs. AreRead all path before fs (unread ++ filter is_lost names)) (append_assoc files h.more (f ∷ [])) (AreRead.read name bytes found.0 found.1 h.read (whole, is, refl) found.2));
         named = map_push (λ (g : ImportFile). g.report.name) h.more f ∙ ap (λ ns. ns ++ name ∷ []) h.named;
       }
 
   -- one file more isn't read
-  one-unread : (names : List (List ℕ)) (name : List ℕ) → is_unread name ≡ true → Reads names → Reads (names ++ name ∷ [])
+  one-unread : (names : List (List ℕ)) (name : List ℕ) → is_lost name ≡ true → Reads names → Reads (names ++ name ∷ [])
   one-unread names name lost h =
       let f = import_file name FileOutcome.Unread [] in
-      let same : (unread ++ filter is_unread names) ++ name ∷ [] ≡ unread ++ filter is_unread (names ++ name ∷ []) =
-      append_assoc unread (filter is_unread names) (name ∷ []) ∙ ap (λ us. unread ++ us) (sym (filter-push names name true lost)) in record {
+      let same : (unread ++ filter is_lost names) ++ name ∷ [] ≡ unread ++ filter is_lost (names ++ name ∷ []) =
+      append_assoc unread (filter is_lost names) (name ∷ []) ∙ ap (λ us. unread ++ us) (sym (filter-push names name true lost)) in record {
         more = h.more ++ f ∷ [];
         read =
             subst (λ us. AreRead all path before (files ++ (h.more ++ f ∷ [])) us) same
-            (subst (λ fs. AreRead all path before fs ((unread ++ filter is_unread names) ++ name ∷ [])) (append_assoc files h.more (f ∷ [])) (AreRead.not_read name h.read));
+            (subst (λ fs. AreRead all path before fs ((unread ++ filter is_lost names) ++ name ∷ [])) (append_assoc files h.more (f ∷ [])) (AreRead.not_read name h.read));
         named = map_push (λ (g : ImportFile). g.report.name) h.more f ∙ ap (λ ns. ns ++ name ∷ []) h.named;
       }
 
-  next-read : (names : List (List ℕ)) (name : List ℕ) (b : Bool) → is_unread name ≡ b → HasFile all path name → Reads names → Reads (names ++ name ∷ [])
+  next-read : (names : List (List ℕ)) (name : List ℕ) (b : Bool) → is_lost name ≡ b → HasFile all path name → Reads names → Reads (names ++ name ∷ [])
   next-read names name true is there h = one-unread names name is h
   next-read names name false is there h = one-read names name (content_of all path name) refl there is h
 
@@ -82,18 +81,18 @@ module _ (all : List File) (path : List ℕ) (before : Counts) (files : List Imp
   each-read : (names more : List (List ℕ)) → All (HasFile all path) more → Reads names → Reads (names ++ more)
   each-read names [] there h = subst Reads (sym (append-nil names)) h
   each-read names (name ∷ more) there h =
-      let next = next-read names name (is_unread name) refl (All-head (HasFile all path) name more there) h in
+      let next = next-read names name (is_lost name) refl (All-head (HasFile all path) name more there) h in
       subst Reads (append_assoc names (name ∷ []) more)
       (each-read (names ++ name ∷ []) more (All-tail (HasFile all path) name more there) next)
 
-  pub all-read : (names : List (List ℕ)) → All (HasFile all path) names → AreRead all path before files unread → AllRead all path before files unread is_unread names
+  pub all-read : (names : List (List ℕ)) → All (HasFile all path) names → AreRead all path before files unread → AllRead all path before files unread is_lost names
   all-read names there so_far =
       let none = subst (AreRead all path before files) (sym (append-nil unread)) so_far in
       each-read [] names there (record { more = []; read = subst (λ fs. AreRead all path before fs (unread ++ [])) (sym (append-nil files)) none; named = refl })
 
-module _ (all : List File) (path : List ℕ) (before : Counts) (is_unread : List ℕ → Bool) where
+module _ (all : List File) (path : List ℕ) (before : Counts) (is_lost : List ℕ → Bool) where
   abbrev Finds : Bool → Type 0
-  Finds lost = FindsBy all (source.Under path) before lost is_unread
+  Finds lost = FindsBy all (source.Under path) before lost is_lost
 
   -- an import whose path isn't there
   no-path : (lost : Bool) → ¬ HasPath all path → Finds lost
@@ -126,13 +125,13 @@ module _ (all : List File) (path : List ℕ) (before : Counts) (is_unread : List
       unread = refl;
     }
     | inr few ↦
-        let h = all-read all path before [] [] is_unread names (AreNames-there all path names are) AreRead.nothing in
+        let h = all-read all path before [] [] is_lost names (AreNames-there all path names are) AreRead.nothing in
         let counted : length h.more ≡ length names = sym (length-map h.more (λ (f : ImportFile). f.report.name)) ∙ ap length h.named in record {
-          entry = record { unlisted = false; unread = filter is_unread names };
+          entry = record { unlisted = false; unread = filter is_lost names };
           finding = Files h.more;
           imported = record { path_there = there; names = subst (AreNames all path) (sym h.named) are; few = omega (arith, counted, few); read = h.read; listed = refl };
           unlisted = (λ e. absurd (false≢true e), λ k. absurd (false≢true k.0));
-          unread = ap (filter is_unread) (sym h.named);
+          unread = ap (filter is_lost) (sym h.named);
         }
   ]
 
@@ -147,9 +146,9 @@ module _ (all : List File) (path : List ℕ) (before : Counts) (is_unread : List
   ]
 
 -- an import finds something, whatever is lost
-pub import-found : (all : List File) (from : Source) (before : Counts) (lost : Bool) (is_unread : List ℕ → Bool) → FindsBy all from before lost is_unread
-import-found all (source.Under path) before lost is_unread = path-found all path before is_unread lost
-import-found all (source.Made games seed) before lost is_unread =
+pub import-found : (all : List File) (from : Source) (before : Counts) (lost : Bool) (is_lost : List ℕ → Bool) → FindsBy all from before lost is_lost
+import-found all (source.Under path) before lost is_lost = path-found all path before is_lost lost
+import-found all (source.Made games seed) before lost is_lost =
     let h = made-found seed 0 before [] AreMade.nothing games in record {
       entry = nothing_lost;
       finding = Made h.more;

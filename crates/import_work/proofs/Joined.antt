@@ -1,40 +1,29 @@
 -- What is made in pieces, and joined in order.
-use Rattle.std.proofs.Common.{◌≡◌, ℕ, suc, ◌<◌, ◌≤◌, ◌+◌, List, [], ◌∷◌, ◌++◌, get_or, length, length-append, append-nil, refl, sym, ◌∙◌, ap, subst, take, arith}
+use Rattle.std.proofs.Common.{◌≡◌, ℕ, suc, ◌<◌, ◌≤◌, ◌+◌, List, [], ◌∷◌, ◌++◌, get_or, length, length-append, sym, ◌∙◌, ap, subst, take, arith}
 use Rattle.std.proofs.lemmas.Bool.{false≢true}
-use Rattle.std.proofs.lemmas.List.Concat.{flat_map-append, flat_map-cons}
-use Rattle.std.proofs.lemmas.List.Elements.{All-nil, All-push}
+use Rattle.std.proofs.lemmas.List.Concat.{flat_map-cons}
 use Rattle.std.proofs.lemmas.List.Folds.{length-flat_map-take}
 use Rattle.std.specs.List.{flat_map}
 use Rattle.std.specs.Prelude.{Ok, Err, IsOk}
-use Rattle.import_work.specs.Pieces.{ArePiecesJoined, ArePieces, IsPieceAdded, IsPieceFor, PieceOf, items_in}
-
--- nothing is joined yet, and one piece more
-pub ArePiecesJoined-none : {A : Type 0} → ArePiecesJoined {A = A} [] []
-ArePiecesJoined-none {A} = record { joined = refl; good = All-nil (λ (p : PieceOf A). IsOk p) }
-
-pub ArePiecesJoined-more : {A : Type 0} (pieces : List (PieceOf A)) (piece : PieceOf A) (old new : List A) → ArePiecesJoined pieces old → IsPieceAdded piece old new → ArePiecesJoined (pieces ++ piece ∷ []) new
-ArePiecesJoined-more {A} pieces (Ok given) old new so_far added = record {
-  joined = added ∙ ap (λ (xs : List A). xs ++ given.items) so_far.joined ∙ sym (flat_map-append items_in pieces (Ok given ∷ []) ∙ ap (λ (xs : List A). flat_map items_in pieces ++ xs) (append-nil given.items));
-  good = All-push (λ (p : PieceOf A). IsOk p) pieces (Ok given) so_far.good refl;
-}
-ArePiecesJoined-more pieces (Err e) old new so_far added = absurd added
+use Rattle.kb_geometry.specs.Pieces.{ArePiecesJoined, PieceOf, items_of_piece}
+use Rattle.import_work.specs.Pieces.{ArePieces, IsPieceFor}
 
 -- what holds of each job and its piece holds of all jobs and what is joined
 module _ {J T A : Type 0} (told : J → List T) (Fits : List T → List A → Type 0) (none : Fits [] []) (then : (ts us : List T) (xs ys : List A) → Fits ts xs → Fits us ys → Fits (ts ++ us) (xs ++ ys))
-    (Holds : J → PieceOf A → Type 0) (fits : (job : J) (piece : PieceOf A) → Holds job piece → Fits (told job) (items_in piece)) where
-  in_all : (jobs : List J) (pieces : List (PieceOf A)) → length pieces ≡ length jobs → ((n : ℕ) (job : J) (d : PieceOf A) → n < length jobs → Holds (get_or jobs n job) (get_or pieces n d)) → Fits (flat_map told jobs) (flat_map items_in pieces)
+    (Holds : J → PieceOf A → Type 0) (fits : (job : J) (piece : PieceOf A) → Holds job piece → Fits (told job) (items_of_piece piece)) where
+  in_all : (jobs : List J) (pieces : List (PieceOf A)) → length pieces ≡ length jobs → ((n : ℕ) (job : J) (d : PieceOf A) → n < length jobs → Holds (get_or jobs n job) (get_or pieces n d)) → Fits (flat_map told jobs) (flat_map items_of_piece pieces)
   in_all [] [] same each = none
   in_all [] (p ∷ ps) same each = absurd (omega (arith, same))
   in_all (j ∷ js) [] same each = absurd (omega (arith, same))
   in_all (j ∷ js) (p ∷ ps) same each =
       let first = fits j p (each 0 j p (omega arith)) in
       let rest = in_all js ps (omega (arith, same)) (λ n v d lt. each (suc n) v d (omega (arith, lt))) in
-      subst (λ ts. Fits ts (flat_map items_in (p ∷ ps))) (sym (flat_map-cons told j js))
-      (subst (λ xs. Fits (told j ++ flat_map told js) xs) (sym (flat_map-cons items_in p ps))
-      (then (told j) (flat_map told js) (items_in p) (flat_map items_in ps) first rest))
+      subst (λ ts. Fits ts (flat_map items_of_piece (p ∷ ps))) (sym (flat_map-cons told j js))
+      (subst (λ xs. Fits (told j ++ flat_map told js) xs) (sym (flat_map-cons items_of_piece p ps))
+      (then (told j) (flat_map told js) (items_of_piece p) (flat_map items_of_piece ps) first rest))
 
 -- a piece for which there was memory
-piece-fits : {J T A : Type 0} (told : J → List T) (Fits : List T → List A → Type 0) (job : J) (piece : PieceOf A) → IsPieceFor told Fits job piece × IsOk piece → Fits (told job) (items_in piece)
+piece-fits : {J T A : Type 0} (told : J → List T) (Fits : List T → List A → Type 0) (job : J) (piece : PieceOf A) → IsPieceFor told Fits job piece × IsOk piece → Fits (told job) (items_of_piece piece)
 piece-fits told Fits job (Ok given) h = h.0
 piece-fits told Fits job (Err e) h = absurd (false≢true h.1)
 
@@ -53,16 +42,16 @@ module _ {J T A : Type 0} (told : J → List T) (Fits : List T → List A → Ty
   few-then : (ts us : List T) (xs ys : List A) → IsFew ts xs → IsFew us ys → IsFew (ts ++ us) (xs ++ ys)
   few-then ts us xs ys h k = omega (arith, h, k, length-append ts us, length-append xs ys)
 
-  piece-few : (job : J) (piece : PieceOf A) → IsPieceFor told Fits job piece → IsFew (told job) (items_in piece)
+  piece-few : (job : J) (piece : PieceOf A) → IsPieceFor told Fits job piece → IsFew (told job) (items_of_piece piece)
   piece-few job (Ok given) is = few (told job) given.items is
   piece-few job (Err e) is = omega arith
 
-  pub pieces-few : (jobs : List J) (pieces : List (PieceOf A)) → ArePieces told Fits jobs pieces → length (flat_map items_in pieces) ≤ length (flat_map told jobs)
+  pub pieces-few : (jobs : List J) (pieces : List (PieceOf A)) → ArePieces told Fits jobs pieces → length (flat_map items_of_piece pieces) ≤ length (flat_map told jobs)
   pieces-few jobs pieces are = in_all told IsFew (omega arith) few-then (IsPieceFor told Fits) piece-few jobs pieces are.all are.each
 
 -- where all pieces have room, the next one has room behind those that are joined
-pub room_left : {A : Type 0} (pieces joined : List (PieceOf A)) (piece : PieceOf A) (items : List A) (room : ℕ) → length (flat_map items_in pieces) ≤ room → joined ≡ take (length joined) pieces → length joined < length pieces → piece ≡ get_or pieces (length joined) piece → ArePiecesJoined joined items → length items + length (items_in piece) ≤ room
+pub room_left : {A : Type 0} (pieces joined : List (PieceOf A)) (piece : PieceOf A) (items : List A) (room : ℕ) → length (flat_map items_of_piece pieces) ≤ room → joined ≡ take (length joined) pieces → length joined < length pieces → piece ≡ get_or pieces (length joined) piece → ArePiecesJoined joined items → length items + length (items_of_piece piece) ≤ room
 room_left {A} pieces joined piece items room fits so_far further here are =
-    let behind : length items ≡ length (flat_map items_in (take (length joined) pieces)) = ap length are.joined ∙ ap (λ (ps : List (PieceOf A)). length (flat_map items_in ps)) so_far in
-    let own : length (items_in piece) ≡ length (items_in (get_or pieces (length joined) piece)) = ap (λ (p : PieceOf A). length (items_in p)) here in
-    omega (arith, fits, behind, own, length-flat_map-take items_in pieces (length joined) piece further)
+    let behind : length items ≡ length (flat_map items_of_piece (take (length joined) pieces)) = ap length are.joined ∙ ap (λ (ps : List (PieceOf A)). length (flat_map items_of_piece ps)) so_far in
+    let own : length (items_of_piece piece) ≡ length (items_of_piece (get_or pieces (length joined) piece)) = ap (λ (p : PieceOf A). length (items_of_piece p)) here in
+    omega (arith, fits, behind, own, length-flat_map-take items_of_piece pieces (length joined) piece further)

@@ -8,8 +8,8 @@ use Rattle.import_work.specs.Batches.{AreImportedInTurn, IsImportedFile, line_re
 use Rattle.import_work.specs.Steps.{AreMoreFiles}
 use Rattle.kb_geometry.proofs.Lists.{push_not_nil, push_same}
 use Rattle.import_work.specs.Course.{FileReport, games_from, trees_in}
-use Rattle.import_work.specs.Found.{IsFound}
-use Rattle.import_work.specs.Judged.{AreFound, AreJudged, AreJudgedAs, IsFoundFile, IsJudged, IsJudgedAs}
+use Rattle.import_work.specs.Found.{IsFoundInFile}
+use Rattle.import_work.specs.Judged.{AreFoundFiles, AreJudged, AreJudgedAs, IsFoundFile, IsJudged, IsJudgedAs}
 use Rattle.import_work.specs.Judged as judge
 use Rattle.import_work.specs.Outcome.{HaveGames, nodes_of_trees, refused, with_games}
 use Rattle.import_work.specs.Reads.{AreTexts, FileText, IsTextOf, text_names}
@@ -26,7 +26,7 @@ use Rattle.sgf_reader.specs.declared.fault.FaultKind.{FaultKind}
 refused-not_unread : (of : FaultKind) (at : ℕ) → found.Refused of at ≡ found.Unread → ⊥
 refused-not_unread of at is = cc
 
-pub refused_judged : (name : List ℕ) (bytes : Option (List ℕ)) (of : FaultKind) (at : ℕ) (before : Counts) (games : List Game) → IsFound name bytes (found.Refused of at) → IsJudgedAs (record { name = name; bytes = bytes }) before before (file.Refused of at) games games
+pub refused_judged : (name : List ℕ) (bytes : Option (List ℕ)) (of : FaultKind) (at : ℕ) (before : Counts) (games : List Game) → IsFoundInFile name bytes (found.Refused of at) → IsJudgedAs (record { name = name; bytes = bytes }) before before (file.Refused of at) games games
 refused_judged name None of at before games is = absurd (refused-not_unread of at is)
 refused_judged name (Some bytes) of at before games is = record {
   trees = [];
@@ -48,7 +48,7 @@ pub record IsTextWithGames (name : List ℕ) (bytes : Option (List ℕ)) (own : 
 games-not_unread : (own : Vec Game Global) (nodes : ℕ) → found.Games own nodes ≡ found.Unread → ⊥
 games-not_unread own nodes is = cc
 
-pub games_told : (name : List ℕ) (bytes : Option (List ℕ)) (own : Vec Game Global) (nodes : ℕ) → IsFound name bytes (found.Games own nodes) → IsTextWithGames name bytes own.items nodes
+pub games_told : (name : List ℕ) (bytes : Option (List ℕ)) (own : Vec Game Global) (nodes : ℕ) → IsFoundInFile name bytes (found.Games own nodes) → IsTextWithGames name bytes own.items nodes
 games_told name None own nodes is = absurd (games-not_unread own nodes is)
 games_told name (Some bytes) own nodes (trees, have, small, own_are, nodes_are, few) = record {
   content = bytes;
@@ -65,10 +65,10 @@ pub record IsLastFound (texts : List FileText) (files : List FoundFile) (file : 
   pub before : List FileText
   pub last : FileText
   pub parts : texts ≡ before ++ last ∷ []
-  pub found : AreFound before files
+  pub found : AreFoundFiles before files
   pub last_found : IsFoundFile last file
 
-pub found_last : (texts : List FileText) (files : List FoundFile) (file : FoundFile) → AreFound texts (files ++ file ∷ []) → IsLastFound texts files file
+pub found_last : (texts : List FileText) (files : List FoundFile) (file : FoundFile) → AreFoundFiles texts (files ++ file ∷ []) → IsLastFound texts files file
 found_last [] [] file h = absurd h
 found_last (text ∷ []) [] file h = record { before = []; last = text; parts = refl; found = tt; last_found = h.0 }
 found_last (text ∷ other ∷ texts) [] file h = absurd h.1
@@ -83,7 +83,7 @@ found_last (text ∷ texts) (first ∷ files) file h =
     }
 
 -- nothing is judged yet
-pub judged-start : (texts : List FileText) (before : Counts) (reports : List FileReport) (games : List Game) → AreFound texts [] → AreJudgedAs texts before before reports reports games games
+pub judged-start : (texts : List FileText) (before : Counts) (reports : List FileReport) (games : List Game) → AreFoundFiles texts [] → AreJudgedAs texts before before reports reports games games
 judged-start [] before reports games none = record {
   own_reports = [];
   own_games = [];
@@ -96,10 +96,10 @@ judged-start (text ∷ texts) before reports games none = absurd none
 
 -- one file more is judged
 pub judged-more : (texts : List FileText) (files : List FoundFile) (file : FoundFile) (base counts after : Counts) (outcome : FileOutcome) (first : List FileReport) (lines more : List FileLine) (line : FileLine) (start games more_games : List Game)
-    → ((before : List FileText) → AreFound before files → AreJudgedAs before base counts first (line_reports lines) start games)
-    → ((text : FileText) → IsFound text.name text.bytes file.found → IsJudgedAs text counts after outcome games more_games)
+    → ((before : List FileText) → AreFoundFiles before files → AreJudgedAs before base counts first (line_reports lines) start games)
+    → ((text : FileText) → IsFoundInFile text.name text.bytes file.found → IsJudgedAs text counts after outcome games more_games)
     → more ≡ lines ++ line ∷ [] → line.name ≡ file.name → line.outcome ≡ outcome
-    → AreFound texts (files ++ file ∷ []) → AreJudgedAs texts base after first (line_reports more) start more_games
+    → AreFoundFiles texts (files ++ file ∷ []) → AreJudgedAs texts base after first (line_reports more) start more_games
 judged-more texts files file base counts after outcome first lines more line start games more_games so_far next pushed named became are =
     let h = found_last texts files file are in
     let text = h.last in

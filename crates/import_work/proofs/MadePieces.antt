@@ -12,7 +12,8 @@ use Rattle.node_position.specs.Games.{Game}
 use Rattle.import_work.specs.Course.{made_name}
 use Rattle.import_work.specs.Made.{made_game, made_games}
 use Rattle.import_work.specs.MadePieces.{AreCut, IsInRange, piece_games}
-use Rattle.import_work.specs.Pieces.{ArePiecesJoined, ArePieces, IsPieceFor, PieceOf, items_in}
+use Rattle.kb_geometry.specs.Pieces.{ArePiecesJoined, PieceOf, items_of_piece}
+use Rattle.import_work.specs.Pieces.{ArePieces, IsPieceFor}
 use Rattle.import_work.specs.declared.making.Piece.{Piece}
 use Rattle.import_work.proofs.Joined.{pieces-few, pieces-fit}
 
@@ -111,7 +112,7 @@ pub pieces-made : (start first count : ℕ) (jobs : List Piece) (pieces : List (
 pieces-made start first count jobs pieces games cut are joined =
     pieces-fit piece_games IsMade refl (λ ts us xs ys (e : xs ≡ ts) (f : ys ≡ us). ap (λ (gs : List Game). gs ++ ys) e ∙ ap (λ (gs : List Game). ts ++ gs) f) jobs pieces games are joined ∙ cut.games
 
-pub pieces-room : (start first count : ℕ) (jobs : List Piece) (pieces : List (PieceOf Game)) → count ≤ 400000 → AreCut start first count jobs → AreMadePieces jobs pieces → length (flat_map items_in pieces) ≤ 400000
+pub pieces-room : (start first count : ℕ) (jobs : List Piece) (pieces : List (PieceOf Game)) → count ≤ 400000 → AreCut start first count jobs → AreMadePieces jobs pieces → length (flat_map items_of_piece pieces) ≤ 400000
 pieces-room start first count jobs pieces room cut are =
     let few = pieces-few piece_games IsMade (λ ts xs (e : xs ≡ ts). let same : length xs ≡ length ts = ap length e in omega (arith, same)) jobs pieces are in
     let all : length (flat_map piece_games jobs) ≡ count = ap length cut.games ∙ length-made_games start first count in

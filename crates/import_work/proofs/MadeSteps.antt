@@ -14,7 +14,7 @@ use Rattle.import_work.specs.Imports.{IsStep}
 use Rattle.import_work.specs.Log.{Segment}
 use Rattle.import_work.specs.Made.{AreAddedFirst, HasRoomForMade, made_game, made_games}
 use Rattle.import_work.specs.Outcome.{HasRoom, IsAddedBy, games_after, nodes_after, nodes_of_trees, with_games}
-use Rattle.import_work.specs.Rooms.{AreWithinLimits}
+use Rattle.import_work.specs.Rooms.{AreCountsWithinLimits}
 use Rattle.import_work.specs.declared.import.Work.TheVariants as work
 use Rattle.import_work.specs.declared.outcome.Counts.{Counts}
 use Rattle.import_work.specs.declared.outcome.FileOutcome.TheVariants as file
@@ -205,6 +205,6 @@ module _ (games start added full batch count fit : ℕ) (before : Counts) (segme
         | inr more ↦ omega (arith, is, left_is, count_is, few, some, more)
       ]
 
-      within : (fit ≡ 0) ⊎ HasRoomForMade before fit → length segment ≡ fit → segment ≢ [] → AreWithinLimits (record { games = before.games + fit; nodes = before.nodes + fit * 201 })
+      within : (fit ≡ 0) ⊎ HasRoomForMade before fit → length segment ≡ fit → segment ≢ [] → AreCountsWithinLimits (record { games = before.games + fit; nodes = before.nodes + fit * 201 })
       within (inl none) own some_game = absurd (some_game (nil_from_length segment (own ∙ none)))
       within (inr room) own some_game = (room.0, room.1)

@@ -8,9 +8,8 @@ use Rattle.kb_edges.specs.Files.{File, HasPath}
 use Rattle.game_tree.specs.Tree.{Tree}
 use Rattle.game_tree.proofs.Parts.{AllPairs-across, AllPairs-front}
 use Rattle.kb_geometry.proofs.Lists.{Contains-first, push_not_nil, push_same}
-use Rattle.import_work.specs.Course.{AreRead, Files, Finding, FindsFiles, HasTooMany, ImportCourse, ImportFile, IsContent, IsImported, IsUnlisted, Made, TooMany, Unlisted, games_of_files, import_file, trees_in}
+use Rattle.import_work.specs.Course.{AreRead, Files, Finding, FindsFiles, HasTooMany, ImportCourse, ImportFile, IsContent, IsImported, IsUnlisted, Made, TooMany, Unlisted, games_of_files, import_file, names_of, trees_in}
 use Rattle.import_work.specs.Outcome.{IsOutcome, with_games}
-use Rattle.import_work.specs.Batches.{names_of}
 use Rattle.import_work.specs.declared.outcome.Counts.{Counts}
 use Rattle.import_work.specs.declared.outcome.FileOutcome.{FileOutcome}
 use Rattle.import_work.specs.declared.outcome.FileOutcome.TheVariants as file

@@ -8,8 +8,8 @@ use Rattle.std.proofs.lemmas.List.Elements.{All-append, All-drop, All-head, All-
 use Rattle.kb_geometry.proofs.Lists.{All-before}
 use Rattle.kb_edges.specs.Faults.{RoseBy}
 use Rattle.kb_edges.specs.Files.{File, HasFile}
-use Rattle.import_work.specs.Batches.{AreLost, ArePaid, names_of, unread_in}
-use Rattle.import_work.specs.Course.{AreRead, ImportFile, games_of_files, import_file, reports_of, trees_in}
+use Rattle.import_work.specs.Batches.{AreLost, ArePaid, unread_in}
+use Rattle.import_work.specs.Course.{AreRead, ImportFile, games_of_files, import_file, names_of, reports_of, trees_in}
 use Rattle.import_work.specs.Outcome.{IsOutcome, with_games}
 use Rattle.import_work.specs.declared.outcome.Counts.{Counts}
 use Rattle.import_work.specs.declared.outcome.FileOutcome.TheVariants as file

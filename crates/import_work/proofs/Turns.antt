@@ -11,7 +11,7 @@ use Rattle.node_position.specs.Games.{Game}
 use Rattle.import_work.specs.Batches.{AreImportedInTurn, ArePaid, IsImportedFile, games_added, games_told, is_unread, names_in, none, nothing, one_more, unread_in}
 use Rattle.import_work.specs.Course.{FileReport, games_from, trees_in}
 use Rattle.import_work.specs.Outcome.{with_games}
-use Rattle.import_work.specs.Rooms.{AreAdded, AreWithinLimits, IsAdded}
+use Rattle.import_work.specs.Rooms.{AreAdded, AreCountsWithinLimits, IsAdded}
 use Rattle.import_work.specs.Steps.{AreMoreFiles}
 use Rattle.import_work.specs.declared.outcome.Counts.{Counts}
 use Rattle.import_work.specs.declared.outcome.FileOutcome.{FileOutcome}
@@ -129,28 +129,28 @@ games_counted told path base first _ _ _ (one_more {reports = reports} {games = 
     rw (length-append, length-games_from name 0 trees) (omega (arith, counted, had, more))
 
 -- a file adds no game, or there is room for its games
-no_game_or_room : (before : Counts) (outcome : FileOutcome) (trees : List Tree) → IsAdded before outcome trees → (trees ≡ []) ⊎ AreWithinLimits (with_games before trees)
+no_game_or_room : (before : Counts) (outcome : FileOutcome) (trees : List Tree) → IsAdded before outcome trees → (trees ≡ []) ⊎ AreCountsWithinLimits (with_games before trees)
 no_game_or_room before (file.Accepted games) trees h = inr h.1
 no_game_or_room before (file.Refused of at) trees h = inl h
 no_game_or_room before (file.Full games nodes) trees h = inl h
 no_game_or_room before file.Unread trees h = inl h
 
 -- no game is added, or a base may have as many as there are then
-none_or_room : (told : Option (List File)) (path : List ℕ) (base : Counts) (first : ℕ) (reports : List FileReport) (games : List Game) (now : ℕ) → AreImportedInTurn told path base first reports games now → (games ≡ []) ⊎ AreWithinLimits (with_games base (trees_in games))
+none_or_room : (told : Option (List File)) (path : List ℕ) (base : Counts) (first : ℕ) (reports : List FileReport) (games : List Game) (now : ℕ) → AreImportedInTurn told path base first reports games now → (games ≡ []) ⊎ AreCountsWithinLimits (with_games base (trees_in games))
 none_or_room told path base first _ _ _ nothing = inl refl
 none_or_room told path base first _ _ _ (one_more {reports = reports} {games = games} {faults = before} name now outcome trees so_far is) =
     elim (no_game_or_room (with_games base (trees_in games)) outcome trees is.added) [
-      | inr room ↦ inr (subst AreWithinLimits (with_file base games name trees) room)
+      | inr room ↦ inr (subst AreCountsWithinLimits (with_file base games name trees) room)
       | inl empty ↦
           let same : games ++ games_from name 0 trees ≡ games = ap (λ ts. games ++ games_from name 0 ts) empty ∙ append-nil games in
-          subst (λ gs. (gs ≡ []) ⊎ AreWithinLimits (with_games base (trees_in gs))) (sym same) (none_or_room told path base first reports games before so_far)
+          subst (λ gs. (gs ≡ []) ⊎ AreCountsWithinLimits (with_games base (trees_in gs))) (sym same) (none_or_room told path base first reports games before so_far)
     ]
 
-pub room_after : (told : Option (List File)) (path : List ℕ) (base after : Counts) (first : ℕ) (reports : List FileReport) (games : List Game) (now : ℕ) → AreAdded base after (trees_in games) → AreImportedInTurn told path base first reports games now → games ≢ [] → AreWithinLimits after
+pub room_after : (told : Option (List File)) (path : List ℕ) (base after : Counts) (first : ℕ) (reports : List FileReport) (games : List Game) (now : ℕ) → AreAdded base after (trees_in games) → AreImportedInTurn told path base first reports games now → games ≢ [] → AreCountsWithinLimits after
 room_after told path base after first reports games now is h some =
     elim (none_or_room told path base first reports games now h) [
       | inl empty ↦ absurd (some empty)
-      | inr room ↦ subst AreWithinLimits (sym is) room
+      | inr room ↦ subst AreCountsWithinLimits (sym is) room
     ]
 
 -- whether a file is unread

@@ -6,17 +6,13 @@ use Rattle.kb_edges.specs.Files.{File, HasFile}
 use Rattle.kb_edges.specs.Told.{IfTold}
 use Rattle.game_tree.specs.Tree.{Tree}
 use Rattle.node_position.specs.Games.{Game}
-use Rattle.import_work.specs.Course.{AreRead, FileReport, ImportFile, IsContent, games_from, games_of_files, reports_of, trees_in}
+use Rattle.import_work.specs.Course.{AreRead, FileReport, ImportFile, IsContent, games_from, games_of_files, names_of, reports_of, trees_in}
 use Rattle.import_work.specs.Outcome.{IsOutcome, with_games}
 use Rattle.import_work.specs.Rooms.{IsAdded}
 use Rattle.import_work.specs.declared.batch.FileLine.{FileLine}
 use Rattle.import_work.specs.declared.outcome.Counts.{Counts}
 use Rattle.import_work.specs.declared.outcome.FileOutcome.{FileOutcome}
 use Rattle.import_work.specs.declared.outcome.FileOutcome.TheVariants as file
-
--- the names of files
-abbrev pub names_of : List ImportFile → List (List ℕ)
-names_of files = map (λ (f : ImportFile). f.report.name) files
 
 -- what a line of a report says: the name of a file, and what became of it
 abbrev pub line_report : FileLine → FileReport

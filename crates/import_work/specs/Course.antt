@@ -134,11 +134,15 @@ IsUnlisted all path entry =
     (((entry.unlisted ≡ true) × HasPath all path)
     ⊎ ((entry.unlisted ≡ false) × (¬ HasPath all path))) × (entry.unread ≡ [])
 
+-- the names of files
+abbrev pub names_of : List ImportFile → List (List ℕ)
+names_of files = map (λ (f : ImportFile). f.report.name) files
+
 -- the import of this path has these names, 100,000 at most, and found these files under them
 pub record FindsFiles (all : List File) (path : List ℕ) (before : Counts) (entry : ImportCourse)
     (files : List ImportFile) : Type 0 where
   pub path_there : HasPath all path
-  pub names : AreNames all path (map (λ (f : ImportFile). f.report.name) files)
+  pub names : AreNames all path (names_of files)
   pub few : length files ≤ 100000
   pub read : AreRead all path before files entry.unread
   pub listed : entry.unlisted ≡ false
@@ -175,7 +179,7 @@ IsImported all (source.Made games start) before entry (Made files) =
 abbrev pub names_found : Finding → List (List ℕ)
 names_found Unlisted = []
 names_found (TooMany count) = []
-names_found (Files files) = map (λ (f : ImportFile). f.report.name) files
+names_found (Files files) = names_of files
 names_found (Made files) = []
 
 -- an import from this source has a path, which is there
@@ -183,12 +187,13 @@ abbrev pub HasItsPath : List File → Source → Type 0
 HasItsPath all (source.Under path) = HasPath all path
 HasItsPath all (source.Made games start) = ⊥
 
--- What an import finds whose losses are given: as a whole where its path is there, and of its files
--- those whose names pass a test.
+-- What an import finds where it is given what is lost: the import as a whole, if it has a path that
+-- is there, or else those of its files whose names pass a test. Where its path isn't there, where it
+-- has too many names, and of made games, nothing is lost.
 pub record FindsBy (all : List File) (from : Source) (before : Counts) (lost : Bool)
-    (is_unread : List ℕ → Bool) : Type 0 where
+    (is_lost : List ℕ → Bool) : Type 0 where
   pub entry : ImportCourse
   pub finding : Finding
   pub imported : IsImported all from before entry finding
   pub unlisted : (entry.unlisted ≡ true) ↔ ((lost ≡ true) × HasItsPath all from)
-  pub unread : entry.unread ≡ filter is_unread (names_found finding)
+  pub unread : entry.unread ≡ filter is_lost (names_found finding)

@@ -8,22 +8,22 @@ use Rattle.import_work.specs.declared.found.Found.{Found}
 use Rattle.import_work.specs.declared.found.Found.TheVariants as found
 
 -- these games were found in a file of this name
-abbrev pub AreGamesFound : List ℕ → List Tree → Found → Type 0
-AreGamesFound name trees found.Unread = ⊥
-AreGamesFound name trees (found.Refused of at) = ⊥
-AreGamesFound name trees (found.Games games nodes) =
+abbrev pub AreGamesOfFile : List ℕ → List Tree → Found → Type 0
+AreGamesOfFile name trees found.Unread = ⊥
+AreGamesOfFile name trees (found.Refused of at) = ⊥
+AreGamesOfFile name trees (found.Games games nodes) =
     (games.items ≡ games_from name 0 trees) × (nodes ≡ nodes_of_trees trees) × (nodes ≤ 4294967296)
 
 -- this was found in a file of this name with these bytes
-abbrev pub IsFoundIn : List ℕ → List ℕ → Found → Type 0
-IsFoundIn name bytes found.Unread = ⊥
-IsFoundIn name bytes (found.Refused of at) = IsFaulty bytes of at
-IsFoundIn name bytes (found.Games games nodes) =
+abbrev pub IsFoundInBytes : List ℕ → List ℕ → Found → Type 0
+IsFoundInBytes name bytes found.Unread = ⊥
+IsFoundInBytes name bytes (found.Refused of at) = IsFaulty bytes of at
+IsFoundInBytes name bytes (found.Games games nodes) =
     (trees : List Tree) × HaveGames bytes trees × (length trees ≤ 65536)
     × (games.items ≡ games_from name 0 trees)
     × (nodes ≡ nodes_of_trees trees) × (nodes ≤ 4294967296)
 
 -- this was found in a file of this name with these bytes, or in one that was not read
-abbrev pub IsFound : List ℕ → Option (List ℕ) → Found → Type 0
-IsFound name None what = what ≡ found.Unread
-IsFound name (Some bytes) what = IsFoundIn name bytes what
+abbrev pub IsFoundInFile : List ℕ → Option (List ℕ) → Found → Type 0
+IsFoundInFile name None what = what ≡ found.Unread
+IsFoundInFile name (Some bytes) what = IsFoundInBytes name bytes what

@@ -69,7 +69,8 @@ abbrev pub IsWorkKept : Work → Type 0
 IsWorkKept (work.Files files) = AreFilesKept files
 IsWorkKept (work.Made made) = IsMadeKept made
 
--- Each segment took one of the files at least.
+-- What an import keeps is in order: its names or made games are, each segment took one of the files
+-- at least, and the number is one that a version may have.
 pub record IsImportKept (i : Inside) : Type 0 where
   pub kept : IsWorkKept i.work
   pub given : i.given ≤ taken_of i.work

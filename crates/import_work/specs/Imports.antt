@@ -11,7 +11,7 @@ use Rattle.import_work.specs.Batches.{AreImportedInTurn, ArePaid, full_told, gam
 use Rattle.import_work.specs.Course.{AreMade, AreNames, Files, Finding, HasMade, HasTooMany, ImportCourse, ImportFile, IsImported, Made, TooMany, Unlisted, games_of_files, made_name, reports_of, trees_in}
 use Rattle.import_work.specs.Log.{Segment, games_of_segments, segments_of}
 use Rattle.import_work.specs.Outcome.{with_games}
-use Rattle.import_work.specs.Rooms.{AreAdded, AreWithinLimits}
+use Rattle.import_work.specs.Rooms.{AreAdded, AreCountsWithinLimits}
 use Rattle.import_work.specs.declared.batch.FileLine.{FileLine}
 use Rattle.import_work.specs.declared.outcome.Counts.{Counts}
 use Rattle.import_work.specs.declared.report.ReportBody.{ReportBody}
@@ -124,7 +124,7 @@ pub record IsFileStep (told : Option (List File)) (path : List ℕ) (batch : ℕ
   pub paid : ArePaid told path (unread_in (line_reports more)) faults_before faults_now
   pub untold : told ≡ None →
       RoseBy (length (unread_in (line_reports more))) faults_before faults_now
-  pub room : segment ≢ [] → AreWithinLimits after.counts
+  pub room : segment ≢ [] → AreCountsWithinLimits after.counts
 
 -- Made games give one segment: the next, so many or as many as are left, are judged in their turn, and
 -- the segment has those for which there was room. The report tells how many these are, and how many
@@ -147,7 +147,7 @@ pub record IsMadeStep (games start batch : ℕ) (before after : ImportState) (se
     counts = with_games before.counts (trees_in segment);
     given = before.given + 1;
   }
-  pub room : segment ≢ [] → AreWithinLimits after.counts
+  pub room : segment ≢ [] → AreCountsWithinLimits after.counts
 
 -- an import gives one segment: of files that it takes from a folder, or of made games, by which no
 -- fault of the folder is counted
@@ -185,7 +185,7 @@ pub record AddsUp (start now : ImportState) (segments : List Segment) : Type 0 w
   pub told : games_reported now.body
       ≡ games_reported start.body + length (games_of_segments segments)
   pub few : length segments + length now.left ≤ length start.left
-  pub room : games_of_segments segments ≢ [] → AreWithinLimits now.counts
+  pub room : games_of_segments segments ≢ [] → AreCountsWithinLimits now.counts
 
 -- a report tells what an import found
 abbrev pub Tells : ReportBody → Finding → Type 0

@@ -5,7 +5,7 @@ use Rattle.std.specs.declared.option.Option.{Option}
 use Rattle.game_tree.specs.Tree.{Tree}
 use Rattle.node_position.specs.Games.{Game}
 use Rattle.import_work.specs.Course.{FileReport, games_from, trees_in}
-use Rattle.import_work.specs.Found.{IsFound}
+use Rattle.import_work.specs.Found.{IsFoundInFile}
 use Rattle.import_work.specs.Outcome.{IsOutcome, with_games}
 use Rattle.import_work.specs.Reads.{FileText}
 use Rattle.import_work.specs.declared.found.FoundFile.{FoundFile}
@@ -15,11 +15,11 @@ use Rattle.import_work.specs.declared.outcome.FileOutcome.TheVariants as file
 
 -- this was found in a file
 abbrev pub IsFoundFile : FileText → FoundFile → Type 0
-IsFoundFile text f = (f.name ≡ text.name) × IsFound text.name text.bytes f.found
+IsFoundFile text f = (f.name ≡ text.name) × IsFoundInFile text.name text.bytes f.found
 
 -- this was found in files
-abbrev pub AreFound : List FileText → List FoundFile → Type 0
-AreFound texts files = AllZip IsFoundFile texts files
+abbrev pub AreFoundFiles : List FileText → List FoundFile → Type 0
+AreFoundFiles texts files = AllZip IsFoundFile texts files
 
 -- what becomes of a file with these bytes, or of one that was not read
 abbrev pub IsJudged : Counts → Option (List ℕ) → FileOutcome → List Tree → Type 0

@@ -23,7 +23,7 @@ HaveGames bytes trees = (collection : Collection) × IsRead bytes collection
     × ((of : FaultKind) (at : ℕ) → ¬ HasValueFault bytes collection of at)
     × AreTreesOf bytes collection trees
 
--- how many nodes these games have
+-- how many nodes these trees have
 abbrev pub nodes_of_trees : List Tree → ℕ
 nodes_of_trees trees = sum_by node_count trees
 

@@ -20,8 +20,8 @@ abbrev pub AreAdded : Counts → Counts → List Tree → Type 0
 AreAdded before after trees = after ≡ with_games before trees
 
 -- a base may have so many games and nodes
-abbrev pub AreWithinLimits : Counts → Type 0
-AreWithinLimits counts = (counts.games ≤ 400000) × (counts.nodes ≤ 67108864)
+abbrev pub AreCountsWithinLimits : Counts → Type 0
+AreCountsWithinLimits counts = (counts.games ≤ 400000) × (counts.nodes ≤ 67108864)
 
 -- more games are added to a base, and these are its counts before and after
 pub record AddsGames (before after : Counts) (games more : List Game) : Type 0 where

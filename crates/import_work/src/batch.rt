@@ -23,7 +23,7 @@ ghost use Rattle.import_work.specs.Batches.{
   unread_in,
 };
 ghost use Rattle.import_work.specs.Course.{trees_in};
-ghost use Rattle.import_work.specs.Rooms.{AreAdded, AreWithinLimits};
+ghost use Rattle.import_work.specs.Rooms.{AreAdded, AreCountsWithinLimits};
 ghost use Rattle.import_work.specs.Steps.{AreMoreFiles};
 
 use crate::judge::judge_all;
@@ -83,7 +83,7 @@ pub fn import_batch<R: Threads + Sync, F: Folder>(
         (F.faults folder.new)) }
     ensures counted { IfOk result (λ batch.
         games_told (line_reports batch.lines) ≡ length batch.segment) }
-    ensures room { IfOk result (λ batch. batch.segment ≢ [] → AreWithinLimits batch.after) }
+    ensures room { IfOk result (λ batch. batch.segment ≢ [] → AreCountsWithinLimits batch.after) }
     ensures added { IfOk result (λ batch. AreAdded before batch.after (trees_in batch.segment)) }
     ensures same { F.files folder.new ≡ F.files folder.old }
     ensures later { F.faults folder.old ≤ F.faults folder.new }

@@ -1,7 +1,7 @@
 // What is found in a file, before it is known whether the base has room for it.
 ghost use Rattle.std.specs.Prelude.{◌≤◌, length, IfOk};
 ghost use Rattle.node_position.specs.Games.{AreNodeChanges};
-ghost use Rattle.import_work.specs.Found.{AreGamesFound, IsFoundIn};
+ghost use Rattle.import_work.specs.Found.{AreGamesOfFile, IsFoundInBytes};
 
 use crate::outcome::{Parsed, parse};
 use capture_board::{Board, ChangeList, NodeDeltas};
@@ -67,7 +67,7 @@ pub(crate) fn found_in(
     name: &str,
     bytes: &[u8],
 ) -> Result<Found, NoMemory>
-    ensures { IfOk result (IsFoundIn name.now bytes.now) }
+    ensures { IfOk result (IsFoundInBytes name.now bytes.now) }
 {
     match parse(alloc, bytes) {
         Ok(Parsed::Refused { kind, at }) => Ok(Found::Refused { kind, at }),
@@ -85,7 +85,7 @@ fn games_found(
     trees: Vec<GameTree>,
 ) -> Result<Found, NoMemory>
     requires { length trees.items ≤ 65536 }
-    ensures { IfOk result (AreGamesFound name.now trees.items) }
+    ensures { IfOk result (AreGamesOfFile name.now trees.items) }
 {
     let file = ArcStr::from_str(alloc, name)?;
     let mut games = Vec::new(alloc);

@@ -4,8 +4,8 @@ ghost use Rattle.std.specs.Prelude.{◌≡◌, ◌≤◌, ◌+◌, ◌++◌, Lis
 ghost use Rattle.game_tree.specs.Tree.{Tree};
 ghost use Rattle.import_work.specs.Batches.{line_reports};
 ghost use Rattle.import_work.specs.Course.{games_from};
-ghost use Rattle.import_work.specs.Found.{IsFound};
-ghost use Rattle.import_work.specs.Judged.{AreFound, AreJudgedAs, IsJudgedAs};
+ghost use Rattle.import_work.specs.Found.{IsFoundInFile};
+ghost use Rattle.import_work.specs.Judged.{AreFoundFiles, AreJudgedAs, IsJudgedAs};
 ghost use Rattle.import_work.specs.Outcome.{HaveGames, nodes_of_trees};
 ghost use Rattle.import_work.specs.Reads.{FileText};
 
@@ -25,7 +25,7 @@ fn judged(
     games: &mut SegmentBuilder,
 ) -> Result<(FileOutcome, Counts), NoMemory>
     requires { length games.old ≤ before.games }
-    ensures judged { IfOk result (λ r. (text : FileText) → IsFound text.name text.bytes found →
+    ensures judged { IfOk result (λ r. (text : FileText) → IsFoundInFile text.name text.bytes found →
         IsJudgedAs text before r.1 r.0 games.old games.new) }
     ensures counted { IfOk result (λ r. length games.new ≤ r.1.games) }
 {
@@ -93,7 +93,7 @@ pub(crate) fn judge_all(
     games: &mut SegmentBuilder,
 ) -> Result<(), NoMemory>
     requires { length games.old ≤ counts.old.games }
-    ensures judged { OnOk result ((texts : List FileText) → AreFound texts files.items →
+    ensures judged { OnOk result ((texts : List FileText) → AreFoundFiles texts files.items →
         AreJudgedAs texts counts.old counts.new (line_reports lines.old.items)
         (line_reports lines.new.items) games.old games.new) }
     ensures counted { OnOk result (length games.new ≤ counts.new.games) }

@@ -56,13 +56,14 @@ pub fn a_file_has_one_outcome()
         IsOutcome bytes before a xs → IsOutcome bytes before b ys → (a ≡ b) × (xs ≡ ys) }
 {}
 
-/// An import from each source can find something by which nothing is lost, and something whatever
-/// is lost of it. By one entry of the course it finds one thing only.
+/// An import from each source can find something by which nothing is lost, and, whichever of its
+/// files are lost, or it as a whole, something by exactly these losses. By one entry of the course it
+/// finds one thing only.
 pub fn an_import_finds_one_thing()
     ensures whole { (files : List File) (source : Source) (before : Counts) →
         (finding : Finding) × IsImported files source before nothing_lost finding }
     ensures some { (files : List File) (source : Source) (before : Counts) (lost : Bool)
-        (is_unread : List ℕ → Bool) → FindsBy files source before lost is_unread }
+        (is_lost : List ℕ → Bool) → FindsBy files source before lost is_lost }
     ensures one { (files : List File) (source : Source) (before : Counts) (entry : ImportCourse)
         (a b : Finding) → IsImported files source before entry a →
         IsImported files source before entry b → a ≡ b }

@@ -1,9 +1,9 @@
 // The segment of made games, in up to eight pieces side by side.
 ghost use Rattle.std.specs.Prelude.{◌≡◌, ◌+◌, ◌<◌, ◌≤◌, length, IfOk, OnOk};
 ghost use Rattle.std.specs.List.{flat_map};
+ghost use Rattle.kb_geometry.specs.Pieces.{ArePiecesJoined, IsPieceAdded, items_of_piece};
 ghost use Rattle.import_work.specs.Made.{made_games};
 ghost use Rattle.import_work.specs.MadePieces.{AreCut};
-ghost use Rattle.import_work.specs.Pieces.{ArePiecesJoined, IsPieceAdded, items_in};
 
 use crate::found::Follower;
 use crate::judge::add_all;
@@ -100,7 +100,7 @@ fn joined(
     alloc: Global,
     made: Vec<Result<Vec<FinishedGame>, NoMemory>>,
 ) -> Result<Segment, NoMemory>
-    requires { length (flat_map items_in made.items) ≤ 400000 }
+    requires { length (flat_map items_of_piece made.items) ≤ 400000 }
     ensures { IfOk result (λ segment. ArePiecesJoined made.items segment) }
 {
     let mut games = SegmentBuilder::new(alloc);
@@ -116,7 +116,7 @@ fn add_piece(
     piece: Result<Vec<FinishedGame>, NoMemory>,
     games: &mut SegmentBuilder,
 ) -> Result<(), NoMemory>
-    requires { length games.old + length (items_in piece) ≤ 400000 }
+    requires { length games.old + length (items_of_piece piece) ≤ 400000 }
     ensures { OnOk result (IsPieceAdded piece games.old games.new) }
 {
     match piece {

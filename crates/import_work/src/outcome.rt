@@ -96,7 +96,7 @@ fn in_room(alloc: Global, trees: Vec<GameTree>, before: Counts) -> (FileOutcome,
     ensures { IsAddedBy before trees.items result.0 result.1.items }
 {
     let games = u64::from(before.games) + trees.len() as u64;
-    let nodes = u64::from(before.nodes) + nodes_of(&trees);
+    let nodes = u64::from(before.nodes) + nodes_of_trees(&trees);
     if games > u64::from(MAX_BASE_GAMES) || nodes > u64::from(MAX_BASE_NODES) {
         return (FileOutcome::Full { games, nodes }, Vec::new(alloc));
     }
@@ -104,8 +104,8 @@ fn in_room(alloc: Global, trees: Vec<GameTree>, before: Counts) -> (FileOutcome,
     (FileOutcome::Accepted { games }, trees)
 }
 
-// How many nodes these games have.
-fn nodes_of(trees: &[GameTree]) -> u64
+// How many nodes these trees have.
+fn nodes_of_trees(trees: &[GameTree]) -> u64
     requires { length trees.now < 4294967296 }
     ensures value { result ≡ nodes_of_trees trees.now }
     ensures most { result < 281474976710656 }

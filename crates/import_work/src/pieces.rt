@@ -1,12 +1,12 @@
 // What is found in the files of a batch, in up to eight pieces side by side.
 ghost use Rattle.std.specs.Prelude.{◌≡◌, ◌≤◌, ◌++◌, length, IfOk, OnOk};
-ghost use Rattle.import_work.specs.Judged.{AreFound, IsFoundFile};
-ghost use Rattle.import_work.specs.Pieces.{ArePiecesJoined, IsPieceAdded, group_texts};
+ghost use Rattle.import_work.specs.Judged.{AreFoundFiles, IsFoundFile};
+ghost use Rattle.import_work.specs.Pieces.{group_texts};
 ghost use Rattle.import_work.specs.Reads.{file_text, file_texts};
 
 use crate::found::{Follower, Found, FoundFile, found_in};
 use crate::read::ReadFile;
-use kb_geometry::NoMemory;
+use kb_geometry::{NoMemory, joined};
 use std::alloc::Global;
 use std::thread::Threads;
 use std::{mem, thread};
@@ -20,7 +20,7 @@ pub(crate) fn found_files<R: Threads + Sync>(
     alloc: Global,
     files: Vec<ReadFile>,
 ) -> Result<Vec<FoundFile>, NoMemory>
-    ensures { IfOk result (λ found. AreFound (file_texts files.items) found.items) }
+    ensures { IfOk result (λ found. AreFoundFiles (file_texts files.items) found.items) }
 {
     let groups = grouped(alloc, files)?;
     let pieces = thread::map_vec(rt, groups, &|group| { found_in_group(alloc, group) })?;
@@ -97,7 +97,7 @@ fn length_of(file: &ReadFile) -> u64 {
 
 // What is found in the files of a group.
 fn found_in_group(alloc: Global, group: Vec<ReadFile>) -> Result<Vec<FoundFile>, NoMemory>
-    ensures { IfOk result (λ found. AreFound (file_texts group.items) found.items) }
+    ensures { IfOk result (λ found. AreFoundFiles (file_texts group.items) found.items) }
 {
     let mut follower = Follower::new();
     let mut found = Vec::new(alloc);
@@ -122,35 +122,5 @@ fn found_file(alloc: Global, follower: &mut Follower, file: ReadFile) -> Result<
             name,
             found: Found::Unread,
         }),
-    }
-}
-
-// What is found in all pieces, in one list.
-fn joined(
-    alloc: Global,
-    pieces: Vec<Result<Vec<FoundFile>, NoMemory>>,
-) -> Result<Vec<FoundFile>, NoMemory>
-    ensures { IfOk result (λ files. ArePiecesJoined pieces.items files.items) }
-{
-    let mut files = Vec::new(alloc);
-    for piece in pieces {
-        add_piece(piece, &mut files)?;
-    }
-    Ok(files)
-}
-
-// Moves what a piece has behind others, unless memory ran out at the piece.
-fn add_piece(
-    piece: Result<Vec<FoundFile>, NoMemory>,
-    files: &mut Vec<FoundFile>,
-) -> Result<(), NoMemory>
-    ensures { OnOk result (IsPieceAdded piece files.old.items files.new.items) }
-{
-    match piece {
-        Ok(mut more) => {
-            files.append(&mut more)?;
-            Ok(())
-        }
-        Err(error) => Err(error),
     }
 }

@@ -8,7 +8,8 @@ use Rattle.std.specs.declared.alloc.Global.{Global}
 use Rattle.std.specs.declared.vec.Vec.{Vec}
 use Rattle.info_filter.specs.Players.{Side, TableRow}
 use Rattle.info_filter.specs.Seats.{Entry, IsCountedAt, IsCountedFor, IsFirst, IsNext, IsOneSideMore, IsSeat, is_same_name, row_of, table_rows_of}
-use Rattle.info_filter.specs.SidesCounted.{IsSideAdded, with_side_counted, one_if, with_side}
+use Rattle.info_filter.specs.SidesCounted.{AreRowsWithSide, with_side_counted, with_side}
+use Rattle.game_tree.specs.Stored.{one_if}
 use Rattle.indexmap.specs.IndexMap.{insert_entry}
 use Rattle.indexmap.specs.Layout.{set_value_at}
 use Rattle.info_filter.specs.declared.score.Score.{Score}
@@ -153,7 +154,7 @@ seat_inserted es key w name (seat.New k) there = there
 
 -- ---- what the writes of the code add
 
-pub row_added : (es new : List Entry) (i : ℕ) (won lost : Bool) → IsCountedAt es i won lost new → (name : List ℕ) (s : Seat) → s ≡ seat.Row i → IsSeat es name s → IsSideAdded (table_rows_of es) (side_of name won lost) (table_rows_of new)
+pub row_added : (es new : List Entry) (i : ℕ) (won lost : Bool) → IsCountedAt es i won lost new → (name : List ℕ) (s : Seat) → s ≡ seat.Row i → IsSeat es name s → AreRowsWithSide (table_rows_of es) (side_of name won lost) (table_rows_of new)
 row_added es new i won lost (k, v, w, is, more, new_is) name s at there =
     let (named, within, place) = subst (IsSeat es name) at there in
     record {
@@ -164,7 +165,7 @@ row_added es new i won lost (k, v, w, is, more, new_is) name s at there =
 pub row_kept : (es new : List Entry) (i : ℕ) (won lost : Bool) → IsCountedAt es i won lost new → (name : List ℕ) (other : Seat) → IsSeat es name other → IsSeat new name other
 row_kept es new i won lost (k, v, w, is, more, new_is) name other there = subst (λ (xs : List Entry). IsSeat xs name other) (sym new_is) (seat_set es i w name other there)
 
-pub name_added : (es new : List Entry) (key : Vec ℕ Global) (won lost : Bool) → IsCountedFor es key won lost new → (name : List ℕ) (s : Seat) → s ≡ seat.New key → IsSeat es name s → IsSideAdded (table_rows_of es) (side_of name won lost) (table_rows_of new)
+pub name_added : (es new : List Entry) (key : Vec ℕ Global) (won lost : Bool) → IsCountedFor es key won lost new → (name : List ℕ) (s : Seat) → s ≡ seat.New key → IsSeat es name s → AreRowsWithSide (table_rows_of es) (side_of name won lost) (table_rows_of new)
 name_added es new key won lost (w, next, new_is) name s at there =
     let (named, is) = subst (IsSeat es name) at there in
     record {

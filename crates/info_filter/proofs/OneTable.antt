@@ -5,7 +5,7 @@ use Rattle.std.proofs.lemmas.List.Elements.{All-weaker}
 use Rattle.std.proofs.lemmas.List.Sums.{count_by-le-length}
 use Rattle.game_tree.specs.Information.{Information}
 use Rattle.info_filter.specs.Players.{ArePlayerRows, IsSeenBefore, IsPlayersTable, IsToldOfPlayer, Side, TableRow, is_side_of, sides_of}
-use Rattle.info_filter.specs.SidesCounted.{IsSideAdded, with_side}
+use Rattle.info_filter.specs.SidesCounted.{AreRowsWithSide, with_side}
 use Rattle.info_filter.proofs.TableRows.{any_cases, any_head, any_not_all, any_nothing, any_tail, empty_or_not, no_rows, pairs_head, pairs_tail, side_added, told_side}
 
 -- ---- two lists in one order
@@ -102,7 +102,7 @@ rows_once sides a b one other =
 
 -- ---- some table
 
-side_some : (old : List TableRow) (side : Side) → (new : List TableRow) × IsSideAdded old side new
+side_some : (old : List TableRow) (side : Side) → (new : List TableRow) × AreRowsWithSide old side new
 side_some old side = elim (empty_or_not side.name) [
   | inl nothing ↦ (old, record { nameless = λ _. refl; named = λ named. absurd (named nothing) })
   | inr named ↦ (with_side old side, record { nameless = λ nothing. absurd (named nothing); named = λ _. refl })

@@ -7,7 +7,8 @@ use Rattle.std.proofs.lemmas.List.Elements.{All-append, All-cons, All-head, All-
 use Rattle.std.proofs.lemmas.List.Kept.{AllPairs-cons}
 use Rattle.std.proofs.lemmas.List.Sums.{sum_by-append, sum_by-cons}
 use Rattle.info_filter.specs.Players.{ArePlayerRows, IsSeenBefore, IsToldOfPlayer, Side, TableRow, is_side_of}
-use Rattle.info_filter.specs.SidesCounted.{IsSideAdded, with_side_counted, one_if, with_side}
+use Rattle.info_filter.specs.SidesCounted.{AreRowsWithSide, with_side_counted, with_side}
+use Rattle.game_tree.specs.Stored.{one_if}
 
 -- ---- names
 
@@ -319,7 +320,7 @@ pub empty_or_not : (name : List ℕ) → (name ≡ []) ⊎ (name ≢ [])
 empty_or_not [] = inl refl
 empty_or_not (b ∷ name) = inr (λ e. absurd cc)
 
-pub side_added : (sides : List Side) (old new : List TableRow) (side : Side) → IsSideAdded old side new → ArePlayerRows sides old → ArePlayerRows (sides ++ side ∷ []) new
+pub side_added : (sides : List Side) (old new : List TableRow) (side : Side) → AreRowsWithSide old side new → ArePlayerRows sides old → ArePlayerRows (sides ++ side ∷ []) new
 side_added sides old new side added are = elim (empty_or_not side.name) [
   | inl nothing ↦ subst (ArePlayerRows (sides ++ side ∷ [])) (sym (added.nameless nothing)) (nameless_added sides old side nothing are)
   | inr named ↦ subst (ArePlayerRows (sides ++ side ∷ [])) (sym (added.named named)) (named_added sides old side named are)

@@ -3,7 +3,7 @@ use Rattle.std.proofs.Common.{◌≡◌, ◌+◌, ◌++◌, ◌≤◌, ℕ, Bool
 use Rattle.std.proofs.lemmas.List.Elements.{All-cons, All-head, All-nil, All-tail, All-weaker}
 use Rattle.game_tree.specs.Information.{Information}
 use Rattle.info_filter.specs.Players.{ArePlayerRows, IsPlayersTable, Side, TableRow, black_side, sides_of, white_side}
-use Rattle.info_filter.specs.SidesCounted.{IsGameAdded, IsSideAdded, with_side_counted, with_side}
+use Rattle.info_filter.specs.SidesCounted.{AreRowsWithGame, AreRowsWithSide, with_side_counted, with_side}
 use Rattle.info_filter.proofs.Entries.{side_of}
 use Rattle.info_filter.proofs.TableRows.{empty_or_not, side_added, told_name}
 
@@ -16,16 +16,16 @@ sides_push : (games : List Information) (info : Information) → sides_of (games
 sides_push [] info = refl
 sides_push (game ∷ games) info = ap (λ (xs : List Side). black_side game ∷ white_side game ∷ xs) (sides_push games info)
 
-game_added : (games : List Information) (info : Information) (old between new : List TableRow) → IsSideAdded old (black_side info) between → IsSideAdded between (white_side info) new → IsPlayersTable games old → IsPlayersTable (games ++ info ∷ []) new
+game_added : (games : List Information) (info : Information) (old between new : List TableRow) → AreRowsWithSide old (black_side info) between → AreRowsWithSide between (white_side info) new → IsPlayersTable games old → IsPlayersTable (games ++ info ∷ []) new
 game_added games info old between new black white table =
     subst (λ (sides : List Side). ArePlayerRows sides new) (sym (sides_push games info))
     (side_added (sides_of games ++ black_side info ∷ []) between new (white_side info) white (side_added (sides_of games) old between (black_side info) black table))
 
-pub game_rows : (info : Information) (old rows between new : List TableRow) → old ≡ rows → IsSideAdded rows (black_side info) between → IsSideAdded between (white_side info) new → IsGameAdded old info new
-game_rows info old rows between new same black white = record { between = between; black = subst (λ (rs : List TableRow). IsSideAdded rs (black_side info) between) (sym same) black; white = white }
+pub game_rows : (info : Information) (old rows between new : List TableRow) → old ≡ rows → AreRowsWithSide rows (black_side info) between → AreRowsWithSide between (white_side info) new → AreRowsWithGame old info new
+game_rows info old rows between new same black white = record { between = between; black = subst (λ (rs : List TableRow). AreRowsWithSide rs (black_side info) between) (sym same) black; white = white }
 
 -- the table of a list of games, with one game more
-pub table_more : (games : List Information) (info : Information) (old new : List TableRow) → IsGameAdded old info new → IsPlayersTable games old → IsPlayersTable (games ++ info ∷ []) new
+pub table_more : (games : List Information) (info : Information) (old new : List TableRow) → AreRowsWithGame old info new → IsPlayersTable games old → IsPlayersTable (games ++ info ∷ []) new
 table_more games info old new added table = game_added games info old added.between new added.black added.white table
 
 -- ---- the number of games of a row, with one side more
@@ -46,7 +46,7 @@ small_with most (row ∷ rows) side small =
       | inr (e, differ) ↦ rw e (All-cons P row (with_side rows side) (omega (arith, head)) (small_with most rows side (All-tail S row rows small)))
     ]
 
-pub small_added : (most more : ℕ) (old new : List TableRow) (side : Side) → most + 1 ≤ more → IsSideAdded old side new → AreSmall most old → AreSmall more new
+pub small_added : (most more : ℕ) (old new : List TableRow) (side : Side) → most + 1 ≤ more → AreRowsWithSide old side new → AreSmall most old → AreSmall more new
 small_added most more old new side room added small = elim (empty_or_not side.name) [
   | inl nothing ↦ subst (AreSmall more) (sym (added.nameless nothing)) (All-weaker (λ (r : TableRow). r.games ≤ most) (λ (r : TableRow). r.games ≤ more) (λ r le. omega (arith, le, room)) old small)
   | inr named ↦ subst (AreSmall more) (sym (added.named named)) (All-weaker (λ (r : TableRow). r.games ≤ most + 1) (λ (r : TableRow). r.games ≤ more) (λ r le. omega (arith, le, room)) (with_side old side) (small_with most old side small))

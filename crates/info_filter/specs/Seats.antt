@@ -7,8 +7,8 @@ use Rattle.std.specs.declared.alloc.Global.{Global}
 use Rattle.std.specs.declared.vec.Vec.{Vec}
 use Rattle.indexmap.specs.IndexMap.{insert_entry}
 use Rattle.indexmap.specs.Layout.{set_value_at}
+use Rattle.game_tree.specs.Stored.{one_if}
 use Rattle.info_filter.specs.Players.{TableRow}
-use Rattle.info_filter.specs.SidesCounted.{one_if}
 use Rattle.info_filter.specs.declared.score.Score.{Score}
 use Rattle.info_filter.specs.declared.seat.Seat.{Seat}
 use Rattle.info_filter.specs.declared.seat.Seat.TheVariants as seat

@@ -1,12 +1,9 @@
 -- The rows of a players' table with one side more, and with one game more.
-use Rattle.std.specs.Prelude.{◌≡◌, ◌≢◌, ℕ, ◌+◌, Bool, if◌then◌else◌, List, [], ◌∷◌}
+use Rattle.std.specs.Prelude.{◌≡◌, ◌≢◌, ℕ, ◌+◌, if◌then◌else◌, List, [], ◌∷◌}
 use Rattle.std.specs.Str.{bytes_eq}
 use Rattle.game_tree.specs.Information.{Information}
+use Rattle.game_tree.specs.Stored.{one_if}
 use Rattle.info_filter.specs.Players.{Side, TableRow, black_side, white_side}
-
--- 1 if it is true, else 0
-abbrev pub one_if : Bool → ℕ
-one_if b = if b then 1 else 0
 
 -- the row with one side more
 abbrev pub with_side_counted : TableRow → Side → TableRow
@@ -30,13 +27,13 @@ with_side (row ∷ rows) side =
     else row ∷ with_side rows side
 
 -- the rows with one side more, which may have no name
-pub record IsSideAdded (old : List TableRow) (side : Side) (new : List TableRow) : Type 0 where
+pub record AreRowsWithSide (old : List TableRow) (side : Side) (new : List TableRow) : Type 0 where
   pub nameless : side.name ≡ [] → new ≡ old
   pub named : side.name ≢ [] → new ≡ with_side old side
 
 -- The rows with one game more: with its black side, and then with its white one.
-pub record IsGameAdded (old : List TableRow) (info : Information)
+pub record AreRowsWithGame (old : List TableRow) (info : Information)
     (new : List TableRow) : Type 0 where
   pub between : List TableRow
-  pub black : IsSideAdded old (black_side info) between
-  pub white : IsSideAdded between (white_side info) new
+  pub black : AreRowsWithSide old (black_side info) between
+  pub white : AreRowsWithSide between (white_side info) new

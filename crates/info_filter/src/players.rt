@@ -3,7 +3,7 @@ ghost use Rattle.std.specs.Prelude.{◌≡◌, ◌++◌, ◌≤◌, List, [], �
 ghost use Rattle.game_tree.specs.Information.{Information};
 ghost use Rattle.std.specs.Iterator.{YieldsFirstBy, item_count};
 ghost use Rattle.info_filter.specs.Players.{IsPlayersTable, TableRow, is_black_win, is_white_win};
-ghost use Rattle.info_filter.specs.SidesCounted.{IsGameAdded};
+ghost use Rattle.info_filter.specs.SidesCounted.{AreRowsWithGame};
 
 use crate::score::Score;
 use crate::seat::{add_side, seat_of};
@@ -47,7 +47,7 @@ impl Players {
     /// error is `NoMemory`, and then nothing is added.
     pub fn add(&mut self, alloc: Global, info: &Info) -> Result<(), NoMemory>
         requires { All (λ (row : TableRow). row.games ≤ 4000000000) self.old }
-        ensures rows { OnOk result (IsGameAdded self.old info.now self.new) }
+        ensures rows { OnOk result (AreRowsWithGame self.old info.now self.new) }
         ensures ok { OnOk result ((games : List Information) →
             IsPlayersTable games self.old → IsPlayersTable (games ++ (info.now ∷ [])) self.new) }
         ensures err { OnErr result (self.new ≡ self.old) }

@@ -3,7 +3,7 @@ ghost use Rattle.std.specs.Prelude.{◌+◌, ◌<◌, ◌≤◌, ℕ, List, leng
 ghost use Rattle.indexmap.specs.IndexMap.{spare};
 ghost use Rattle.info_filter.specs.Players.{TableRow};
 ghost use Rattle.info_filter.specs.Seats.{IsCountedAt, IsCountedFor, IsSeat, table_rows_of};
-ghost use Rattle.info_filter.specs.SidesCounted.{IsSideAdded};
+ghost use Rattle.info_filter.specs.SidesCounted.{AreRowsWithSide};
 ghost use Rattle.info_filter.specs.declared.seat.Seat.{Seat};
 
 use crate::score::Score;
@@ -46,7 +46,7 @@ pub(crate) fn add_side(scores: &mut IndexMap<Vec<u8>, Score>, seat: Seat, won: b
     requires small { All (λ (row : TableRow). row.games ≤ 4294967294)
         (table_rows_of scores.old.entries) }
     ensures added { (name : List ℕ) → IsSeat scores.old.entries name seat →
-        IsSideAdded (table_rows_of scores.old.entries)
+        AreRowsWithSide (table_rows_of scores.old.entries)
         (record { name = name; won = won; lost = lost }) (table_rows_of scores.new.entries) }
     ensures kept { (name : List ℕ) (other : Seat) →
         IsSeat scores.old.entries name other → IsSeat scores.new.entries name other }

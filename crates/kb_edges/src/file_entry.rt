@@ -1,3 +1,5 @@
+// The files of a folder in memory.
+
 /// A file of a folder in memory.
 #[derive(Drop)]
 pub struct FileEntry {

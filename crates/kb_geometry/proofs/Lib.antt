@@ -1,4 +1,5 @@
 pub mod Lists
+pub mod Pieces
 pub mod Prefixes
 pub mod Setups
 pub mod Shapes

@@ -1,5 +1,6 @@
 -- Words that contracts of public functions rest on.
 pub mod Board
 pub mod Capture
+pub mod Pieces
 pub mod Side
 pub mod Symmetry

@@ -1,6 +1,6 @@
 //! The geometry of a Go board: shapes, points, stones, the changes of a position, and the
 //! symmetries. Beside it what all layers share: lists and texts that contracts see, the answer
-//! where memory is short, and bytes that are appended to a vector.
+//! where memory is short, bytes that are appended to a vector, and what is made in pieces, joined.
 //!
 //! Stands on the library itoa, which writes digits. In `specs/` are the words of the capture rule:
 //! position, neighbour, group, liberty and the position after a move, and the table of the
@@ -10,6 +10,7 @@
 
 mod appending;
 mod items;
+mod joining;
 mod laws;
 mod memory;
 mod shape;
@@ -20,6 +21,7 @@ mod text;
 
 pub use appending::{append, append_decimal, append_decimal_and, cut_back};
 pub use items::Items;
+pub use joining::joined;
 pub use laws::{a_setup_sets_its_rectangle_alone, the_greatest_board_is_52_by_52};
 pub use memory::NoMemory;
 pub use shape::{MAX_POINTS, MAX_SIDE, Point, Rect, Shape};

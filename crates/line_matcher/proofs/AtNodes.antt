@@ -13,7 +13,7 @@ use Rattle.std.proofs.lemmas.Map.Views.{Contains-from_any, list_any-from_Contain
 use Rattle.capture_board.specs.Deltas.{Deltas}
 use Rattle.pattern_images.specs.Placements.{Placement}
 use Rattle.line_matcher.specs.declared.occurrence.Occurrence.{Occurrence}
-use Rattle.line_matcher.specs.Nodes.{IsFoundAmong, IsFoundIn}
+use Rattle.line_matcher.specs.Nodes.{IsFoundAmong, IsFoundAtNode}
 use Rattle.line_matcher.specs.Occurrences.{Occurs, is_at_one_of, occurrences_at, occurrences_at_nodes, occurrences_in}
 use Rattle.line_matcher.proofs.FoundLists.{range_more}
 use Rattle.line_matcher.proofs.OccurrenceLaw.{all_occur, at_node, placements_are_there}
@@ -89,7 +89,7 @@ module _ (deltas : Deltas) (placements : List Placement) (given : List ℕ) wher
       found ∙ ap (λ (os : List Occurrence). old ++ os) (sym (among-skip n (m - n) (λ i low high. none i low (omega arith))) ∙ ap among e)
 
   -- the next node is given
-  pub IsFoundAmong-more : (n : ℕ) (old between new : List Occurrence) → Contains given n → IsFoundAmong deltas placements given n old between → IsFoundIn deltas placements n between new → IsFoundAmong deltas placements given (n + 1) old new
+  pub IsFoundAmong-more : (n : ℕ) (old between new : List Occurrence) → Contains given n → IsFoundAmong deltas placements given n old between → IsFoundAtNode deltas placements n between new → IsFoundAmong deltas placements given (n + 1) old new
   IsFoundAmong-more n old between new there found here =
       here
       ∙ ap (λ (os : List Occurrence). os ++ at n) found

@@ -33,7 +33,7 @@ use Rattle.line_matcher.specs.Begins.{AreOccurrencesAdded, holds_anew, occurrenc
 use Rattle.line_matcher.specs.Concerned.{AreConcerned, ArePointsWith}
 use Rattle.line_matcher.specs.Masks.{asks, asks_black, asks_white}
 use Rattle.line_matcher.specs.Matchers.{AreMost}
-use Rattle.line_matcher.specs.Nodes.{IsFoundAtRoot, IsFoundByChanges, IsFoundIn, IsFoundTo}
+use Rattle.line_matcher.specs.Nodes.{IsFoundAtRoot, IsFoundByChanges, IsFoundAtNode, IsFoundTo}
 use Rattle.line_matcher.specs.declared.occurrence.Occurrence.{Occurrence}
 use Rattle.line_matcher.specs.Occurrences.{begins_at, holds, holds_at, occurrences_at}
 use Rattle.line_matcher.proofs.Beginning.{Touched, touches-decides}
@@ -213,25 +213,25 @@ module _ (deltas : Deltas) (placement : Placement) (n : ℕ) where
       ∙ ap (λ (o : Option ℕ). holds_at deltas placement n && not (option_map_or (holds_at deltas placement) o false)) (sym e)
 
 -- what was found by a test that tells what begins at a node
-pub IsFoundIn-added : (deltas : Deltas) (placements : List Placement) (node : ℕ) (test : Placement → Bool) (old new : List Occurrence) → ((placement : Placement) → test placement ≡ begins_at deltas placement node) →
-    AreOccurrencesAdded placements test node 0 (length placements) old new → IsFoundIn deltas placements node old new
-IsFoundIn-added deltas placements node test old new agree added =
+pub IsFoundAtNode-added : (deltas : Deltas) (placements : List Placement) (node : ℕ) (test : Placement → Bool) (old new : List Occurrence) → ((placement : Placement) → test placement ≡ begins_at deltas placement node) →
+    AreOccurrencesAdded placements test node 0 (length placements) old new → IsFoundAtNode deltas placements node old new
+IsFoundAtNode-added deltas placements node test old new agree added =
     let e : occurrences_below placements test node (length placements) ≡ occurrences_at deltas placements node =
     occurrences_below-agree placements test (λ p. begins_at deltas p node) node (length placements) (λ i. agree (placement_at placements i)) in
     added.grown old (sym (append-nil old)) ∙ ap (λ (os : List Occurrence). old ++ os) e
 
 pub found_at_root : (deltas : Deltas) (images : ImageList) (position : Position) (node : ℕ) (old new : List Occurrence) → images.shape ≡ deltas.shape → position ≡ position_at deltas node → parent_of deltas node ≡ None →
-    IsFoundAtRoot images position node old new → IsFoundIn deltas images.placements node old new
+    IsFoundAtRoot images position node old new → IsFoundAtNode deltas images.placements node old new
 found_at_root deltas images position node old new same_shape shown root added =
-    IsFoundIn-added deltas images.placements node (holds_anew images.shape position None) old new
+    IsFoundAtNode-added deltas images.placements node (holds_anew images.shape position None) old new
     (λ p. ap (λ (s : Shape). holds_anew s position None p) same_shape ∙ ap (λ (q : Position). holds_anew deltas.shape q None p) shown ∙ begins_at-root deltas p node root)
     added
 
 pub found_by_changes : (deltas : Deltas) (images : ImageList) (position : Position) (changes : List Change) (node m : ℕ) (old new : List Occurrence) → images.shape ≡ deltas.shape → position ≡ position_at deltas node → AreDeltas deltas → parent_of deltas node ≡ Some m →
-    AreChangesOf (position_where deltas (parent_of deltas node)) changes → changes ≡ changes_of deltas node → IsFoundByChanges images position changes node old new → IsFoundIn deltas images.placements node old new
+    AreChangesOf (position_where deltas (parent_of deltas node)) changes → changes ≡ changes_of deltas node → IsFoundByChanges images position changes node old new → IsFoundAtNode deltas images.placements node old new
 found_by_changes deltas images position changes node m old new same_shape shown are parent of are_changes found =
     let here : AreConcerned (changes_of deltas node) found.points = subst (λ (cs : List Change). AreConcerned cs found.points) are_changes found.are_points in
-    IsFoundIn-added deltas images.placements node (holds_anew images.shape position (Some found.points)) old new
+    IsFoundAtNode-added deltas images.placements node (holds_anew images.shape position (Some found.points)) old new
     (λ p. ap (λ (s : Shape). holds_anew s position (Some found.points) p) same_shape
     ∙ ap (λ (q : Position). holds_anew deltas.shape q (Some found.points) p) shown
     ∙ begins_at-child deltas p node m are parent (subst (AreChangesOf (position_where deltas (parent_of deltas node))) are_changes of) found.points here)
@@ -266,7 +266,7 @@ module _ (deltas : Deltas) (placements : List Placement) where
   pub IsFoundTo-start : (found : List Occurrence) → IsFoundTo deltas placements 0 found found
   IsFoundTo-start found = sym (append-nil found)
 
-  pub IsFoundTo-more : (n : ℕ) (old between new : List Occurrence) → IsFoundTo deltas placements n old between → IsFoundIn deltas placements n between new → IsFoundTo deltas placements (n + 1) old new
+  pub IsFoundTo-more : (n : ℕ) (old between new : List Occurrence) → IsFoundTo deltas placements n old between → IsFoundAtNode deltas placements n between new → IsFoundTo deltas placements (n + 1) old new
   IsFoundTo-more n old between new found here =
       let at = occurrences_at deltas placements in
       here

@@ -29,8 +29,8 @@ pub record IsFoundByChanges (images : ImageList) (position : Position) (changes 
       (length images.placements) old new
 
 -- What was found grows by the occurrences at a node.
-abbrev pub IsFoundIn : Deltas → List Placement → ℕ → List Occurrence → List Occurrence → Type 0
-IsFoundIn deltas placements node old new = new ≡ old ++ occurrences_at deltas placements node
+abbrev pub IsFoundAtNode : Deltas → List Placement → ℕ → List Occurrence → List Occurrence → Type 0
+IsFoundAtNode deltas placements node old new = new ≡ old ++ occurrences_at deltas placements node
 
 -- What was found grows by the occurrences at the first so many nodes.
 abbrev pub IsFoundTo : Deltas → List Placement → ℕ → List Occurrence → List Occurrence → Type 0

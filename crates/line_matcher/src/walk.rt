@@ -5,7 +5,7 @@ ghost use Rattle.kb_geometry.specs.Board.{point_count};
 ghost use Rattle.capture_board.specs.Deltas.{node_count};
 ghost use Rattle.capture_board.specs.Walking.{StandsIn};
 ghost use Rattle.line_matcher.specs.Concerned.{AreConcerned, no_points};
-ghost use Rattle.line_matcher.specs.Nodes.{IsFoundAtRoot, IsFoundByChanges, IsFoundIn, IsFoundTo};
+ghost use Rattle.line_matcher.specs.Nodes.{IsFoundAtRoot, IsFoundByChanges, IsFoundAtNode, IsFoundTo};
 ghost use Rattle.line_matcher.specs.declared.occurrence.Occurrence.{Occurrence};
 ghost use Rattle.line_matcher.specs.Occurrences.{AreFound, occurrences_in};
 
@@ -142,7 +142,7 @@ pub(crate) fn add_node(
     requires stands { StandsIn deltas.now walker.now }
     requires here { walker.now.here ≡ Some node }
     requires none { points.old ≡ no_points }
-    ensures found { OnOk result (IsFoundIn deltas.now matcher.now.images.now.placements node
+    ensures found { OnOk result (IsFoundAtNode deltas.now matcher.now.images.now.placements node
         found.old.items found.new.items) }
     ensures none { OnOk result (points.new ≡ no_points) }
 {

@@ -24,9 +24,9 @@ use crate::{Pattern, PatternCell};
 use kb_geometry::{Label, Shape, Symmetry, inverse};
 use std::alloc::{AllocError, Global};
 
-// Where the cells of a turned rectangle come from: a cell's number in the rectangle before it is turned is
-// `forward` for each cell to its left in the turned rectangle, `backward` for each to its right,
-// `down` for each row above it, and `up` for each row below it, all added up.
+// Where the cells of a turned rectangle come from: a cell's number in the rectangle before it is
+// turned is `forward` for each cell to its left in the turned rectangle, `backward` for each to its
+// right, `down` for each row above it, and `up` for each row below it, all added up.
 #[derive(Clone, Copy, Debug)]
 struct Strides {
     forward: u8,

@@ -6,7 +6,7 @@ use crate::pieces::{Piece, append_line};
 use kb_geometry::NoMemory;
 
 // Appends the first line: the number of the line, what is asked of which version, how many games it
-// has, and how many of what is counted there.
+// has, and how many of what is counted there. After `NoMemory` `out` is as before.
 pub(crate) fn append_head<'a>(
     out: &mut Vec<u8>,
     line: u32,

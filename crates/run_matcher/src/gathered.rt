@@ -39,7 +39,8 @@ use std::marker::Model;
 /// placement is known to go on to hold. It may serve for many games one after another, which spares
 /// making its lists anew.
 ///
-/// Contracts see a list: what is in it counts, and not in what order, nor how often.
+/// Contracts see a list. What a caller gets of it depends on what is in it alone, not on the order,
+/// nor how often; only `kept` of `add` speaks of its beginning.
 #[derive(Debug, Drop)]
 pub struct Gathered {
     // A number for each.
@@ -97,7 +98,7 @@ impl Gathered {
             runs.now ≡ positions_of deltas → (o : Occurrence) →
             Contains (occurrences_of self.new) o ↔ (Contains (occurrences_of self.old) o
             ⊎ IsOccurrenceOf deltas sought.now.images.now.placements sought.now.number o)) }
-        ensures known { OnOk result ((deltas : Deltas) → AreDeltas deltas →
+        ensures go_on { OnOk result ((deltas : Deltas) → AreDeltas deltas →
             runs.now ≡ positions_of deltas → (b : Begun) → Contains self.new b →
             Contains self.old b ⊎ GoesOnToHold deltas sought.now.images.now.placements b) }
         ensures kept { IsPrefix self.old self.new }
@@ -129,7 +130,7 @@ impl Gathered {
         ensures occurrences { OnOk result ((o : Occurrence) →
             Contains (occurrences_of self.new) o ↔ (Contains (occurrences_of self.old) o
             ⊎ ((o.placement ≡ placement) × BeginsIn runs.now stretches.now o.node))) }
-        ensures known { OnOk result ((b : Begun) → Contains self.new b →
+        ensures go_on { OnOk result ((b : Begun) → Contains self.new b →
             Contains self.old b ⊎ IsKnownIn stretches.now placement b) }
         ensures kept { IsPrefix self.old self.new }
     {

@@ -48,7 +48,7 @@ module _ (query : Query) (shapes : List Shape) (planes : PlaneGames) (asked : �
     more = [];
     added = same ∙ sym (append-nil old);
     in_range = λ ps are c (k, lt, at). absurd (omega (arith, lt));
-    there = λ c g (k, lt, at) below bit. absurd (omega (arith, lt));
+    of_games = λ c g (k, lt, at) below bit. absurd (omega (arith, lt));
     sound = λ ps are c g (k, lt, at) below bit. absurd (omega (arith, lt));
     complete = λ covered ps are i g lt below bit possible. absurd (not (covered (are.sound i no_placement lt).board));
   }
@@ -59,7 +59,7 @@ module _ (query : Query) (shapes : List Shape) (planes : PlaneGames) (asked : �
     more = found.more;
     added = found.added;
     in_range = λ ps too c there. subst (λ (qs : List Placement). c.placement < length qs) (one_list query planes.shape placements ps are too) (All-contains (λ (d : Candidate). d.placement < length placements) found.more c found.are.in_range there);
-    there = λ c g there below bit.
+    of_games = λ c g there below bit.
         let lt = All-contains (λ (d : Candidate). d.placement < length placements) found.more c found.are.in_range there in
         let is = (found.are.exact c.placement g lt below).0 (candidate_is found.more c g there bit) in
         (is.0, not_none (get_or planes.games g None) (λ sets. MeetsCells planes.shape sets (placement_at placements c.placement)) is.1);
@@ -103,7 +103,7 @@ module _ (query : Query) (shapes : List Shape) (games : List Game) (asked : ℕ)
 
     -- a game with a candidate that is added is on a board of their shape
     on_shape : (g : ℕ) (game : Game) → slice_get games g ≡ Some game → (c : Candidate) → Contains added.more c → bit_at c.games g ≡ 1 → game.tree.shape ≡ p.shape
-    on_shape g game there c here bit = on_shape_where_there p.shape game.tree (get_or p.games g None) (told g game there) (added.there c g here (below_64 g game there) bit).1
+    on_shape g game there c here bit = on_shape_where_there p.shape game.tree (get_or p.games g None) (told g game there) (added.of_games c g here (below_64 g game there) bit).1
 
     in_range : AreInRange query games (IsCandidate (old ++ added.more))
     in_range g game there ps are i (n, c, lt, place, is) = elim (Contains-append_cases old added.more c (n, lt, place)) [

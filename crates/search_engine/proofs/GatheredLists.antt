@@ -115,7 +115,7 @@ module _ (games : List Game) (placements : List Placement) (c : Candidate) (old 
         let before = so_far g other there changes of o in (
           λ h. elim (before.0 (subst (λ (os : List Occurrence). Contains os o) (others g ne) h)) [
             | inl first ↦ inl first
-            | inr more ↦ inr (omega (arith, more.0, next.there), more.1, more.2)
+            | inr more ↦ inr (omega (arith, more.0, next.from_on), more.1, more.2)
           ],
           λ h. subst (λ (os : List Occurrence). Contains os o) (sym (others g ne)) (before.1 (elim h [
             | inl first ↦ inl first

@@ -2,7 +2,7 @@
 use Rattle.std.proofs.Common.{◌≡◌, ℕ, ◌+◌, ◌<◌, Some, List, [], ◌∷◌, ◌++◌, get_or, length, map, take, refl, sym, ap, ◌∙◌, subst, arith}
 use Rattle.std.specs.Prelude.{All}
 use Rattle.std.specs.List.{slice_get}
-use Rattle.std.proofs.lemmas.List.{get_or-map, length-map, map-id, map_push, take_more}
+use Rattle.std.proofs.lemmas.List.{get_or-map, length-map, map_push, take_more}
 use Rattle.std.proofs.lemmas.List.Elements.{All-nil, All-push}
 use Rattle.std.proofs.lemmas.Option.{get_or_from_slice_get, slice_get_within}
 use Rattle.kb_geometry.specs.declared.shape.Shape.{Shape}
@@ -21,7 +21,7 @@ module _ (query : Query) where
   AreImagesOf-more shapes made new k images d lt asked so_far on placements pushed = subst (AreImagesOf query (take (k + 1) shapes)) (sym pushed) (record {
     on_shapes = map_push (λ (i : ImageList). i.shape) made images ∙ ap (λ ss. ss ++ images.shape ∷ []) so_far.on_shapes ∙ ap (λ (s : Shape). take k shapes ++ s ∷ []) on ∙ sym (take_more shapes k d lt);
     are_images = All-push (AreImagesOn query) made images so_far.are_images (record {
-      asked = subst (IsForBoard query) (sym on) (asked k d lt);
+      for_board = subst (IsForBoard query) (sym on) (asked k d lt);
       placements = subst (λ (s : Shape). ArePlacements query s images.placements) (sym on) placements;
     });
   })
@@ -36,7 +36,3 @@ module _ (query : Query) where
       let shape_here : get_or (map (λ (i : ImageList). i.shape) (map v xs)) k shape ≡ (v x).shape = get_or-map (λ (i : ImageList). i.shape) (map v xs) k (v x) shape (omega (arith, lt, length-map xs v)) ∙ ap (λ (i : ImageList). i.shape) here in
       let told : get_or shapes k shape ≡ shape = get_or_from_slice_get shapes k shape shape there in
       (subst (AreImagesOn query) here (are.are_images k (v x) (omega (arith, lt, length-map xs v))), sym shape_here ∙ (ap (λ ss. get_or ss k shape) are.on_shapes ∙ told))
-
-  -- the same of a list of images
-  pub images_here : (shapes : List Shape) (made : List ImageList) (k : ℕ) (images : ImageList) (shape : Shape) → AreImagesOf query shapes made → slice_get shapes k ≡ Some shape → images ≡ get_or made k images → AreImagesOn query images × (images.shape ≡ shape)
-  images_here shapes made k images shape are there at = images_at (λ (i : ImageList). i) shapes made k images shape (subst (AreImagesOf query shapes) (sym (map-id made)) are) there at

@@ -1,15 +1,13 @@
 -- The pieces of a search in one list.
-use Rattle.std.proofs.Common.{◌≡◌, ℕ, zero, suc, ◌+◌, ◌*◌, ◌≤◌, List, [], ◌∷◌, ◌++◌, get_or, length, take, refl, sym, ap, ◌∙◌, subst, arith, add-one}
+use Rattle.std.proofs.Common.{◌≡◌, ℕ, zero, suc, ◌+◌, ◌*◌, ◌≤◌, List, [], ◌∷◌, ◌++◌, get_or, length, take, sym, ap, ◌∙◌, subst, arith, add-one}
 use Rattle.std.proofs.lemmas.List.{append-nil, take_all, take_more}
 use Rattle.std.proofs.lemmas.List.Concat.{flat_map-append}
-use Rattle.std.proofs.lemmas.List.Elements.{All-nil, All-push}
 use Rattle.std.specs.Fork.{slice_chunk}
-use Rattle.std.specs.Global.{Global}
 use Rattle.std.specs.List.{flat_map}
-use Rattle.std.specs.Prelude.{All, Result, Ok, Err, IsOk, Vec}
+use Rattle.std.specs.Prelude.{All, Ok, Err, IsOk}
 use Rattle.std.proofs.lemmas.Bool.{false≢true}
-use Rattle.kb_geometry.specs.declared.memory.NoMemory.{NoMemory}
 use Rattle.kb_geometry.specs.declared.shape.Shape.{Shape}
+use Rattle.kb_geometry.specs.Pieces.{ArePiecesJoined, PieceOf, items_of_piece}
 use Rattle.node_position.specs.Games.{Game}
 use Rattle.pattern_images.specs.declared.hit.Hit.{Hit}
 use Rattle.pattern_images.specs.declared.query.Query.{Query}
@@ -17,41 +15,21 @@ use Rattle.info_filter.specs.declared.filter.Filter.{Filter}
 use Rattle.search_engine.specs.declared.item.Item.{Item}
 use Rattle.search_engine.specs.Hits.{AreHitsFrom}
 use Rattle.search_engine.specs.Items.{AreNumberedFrom, games_of_items}
-use Rattle.search_engine.specs.Searching.{AreAllPieces, AreCovered, IsCovered, IsPiece, IsPieceAdded}
+use Rattle.search_engine.specs.Searching.{AreAllPieces, AreCovered, IsCovered, IsPiece}
 use Rattle.search_engine.proofs.BlocksSearched.{All-of_sublist, hits_alone}
 use Rattle.search_engine.proofs.HitParts.{AreHitsFrom-append}
 use Rattle.search_engine.proofs.ItemLists.{AreNumberedFrom-piece, games_to_piece}
 
-abbrev Piece : Type 0
-Piece = Result (Vec Hit Global) NoMemory
-
 -- the hits of a piece
-abbrev pub hits_in : Piece → List Hit
-hits_in (Ok hits) = hits.items
-hits_in (Err e) = []
+abbrev hits_in : PieceOf Hit → List Hit
+hits_in = items_of_piece {A = Hit}
 
--- the hits of pieces, for each of which there was memory
-pub record AreJoined (pieces : List Piece) (hits : List Hit) : Type 0 where
-  pub joined : hits ≡ flat_map hits_in pieces
-  pub good : All (λ (p : Piece). IsOk p) pieces
-
-pub AreJoined-none : AreJoined [] []
-AreJoined-none = record { joined = refl; good = All-nil (λ (p : Piece). IsOk p) }
-
--- one piece more
-pub AreJoined-more : (pieces : List Piece) (piece : Piece) (old new : List Hit) → AreJoined pieces old → IsPieceAdded piece old new → AreJoined (pieces ++ piece ∷ []) new
-AreJoined-more pieces (Ok hits) old new so_far added = record {
-  joined = added ∙ ap (λ hs. hs ++ hits.items) so_far.joined ∙ sym (flat_map-append hits_in pieces (Ok hits ∷ []) ∙ ap (λ hs. flat_map hits_in pieces ++ hs) (append-nil hits.items));
-  good = All-push (λ (p : Piece). IsOk p) pieces (Ok hits) so_far.good refl;
-}
-AreJoined-more pieces (Err e) old new so_far added = absurd added
-
-module _ (query : Query) (filter : Filter) (shapes : List Shape) (items : List Item) (size : ℕ) (pieces : List Piece) (are : AreAllPieces query filter shapes items size pieces) (numbered : AreNumberedFrom 0 items) (covered : AreCovered query shapes (games_of_items items)) where
+module _ (query : Query) (filter : Filter) (shapes : List Shape) (items : List Item) (size : ℕ) (pieces : List (PieceOf Hit)) (are : AreAllPieces query filter shapes items size pieces) (numbered : AreNumberedFrom 0 items) (covered : AreCovered query shapes (games_of_items items)) where
   abbrev so_far : ℕ → List Hit → Type 0
   so_far n hits = AreHitsFrom 0 query filter (games_of_items (take (n * size) items)) hits
 
   -- the hits of one piece more
-  piece_more : (n : ℕ) (piece : Piece) (hits : List Hit) → IsPiece query filter shapes (slice_chunk items size n) piece → IsOk piece → so_far n hits → so_far (n + 1) (hits ++ hits_in piece)
+  piece_more : (n : ℕ) (piece : PieceOf Hit) (hits : List Hit) → IsPiece query filter shapes (slice_chunk items size n) piece → IsOk piece → so_far n hits → so_far (n + 1) (hits ++ hits_in piece)
   piece_more n (Ok more) hits is good before =
       let chunk = slice_chunk items size n in
       let done = games_of_items (take (n * size) items) in
@@ -61,12 +39,12 @@ module _ (query : Query) (filter : Filter) (shapes : List Shape) (items : List I
       subst (λ gs. AreHitsFrom 0 query filter gs (hits ++ more.items)) (sym next) (AreHitsFrom-append 0 query filter done hits before (games_of_items chunk) more.items own)
   piece_more n (Err e) hits is good before = absurd (false≢true good)
 
-  pieces_to : (n : ℕ) → n ≤ length pieces → All (λ (p : Piece). IsOk p) pieces → so_far n (flat_map hits_in (take n pieces))
+  pieces_to : (n : ℕ) → n ≤ length pieces → All (λ (p : PieceOf Hit). IsOk p) pieces → so_far n (flat_map hits_in (take n pieces))
   pieces_to zero le good =
       let start : 0 * size ≡ 0 = omega arith in
       subst (λ k. AreHitsFrom 0 query filter (games_of_items (take k items)) []) (sym start) AreHitsFrom.nothing
   pieces_to (suc n) le good =
-      let none : Piece = Err (record {}) in
+      let none : PieceOf Hit = Err (record {}) in
       let piece = get_or pieces n none in
       let next : take (suc n) pieces ≡ take n pieces ++ piece ∷ [] = ap (λ k. take k pieces) (sym (add-one n)) ∙ take_more pieces n none (omega arith) in
       let all : flat_map hits_in (take (suc n) pieces) ≡ flat_map hits_in (take n pieces) ++ hits_in piece = ap (flat_map hits_in) next ∙ flat_map-append hits_in (take n pieces) (piece ∷ []) ∙ ap (λ hs. flat_map hits_in (take n pieces) ++ hs) (append-nil (hits_in piece)) in
@@ -75,7 +53,7 @@ module _ (query : Query) (filter : Filter) (shapes : List Shape) (items : List I
       (piece_more n piece (flat_map hits_in (take n pieces)) (are.each n none (omega arith)) (good n none (omega arith)) (pieces_to n (omega arith) good)))
 
   -- the hits of all pieces are those of all games
-  pub hits_joined : (hits : List Hit) → AreJoined pieces hits → AreHitsFrom 0 query filter (games_of_items items) hits
+  pub hits_joined : (hits : List Hit) → ArePiecesJoined pieces hits → AreHitsFrom 0 query filter (games_of_items items) hits
   hits_joined hits all =
       let whole : so_far (length pieces) (flat_map hits_in pieces) = subst (λ ps. so_far (length pieces) (flat_map hits_in ps)) (take_all (length pieces) pieces (omega arith)) (pieces_to (length pieces) (omega arith) all.good) in
       subst (λ is. AreHitsFrom 0 query filter (games_of_items is) hits) (take_all (length pieces * size) items are.all)

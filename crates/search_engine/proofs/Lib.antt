@@ -10,6 +10,7 @@ mod GatheredLists
 mod ImagesOnShapes
 mod ItemLists
 mod ListedPlacements
+mod NodesVisited
 mod PlacementLists
 mod HitsKept
 pub mod KeptCounts

@@ -25,7 +25,7 @@ module _ (word from : ℕ) (fits : word < 2 ^ 64) where
           | inl lt ↦ lt
           | inr ge ↦ absurd (omega (arith, set, bit_at_above word 64 (from + t) fits ge))
         ];
-        there = omega arith;
+        from_on = omega arith;
         set = set;
         first = λ g ge lt.
             let at : from + (g - from) ≡ g = omega (arith, ge) in
@@ -63,7 +63,7 @@ module _ (old : List (List ℕ)) (c : Candidate) where
           ]),
         )
     | inr other ↦ (
-      λ is_in. elim ((so_far g i few).0 (subst (λ (ls : List ℕ). Contains ls i) (others g other) is_in)) [ inl first ↦ inl first | inr more ↦ inr (omega (arith, more.0, next.there), more.1, more.2) ],
+      λ is_in. elim ((so_far g i few).0 (subst (λ (ls : List ℕ). Contains ls i) (others g other) is_in)) [ inl first ↦ inl first | inr more ↦ inr (omega (arith, more.0, next.from_on), more.1, more.2) ],
       λ h. subst (λ (ls : List ℕ). Contains ls i) (sym (others g other)) ((so_far g i few).1 (elim h [
         | inl first ↦ inl first
         | inr more ↦ elim (cases_lt g from) [

@@ -24,7 +24,7 @@ pub record IsWithBit (before at : ℕ) (set : Type 0) (after : ℕ) : Type 0 whe
   pub here : (bit_at after at ≡ 1) ↔ (set ⊎ (bit_at before at ≡ 1))
   pub others : (j : ℕ) → j ≢ at → bit_at after j ≡ bit_at before j
 
--- of the games behind the first `skip` the bits of those that the filter accepts are set
+-- of the games behind the first `skip` exactly those that the filter accepts have their bits set
 abbrev pub AreAccepted : Filter → ℕ → List Game → ℕ → Type 0
 AreAccepted filter skip games word = (g : ℕ) (game : Game) → skip ≤ g →
     slice_get games g ≡ Some game → (bit_at word g ≡ 1) ↔ Accepts filter game.tree.info
@@ -32,7 +32,7 @@ AreAccepted filter skip games word = (g : ℕ) (game : Game) → skip ≤ g →
 -- the place is that of the first bit of a word from another place on
 pub record IsNextBit (word from at : ℕ) : Type 0 where
   pub below : at < 64
-  pub there : from ≤ at
+  pub from_on : from ≤ at
   pub set : bit_at word at ≡ 1
   pub first : (g : ℕ) → from ≤ g → g < at → bit_at word g ≡ 0
 
@@ -88,7 +88,7 @@ pub record AreAddedOn (query : Query) (shapes : List Shape) (planes : PlaneGames
   pub added : new ≡ old ++ more
   pub in_range : (placements : List Placement) → ArePlacements query planes.shape placements →
       (c : Candidate) → Contains more c → c.placement < length placements
-  pub there : (c : Candidate) (g : ℕ) → Contains more c → g < 64 → bit_at c.games g ≡ 1 →
+  pub of_games : (c : Candidate) (g : ℕ) → Contains more c → g < 64 → bit_at c.games g ≡ 1 →
       (bit_at asked g ≡ 1) × (slice_index_or planes.games g None ≢ None)
   pub sound : (placements : List Placement) → ArePlacements query planes.shape placements →
       (c : Candidate) (g : ℕ) → Contains more c → g < 64 → bit_at c.games g ≡ 1 →

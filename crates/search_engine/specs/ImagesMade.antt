@@ -8,7 +8,7 @@ use Rattle.pattern_images.specs.Query.{IsForBoard}
 
 -- These are the images of the query on boards of some shape, on which it looks.
 pub record AreImagesOn (query : Query) (images : ImageList) : Type 0 where
-  pub asked : IsForBoard query images.shape
+  pub for_board : IsForBoard query images.shape
   pub placements : ArePlacements query images.shape images.placements
 
 -- These are the images of the query on boards of each of these shapes, in their order.

@@ -1,4 +1,5 @@
 -- Words that contracts of public functions rest on.
+pub mod HitNodes
 pub mod Hits
 pub mod KeptGames
 pub mod Numbered

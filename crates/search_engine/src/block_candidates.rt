@@ -20,18 +20,18 @@ use segment_store::Block;
 pub(crate) fn find_placements(
     matchers: &Matchers,
     block: &Block,
-    asked: u64,
+    games: u64,
     words: &mut Vec<u64>,
     candidates: &mut Vec<Candidate>,
     placements: &mut GamePlacements,
 ) -> Result<(), NoMemory>
     ensures in_range { OnOk result (AreInRange matchers.now.query block.now
         (IsListed placements.new)) }
-    ensures allowed { OnOk result (AreAllowed matchers.now.query matchers.now.shapes block.now asked
+    ensures allowed { OnOk result (AreAllowed matchers.now.query matchers.now.shapes block.now games
         (IsListed placements.new)) }
 {
     let _count = block.len();
-    find_candidates(matchers, block, asked, words, candidates)?;
+    find_candidates(matchers, block, games, words, candidates)?;
     placements.fill(candidates)
 }
 
@@ -40,19 +40,19 @@ pub(crate) fn find_placements(
 fn find_candidates(
     matchers: &Matchers,
     block: &Block,
-    asked: u64,
+    games: u64,
     words: &mut Vec<u64>,
     found: &mut Vec<Candidate>,
 ) -> Result<(), NoMemory>
     ensures in_range { OnOk result (AreInRange matchers.now.query block.now
         (IsCandidate found.new.items)) }
-    ensures allowed { OnOk result (AreAllowed matchers.now.query matchers.now.shapes block.now asked
+    ensures allowed { OnOk result (AreAllowed matchers.now.query matchers.now.shapes block.now games
         (IsCandidate found.new.items)) }
 {
     let _count = block.len();
     found.clear();
     for planes in block.planes() {
-        add_on_shape(matchers, planes, asked, words, found)?;
+        add_on_shape(matchers, planes, games, words, found)?;
     }
     Ok(())
 }
@@ -62,11 +62,11 @@ fn find_candidates(
 fn add_on_shape(
     matchers: &Matchers,
     planes: &Planes,
-    asked: u64,
+    games: u64,
     words: &mut Vec<u64>,
     found: &mut Vec<Candidate>,
 ) -> Result<(), NoMemory>
-    ensures { OnOk result (AreAddedOn matchers.now.query matchers.now.shapes planes.now asked
+    ensures { OnOk result (AreAddedOn matchers.now.query matchers.now.shapes planes.now games
         found.old.items found.new.items) }
 {
     let Some(matcher) = matchers.find(planes.shape()) else {
@@ -76,7 +76,7 @@ fn add_on_shape(
         planes,
         &matcher.rows,
         matcher.runs.wants(),
-        asked,
+        games,
         words,
         found,
     )

@@ -18,23 +18,23 @@ use segment_store::Block;
 pub(crate) fn gather(
     matchers: &Matchers,
     block: &Block,
-    asked: u64,
+    games: u64,
     words: &mut Vec<u64>,
     candidates: &mut Vec<Candidate>,
     buffers: &mut Buffers,
     gathered: &mut GameOccurrences,
 ) -> Result<(), NoMemory>
     ensures gathered { OnOk result ((filter : Filter) (skip : ℕ) →
-        AreAccepted filter skip block.now asked →
+        AreAccepted filter skip block.now games →
         HaveOccurrences matchers.now.query filter matchers.now.shapes skip block.now
         gathered.new) }
-    ensures known { OnOk result (AllGoOn matchers.now.query block.now gathered.new) }
+    ensures go_on { OnOk result (AllGoOn matchers.now.query block.now gathered.new) }
 {
     let _count = block.len();
     gathered.clear();
     for planes in block.planes() {
         gather_on_shape(
-            matchers, block, planes, asked, words, candidates, buffers, gathered,
+            matchers, block, planes, games, words, candidates, buffers, gathered,
         )?;
     }
     Ok(())
@@ -46,7 +46,7 @@ fn gather_on_shape(
     matchers: &Matchers,
     block: &Block,
     planes: &Planes,
-    asked: u64,
+    games: u64,
     words: &mut Vec<u64>,
     candidates: &mut Vec<Candidate>,
     buffers: &mut Buffers,
@@ -54,9 +54,9 @@ fn gather_on_shape(
 ) -> Result<(), NoMemory>
     requires { ArePlanesOn block.now planes.now }
     ensures gathered { OnOk result (AreGathered block.now
-        (IsOnShape matchers.now.query matchers.now.shapes asked planes.now.shape)
+        (IsOnShape matchers.now.query matchers.now.shapes games planes.now.shape)
         gathered.old gathered.new) }
-    ensures known { OnOk result (AllGoOn matchers.now.query block.now gathered.old →
+    ensures go_on { OnOk result (AllGoOn matchers.now.query block.now gathered.old →
         AllGoOn matchers.now.query block.now gathered.new) }
 {
     let _count = block.len();
@@ -68,7 +68,7 @@ fn gather_on_shape(
         planes,
         &matcher.rows,
         matcher.runs.wants(),
-        asked,
+        games,
         words,
         candidates,
     )?;

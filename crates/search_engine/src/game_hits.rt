@@ -10,6 +10,7 @@ ghost use Rattle.run_matcher.specs.declared.begun.Begun.{Begun};
 ghost use Rattle.search_engine.specs.Gathering.{AreOccurrencesIn, GoOnIn};
 ghost use Rattle.search_engine.specs.Hits.{AreHitsIn, AreHitsOf, IsHit, LooksAt};
 ghost use Rattle.search_engine.specs.Searching.{AreHitsAdded};
+ghost use Rattle.search_engine.specs.StepBounds.{AreVisited};
 
 use capture_board::{NodeDeltas, Steps};
 use continuation_table::next_below;
@@ -35,9 +36,10 @@ pub(crate) fn add_hits_in<L: Ledger>(
     requires images { ArePlacements query.now game.now.tree.shape
         matcher.now.images.now.placements }
     requires occurrences { AreOccurrencesIn query.now game.now.tree (occurrences_of begun.now) }
-    requires known { GoOnIn query.now game.now.tree begun.now }
+    requires go_on { GoOnIn query.now game.now.tree begun.now }
     ensures hits { OnOk result (AreHitsAdded (AreHitsIn query.now number game.now.tree)
         hits.old.items hits.new.items) }
+    ensures visited { OnOk result (AreVisited hits.old.items hits.new.items steps.old steps.new) }
     ensures ticks { steps.new ≤ steps.old + node_count game.now.tree }
     ensures grows { steps.old ≤ steps.new }
 {
@@ -61,12 +63,13 @@ fn add_hits<L: Ledger>(
     requires shape { matcher.now.images.now.shape ≡ game.now.tree.shape }
     requires occurrences { occurrences_of begun.now ≡ occurrences_in deltas.now
         matcher.now.images.now.placements }
-    requires known { (b : Begun) → Contains begun.now b →
+    requires go_on { (b : Begun) → Contains begun.now b →
         GoesOnToHold deltas.now matcher.now.images.now.placements b }
     ensures hits { OnOk result (AreHitsAdded
         (AreHitsOf query.now number game.now.tree deltas.now
         matcher.now.images.now.placements (occurrences_of begun.now))
         hits.old.items hits.new.items) }
+    ensures visited { OnOk result (AreVisited hits.old.items hits.new.items steps.old steps.new) }
     ensures ticks { steps.new ≤ steps.old + node_count game.now.tree }
     ensures grows { steps.old ≤ steps.new }
 {
@@ -83,6 +86,8 @@ fn add_hits<L: Ledger>(
 // Visits a node, which is one step, unless it or one behind it was visited. Those that were have
 // numbers below `visited`, and the answer is such a bound with this one among them.
 fn visit<L: Ledger>(node: u32, visited: u64, steps: &mut Steps<L>) -> u64
+    ensures again { node < visited → (result ≡ visited) × (steps.old ≤ steps.new) }
+    ensures anew { visited ≤ node → (result ≡ node + 1) × (steps.old + 1 ≤ steps.new) }
     ensures within { (n : ℕ) → node < n → visited ≤ n → result ≤ n }
     ensures ticks { steps.new + visited ≤ steps.old + result }
     ensures grows { steps.old ≤ steps.new }
@@ -122,7 +127,7 @@ fn hit_of(
     requires placement { begun.occurrence.placement < length matcher.now.images.now.placements }
     requires holds { HoldsAt deltas.now (placement_at matcher.now.images.now.placements
         begun.occurrence.placement) begun.occurrence.node }
-    requires known { GoesOnToHold deltas.now matcher.now.images.now.placements begun }
+    requires go_on { GoesOnToHold deltas.now matcher.now.images.now.placements begun }
     ensures { IsHit number game.now.tree deltas.now matcher.now.images.now.placements
         begun.occurrence result }
 {
@@ -149,7 +154,7 @@ fn known_to(game: &FinishedGame, deltas: &NodeDeltas, matcher: &RunMatcher, begu
     requires placement { begun.occurrence.placement < length matcher.now.images.now.placements }
     requires holds { HoldsAt deltas.now (placement_at matcher.now.images.now.placements
         begun.occurrence.placement) begun.occurrence.node }
-    requires known { GoesOnToHold deltas.now matcher.now.images.now.placements begun }
+    requires go_on { GoesOnToHold deltas.now matcher.now.images.now.placements begun }
     ensures { (k : ℕ) → begun.occurrence.node ≤ k → k < result → HoldsAt deltas.now
         (placement_at matcher.now.images.now.placements begun.occurrence.placement) k }
 {

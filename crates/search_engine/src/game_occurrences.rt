@@ -98,7 +98,7 @@ impl GameOccurrences {
         ensures gathered { OnOk result (AreGathered block.now
             (IsOfCandidates matcher.now.images.now.placements candidates.now
             (length candidates.now)) self.old self.new) }
-        ensures known { OnOk result (MoreGoOn block.now matcher.now.images.now.shape
+        ensures go_on { OnOk result (MoreGoOn block.now matcher.now.images.now.shape
             matcher.now.images.now.placements self.old self.new) }
     {
         let _count = block.len();
@@ -120,7 +120,7 @@ impl GameOccurrences {
         requires on_boards { AreOnBoards block.now matcher.now.images.now.shape candidate }
         ensures gathered { OnOk result (AreGathered block.now
             (IsOfCandidate matcher.now.images.now.placements candidate 64) self.old self.new) }
-        ensures known { OnOk result (MoreGoOn block.now matcher.now.images.now.shape
+        ensures go_on { OnOk result (MoreGoOn block.now matcher.now.images.now.shape
             matcher.now.images.now.placements self.old self.new) }
     {
         let _count = block.len();
@@ -148,7 +148,7 @@ impl GameOccurrences {
             (o : Occurrence) → Contains (gathered_of self.new at) o
             ↔ (Contains (gathered_of self.old at) o ⊎ IsOccurrenceOf changes
             sought.now.images.now.placements sought.now.number o)) }
-        ensures known { OnOk result ((changes : Deltas) → AreNodeChanges game.now.tree changes →
+        ensures go_on { OnOk result ((changes : Deltas) → AreNodeChanges game.now.tree changes →
             (b : Begun) → Contains (begun_at self.new at) b → Contains (begun_at self.old at) b
             ⊎ GoesOnToHold changes sought.now.images.now.placements b) }
         ensures others { OnOk result ((g : ℕ) → g ≢ at →

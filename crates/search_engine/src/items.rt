@@ -39,8 +39,8 @@ pub(crate) fn items_of_version<'a>(
     Ok(items)
 }
 
-// The blocks with games of one part from the one with number `from` in the part on. These games are
-// numbered from a first number on.
+// The blocks of a part that have games from the one with number `from` in the part on. These games
+// are numbered from a first number on.
 pub(crate) fn items_of_part<'a>(
     alloc: Global,
     part: &'a Segment,
@@ -55,7 +55,7 @@ pub(crate) fn items_of_part<'a>(
     Ok(items)
 }
 
-// Adds the blocks with games of a part from the one with number `from` on, behind those of other
+// Adds the blocks of a part that have games from the one with number `from` on, behind those of other
 // games, of which the last has the number before `first`.
 fn add_items<'a>(
     part: &'a Segment,

@@ -33,8 +33,7 @@ use crate::block_candidates::find_placements;
 use crate::game_placements::GamePlacements;
 use crate::item::Item;
 use crate::items::items_of_version;
-use crate::matchers::{Matchers, QueryImages};
-use crate::shapes::shapes_of;
+use crate::matchers::{Matchers, images_for};
 use candidate_sieve::meets_corners;
 use kb_geometry::NoMemory;
 use pattern_images::{Images, Query};
@@ -51,8 +50,7 @@ pub fn kept(alloc: Global, version: &Version<Segment>, query: &Query) -> Result<
     ensures { IfOk result (λ k. AreKept query.now (items_in version.now.parts) k) }
 {
     let items = items_of_version(alloc, version)?;
-    let shapes = shapes_of(alloc, query, &items)?;
-    let images = QueryImages::of(alloc, query, shapes)?;
+    let images = images_for(alloc, query, &items)?;
     let matchers = Matchers::of(alloc, &images)?;
     kept_of_items(alloc, &matchers, &items)
 }

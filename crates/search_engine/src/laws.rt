@@ -15,10 +15,10 @@ ghost use Rattle.search_engine.specs.KeptGames.{
 ghost use Rattle.segment_store.specs.Nodes.{nodes_of};
 ghost use Rattle.search_engine.specs.Triples.{AreHitsOfAllTriples};
 
-/// The hits of a search are exactly the triples of a game, a node and a placement where the filter accepts
-/// the game, the query looks at its board and at the node, and the placement begins to hold at the
-/// node: each once, by game, then by node, then in the order of placements. So [`search`](crate::search)
-/// lists all of them and nothing else.
+/// The hits of a search are exactly the triples of a game, a node and a placement where the filter
+/// accepts the game, the query looks at its board and at the node, and the placement begins to hold
+/// at the node: each once, by game, then by node, then in the order of placements. So
+/// [`search`](crate::search) lists all of them and nothing else.
 pub fn the_hits_are_those_of_all_triples()
     ensures { (query : Query) (filter : Filter) (games : List Game) (hits : List Hit) →
         All (λ (g : Game). IsTree g.tree) games →

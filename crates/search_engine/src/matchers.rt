@@ -4,8 +4,12 @@ ghost use Rattle.std.specs.Prelude.{◌≡◌, ◌<◌, All, Contains, IfNone, I
 ghost use Rattle.pattern_images.specs.Placements.{ArePlacements};
 ghost use Rattle.pattern_images.specs.Query.{IsForBoard};
 ghost use Rattle.search_engine.specs.ImagesMade.{AreImagesOf};
+ghost use Rattle.search_engine.specs.Items.{games_of_items};
+ghost use Rattle.search_engine.specs.Searching.{AreCovered};
 
+use crate::item::Item;
 use crate::shape_list::ShapeList;
+use crate::shapes::shapes_of;
 use candidate_sieve::PlacementRows;
 use kb_geometry::{NoMemory, Shape};
 use pattern_images::{Images, Query, images};
@@ -33,11 +37,7 @@ impl<'a> Model for QueryImages<'a> {
 
 impl<'a> QueryImages<'a> {
     // The images on boards of each of these shapes.
-    pub(crate) fn of(
-        alloc: Global,
-        query: &'a Query,
-        shapes: ShapeList,
-    ) -> Result<QueryImages<'a>, NoMemory>
+    fn of(alloc: Global, query: &'a Query, shapes: ShapeList) -> Result<QueryImages<'a>, NoMemory>
         requires { All (IsForBoard query.now) shapes }
         ensures { IfOk result (λ made. made ≡ record { query = query.now; shapes = shapes }) }
     {
@@ -48,20 +48,21 @@ impl<'a> QueryImages<'a> {
             images,
         })
     }
+}
 
-    // The images for boards of this shape, if there are some.
-    pub(crate) fn find(&self, shape: Shape) -> Option<&Images>
-        ensures shape { IfSome result (λ found. found.now.shape ≡ shape) }
-        ensures asked { IfSome result (λ found. IsForBoard self.now.query shape) }
-        ensures placements { IfSome result (λ found.
-            ArePlacements self.now.query shape found.now.placements) }
-        ensures none { IfNone result (¬ Contains self.now.shapes shape) }
-    {
-        match self.shapes.find(shape) {
-            Some(place) => Some(&self.images[place]),
-            None => None,
-        }
-    }
+// The images of a query on all boards of the games of blocks on which it looks.
+pub(crate) fn images_for<'a>(
+    alloc: Global,
+    query: &'a Query,
+    items: &[Item],
+) -> Result<QueryImages<'a>, NoMemory>
+    ensures same_query { IfOk result (λ made. made.query ≡ query.now) }
+    ensures covered { IfOk result (λ made.
+        AreCovered made.query made.shapes (games_of_items items.now)) }
+{
+    let shapes = shapes_of(alloc, query, items)?;
+    let images = QueryImages::of(alloc, query, shapes)?;
+    Ok(images)
 }
 
 // The images of a query on boards of each of these shapes, in their order.
@@ -141,10 +142,10 @@ impl<'a> Matchers<'a> {
     // The matcher for boards of this shape, if there is one.
     pub(crate) fn find(&self, shape: Shape) -> Option<&BoardMatcher<'a>>
         ensures shape { IfSome result (λ found. found.now.images.now.shape ≡ shape) }
-        ensures asked { IfSome result (λ found. IsForBoard self.now.query shape) }
+        ensures for_board { IfSome result (λ found. IsForBoard self.now.query shape) }
         ensures placements { IfSome result (λ found.
             ArePlacements self.now.query shape found.now.images.now.placements) }
-        ensures there { IfSome result (λ found. Contains self.now.shapes shape) }
+        ensures among_shapes { IfSome result (λ found. Contains self.now.shapes shape) }
         ensures none { IfNone result (¬ Contains self.now.shapes shape) }
     {
         match self.shapes.find(shape) {

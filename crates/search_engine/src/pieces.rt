@@ -1,20 +1,15 @@
 // A search in pieces, side by side.
-ghost use Rattle.std.specs.Prelude.{◌≡◌, ◌≤◌, ◌<◌, ◌*◌, [], IfOk, OnOk};
+ghost use Rattle.std.specs.Prelude.{◌≡◌, ◌≤◌, ◌<◌, ◌*◌, [], IfOk};
 ghost use Rattle.search_engine.specs.Hits.{AreHits};
 ghost use Rattle.search_engine.specs.Items.{AreNumberedFrom, games_of_items};
-ghost use Rattle.search_engine.specs.Searching.{
-  AreAllPieces,
-  AreCovered,
-  AreItemHitsAdded,
-  IsPieceAdded,
-};
+ghost use Rattle.search_engine.specs.Searching.{AreCovered, AreItemHitsAdded};
 
 use crate::item::Item;
 use crate::matchers::Matchers;
 use crate::search_items::add_items_hits;
 use capture_board::Steps;
 use info_filter::Filter;
-use kb_geometry::NoMemory;
+use kb_geometry::{NoMemory, joined};
 use pattern_images::Hit;
 use std::alloc::Global;
 use std::cmp::{max, min};
@@ -57,7 +52,7 @@ pub(crate) fn hits_of<R: Threads + Sync>(
         size,
         &|_, chunk| { piece_hits(alloc, matchers, filter, chunk) },
     )?;
-    joined(alloc, matchers, filter, items, size, pieces)
+    joined(alloc, pieces)
 }
 
 // How many blocks a piece has, for a search over so many blocks and games.
@@ -100,41 +95,4 @@ fn counted_hits<L: Ledger>(
     let mut hits = Vec::new(alloc);
     add_items_hits(alloc, matchers, filter, items, &mut hits, &mut steps)?;
     Ok(hits)
-}
-
-// The hits of all pieces in one list. The pieces are those of chunks of so many blocks.
-fn joined(
-    alloc: Global,
-    matchers: &Matchers,
-    filter: &Filter,
-    items: &[Item],
-    size: usize,
-    pieces: Vec<Result<Vec<Hit>, NoMemory>>,
-) -> Result<Vec<Hit>, NoMemory>
-    requires numbered { AreNumberedFrom 0 items.now }
-    requires covered { AreCovered matchers.now.query matchers.now.shapes
-        (games_of_items items.now) }
-    requires pieces { AreAllPieces matchers.now.query filter.now matchers.now.shapes
-        items.now size pieces.items }
-    ensures { IfOk result (λ hits. AreHits matchers.now.query filter.now (games_of_items items.now)
-        hits.items) }
-{
-    let mut hits = Vec::new(alloc);
-    for piece in pieces {
-        add_piece(piece, &mut hits)?;
-    }
-    Ok(hits)
-}
-
-// Moves the hits of a piece behind others, unless memory ran out at the piece.
-fn add_piece(piece: Result<Vec<Hit>, NoMemory>, hits: &mut Vec<Hit>) -> Result<(), NoMemory>
-    ensures { OnOk result (IsPieceAdded piece hits.old.items hits.new.items) }
-{
-    match piece {
-        Ok(mut more) => {
-            hits.append(&mut more)?;
-            Ok(())
-        }
-        Err(error) => Err(error),
-    }
 }

@@ -37,7 +37,7 @@ ghost use Rattle.search_engine.specs.Searching.{
   AreItemHitsAdded,
   IsCovered,
 };
-ghost use Rattle.search_engine.specs.StepBounds.{AreStepsIn};
+ghost use Rattle.search_engine.specs.StepBounds.{AreStepsIn, AreVisited};
 
 use crate::accepted::accepted_games;
 use crate::block_occurrences::gather;
@@ -75,6 +75,7 @@ pub(crate) fn add_items_hits<L: Ledger>(
 ) -> Result<(), NoMemory>
     ensures hits { OnOk result (AreItemHitsAdded matchers.now.query filter.now
         matchers.now.shapes items.now hits.old.items hits.new.items) }
+    ensures visited { OnOk result (AreVisited hits.old.items hits.new.items steps.old steps.new) }
     ensures steps { AreStepsIn matchers.now.query (games_of_items items.now) steps.old steps.new }
 {
     let mut room = Room {
@@ -104,6 +105,7 @@ fn add_block<L: Ledger>(
         (AreCovered matchers.now.query matchers.now.shapes (games_of_item item.now) → AreHitsAdded
         (AreHitsFrom item.now.first matchers.now.query filter.now (games_of_item item.now))
         hits.old.items hits.new.items) }
+    ensures visited { OnOk result (AreVisited hits.old.items hits.new.items steps.old steps.new) }
     ensures steps { AreStepsIn matchers.now.query (games_of_item item.now) steps.old steps.new }
 {
     let accepted = accepted_games(filter, item.block, item.skip);
@@ -134,11 +136,12 @@ fn add_found<L: Ledger>(
 ) -> Result<(), NoMemory>
     requires gathered { HaveOccurrences matchers.now.query filter.now matchers.now.shapes
         item.now.skip item.now.block.now gathered.old }
-    requires known { AllGoOn matchers.now.query item.now.block.now gathered.old }
+    requires go_on { AllGoOn matchers.now.query item.now.block.now gathered.old }
     ensures hits { OnOk result
         (AreCovered matchers.now.query matchers.now.shapes (games_of_item item.now) → AreHitsAdded
         (AreHitsFrom item.now.first matchers.now.query filter.now (games_of_item item.now))
         hits.old.items hits.new.items) }
+    ensures visited { OnOk result (AreVisited hits.old.items hits.new.items steps.old steps.new) }
     ensures steps { AreStepsIn matchers.now.query (games_of_item item.now) steps.old steps.new }
 {
     for at in item.skip..item.block.len() {
@@ -160,11 +163,11 @@ fn add_one<L: Ledger>(
     steps: &mut Steps<L>,
 ) -> Result<(), NoMemory>
     requires at { at < length item.now.block.now }
-    requires asked { item.now.skip ≤ at }
+    requires left_in { item.now.skip ≤ at }
     requires gathered { (game : Game) → slice_get item.now.block.now at ≡ Some game →
         HasOccurrences matchers.now.query _filter.now matchers.now.shapes game.tree
         (gathered_of gathered.old at) }
-    requires known { (game : Game) → slice_get item.now.block.now at ≡ Some game →
+    requires go_on { (game : Game) → slice_get item.now.block.now at ≡ Some game →
         GoOnIn matchers.now.query game.tree (begun_at gathered.old at) }
     ensures hits { OnOk result ((game : Game) → slice_get item.now.block.now at ≡ Some game →
         IsCovered matchers.now.query matchers.now.shapes game.tree.shape →
@@ -174,6 +177,7 @@ fn add_one<L: Ledger>(
         hits.old.items hits.new.items) }
     ensures others { OnOk result ((g : ℕ) → g ≢ at →
         begun_at gathered.new g ≡ begun_at gathered.old g) }
+    ensures visited { OnOk result (AreVisited hits.old.items hits.new.items steps.old steps.new) }
     ensures steps { (game : Game) → slice_get item.now.block.now at ≡ Some game →
         AreStepsIn matchers.now.query (game ∷ []) steps.old steps.new }
 {
@@ -200,13 +204,14 @@ fn add_on_its_board<L: Ledger>(
     hits: &mut Vec<Hit>,
     steps: &mut Steps<L>,
 ) -> Result<(), NoMemory>
-    requires there { Contains matchers.now.shapes game.now.tree.shape }
+    requires among_shapes { Contains matchers.now.shapes game.now.tree.shape }
     requires occurrences { AreOccurrencesIn matchers.now.query game.now.tree
         (occurrences_of begun.now) }
-    requires known { GoOnIn matchers.now.query game.now.tree begun.now }
+    requires go_on { GoOnIn matchers.now.query game.now.tree begun.now }
     ensures hits { OnOk result ((filter : Filter) → Accepts filter game.now.tree.info →
         AreHitsAdded (AreGameHits matchers.now.query filter number game.now.tree)
         hits.old.items hits.new.items) }
+    ensures visited { OnOk result (AreVisited hits.old.items hits.new.items steps.old steps.new) }
     ensures ticks { steps.new ≤ steps.old + node_count game.now.tree }
     ensures grows { steps.old ≤ steps.new }
 {

@@ -2,16 +2,16 @@
 ghost use Rattle.std.specs.Prelude.{◌≤◌, ◌+◌, ℕ, IfOk, drop, length};
 ghost use Rattle.version_publisher.specs.Contents.{items_in};
 ghost use Rattle.continuation_table.specs.Table.{IsTable};
+ghost use Rattle.search_engine.specs.HitNodes.{hit_nodes};
 ghost use Rattle.search_engine.specs.Hits.{AreHits, AreHitsFrom};
 ghost use Rattle.search_engine.specs.KeptGames.{HaveKeptNodes};
 ghost use Rattle.segment_store.specs.Nodes.{nodes_of};
 
 use crate::answer::Answer;
 use crate::items::{items_of_part, items_of_version};
-use crate::matchers::{Matchers, QueryImages};
+use crate::matchers::{Matchers, images_for};
 use crate::pieces::hits_of;
 use crate::search_items::add_items_hits;
-use crate::shapes::shapes_of;
 use crate::version_games::game_count;
 use capture_board::Steps;
 use continuation_table::Table;
@@ -41,8 +41,7 @@ pub fn search<R: Threads + Sync>(
     ensures table { IfOk result (λ answer. IsTable answer.hits.items answer.table) }
 {
     let items = items_of_version(alloc, version)?;
-    let shapes = shapes_of(alloc, query, &items)?;
-    let images = QueryImages::of(alloc, query, shapes)?;
+    let images = images_for(alloc, query, &items)?;
     let matchers = Matchers::of(alloc, &images)?;
     let games = game_count(version) as usize;
     let hits = hits_of(rt, alloc, &matchers, filter, &items, games)?;
@@ -54,8 +53,9 @@ pub fn search<R: Threads + Sync>(
 /// `first`.
 ///
 /// Together at most 400,000 games are numbered. A step is one node that is visited for its hits: one
-/// at which a placement begins to hold. The count of steps only grows, by at most the number of all
-/// nodes of the games that are kept for the query. The only error is `NoMemory`.
+/// at which a placement begins to hold, whether or not the query looks there. The count of steps only
+/// grows, by at most the number of all nodes of the games that are kept for the query, and by at least
+/// the number of those at which the hits stand. The only error is `NoMemory`.
 pub fn search_segment<L: Ledger>(
     alloc: Global,
     part: &Segment,
@@ -67,6 +67,7 @@ pub fn search_segment<L: Ledger>(
     requires { first + length part.now ≤ 400000 }
     ensures hits { IfOk result (λ hits.
         AreHitsFrom first query.now filter.now part.now hits.items) }
+    ensures visited { IfOk result (λ hits. steps.old + hit_nodes hits.items ≤ steps.new) }
     ensures ticks { (n : ℕ) → HaveKeptNodes query.now part.now n → steps.new ≤ steps.old + n }
     ensures grows { steps.old ≤ steps.new }
 {
@@ -77,8 +78,9 @@ pub fn search_segment<L: Ledger>(
 /// filter accepts. These games are numbered from `first`.
 ///
 /// Together at most 400,000 games are numbered. Steps are counted as in [`search_segment`]. The count
-/// only grows, by at most the number of the nodes of these games, and by at most that of those of
-/// them that are kept for the query. The only error is `NoMemory`.
+/// only grows, by at most the number of all nodes of these games, by at most that of all nodes of the
+/// kept ones among them, and by at least the number of those at which the hits stand. The only error
+/// is `NoMemory`.
 pub fn search_from<L: Ledger>(
     alloc: Global,
     part: &Segment,
@@ -92,14 +94,14 @@ pub fn search_from<L: Ledger>(
     requires fits { first + length (drop from part.now) ≤ 400000 }
     ensures hits { IfOk result (λ hits.
         AreHitsFrom first query.now filter.now (drop from part.now) hits.items) }
+    ensures visited { IfOk result (λ hits. steps.old + hit_nodes hits.items ≤ steps.new) }
     ensures ticks { steps.new ≤ steps.old + nodes_of (drop from part.now) }
     ensures kept_ticks { (n : ℕ) → HaveKeptNodes query.now (drop from part.now) n →
         steps.new ≤ steps.old + n }
     ensures grows { steps.old ≤ steps.new }
 {
     let items = items_of_part(alloc, part, from, first)?;
-    let shapes = shapes_of(alloc, query, &items)?;
-    let images = QueryImages::of(alloc, query, shapes)?;
+    let images = images_for(alloc, query, &items)?;
     let matchers = Matchers::of(alloc, &images)?;
     let mut hits = Vec::new(alloc);
     add_items_hits(alloc, &matchers, filter, &items, &mut hits, steps)?;

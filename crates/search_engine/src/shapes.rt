@@ -13,7 +13,7 @@ use std::alloc::Global;
 
 // The shapes of the boards of games, each once, but those on which the query doesn't look.
 pub(crate) fn shapes_of(alloc: Global, query: &Query, items: &[Item]) -> Result<ShapeList, NoMemory>
-    ensures asked { IfOk result (λ shapes. All (IsForBoard query.now) shapes) }
+    ensures for_boards { IfOk result (λ shapes. All (IsForBoard query.now) shapes) }
     ensures covered { IfOk result (λ shapes.
         AreCovered query.now shapes (games_of_items items.now)) }
 {

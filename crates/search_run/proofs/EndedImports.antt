@@ -24,7 +24,7 @@ use Rattle.import_work.proofs.Losses.{loses}
 use Rattle.import_work.proofs.RoomLemmas.{length-trees}
 use Rattle.search_run.specs.Beside.{EndsWith, EndsWithFirst, Finds, HasEnded}
 use Rattle.import_segments.specs.Merged.{AreMerged}
-use Rattle.import_segments.specs.Publishing.{IsIdle, IsOpenedWith, IsWithinLimits, PublishesAll, PublishesFirst}
+use Rattle.import_segments.specs.Publishing.{IsIdle, IsOpenedWith, IsLogWithinLimits, PublishesAll, PublishesFirst}
 use Rattle.session_core.specs.ImportTexts.{told_text}
 use Rattle.search_run.specs.declared.importer.ImportJob.{ImportJob}
 use Rattle.import_work.proofs.SegmentLemmas.{games_of_segments-append}
@@ -93,7 +93,7 @@ module _ (told : Option (List File)) (job : ImportJob) (some : 1 ≤ job.batch) 
     games_are = omega (arith, ap games_reported h.body, (adds_up told job.batch start opened_at h.now h.segments last some h.given).told, no_games job.source start.body start.left was.listed)
 
     -- the report tells few games
-    pub few_games : IsWithinLimits log_now → games_reported report.body ≤ 400000
+    pub few_games : IsLogWithinLimits log_now → games_reported report.body ≤ 400000
     few_games limits =
         let all : length (items_in log_now) ≡ length (games_of_segments log) + length (games_of_segments h.segments) =
         ap length (items_in-games_of_segments log_now ∙ ap games_of_segments h.grown ∙ games_of_segments-append log h.segments) ∙ length-append (games_of_segments log) (games_of_segments h.segments) in
@@ -114,7 +114,7 @@ module _ (told : Option (List File)) (job : ImportJob) (some : 1 ≤ job.batch) 
         }
 
   -- how it ends
-  pub ended : (opening : BookName) (told_now : Option (List File)) (last : ℕ) (publisher : PublisherState Game) (result : Result Report NoMemory) → publisher.opening ≡ opening → length publisher.log ≤ length log + length start.left → IsWithinLimits publisher.log → told_now ≡ told → opened_at ≤ last →
+  pub ended : (opening : BookName) (told_now : Option (List File)) (last : ℕ) (publisher : PublisherState Game) (result : Result Report NoMemory) → publisher.opening ≡ opening → length publisher.log ≤ length log + length start.left → IsLogWithinLimits publisher.log → told_now ≡ told → opened_at ≤ last →
       PublishesFirst told job.batch start log publisher.log opened_at last → IfOk result (λ r. IsIdle publisher × PublishesAll told job.batch start log publisher.log r opened_at last) → IfOk result (λ r. AreMerged publisher.parts) → HasEnded told first job opening log told_now last publisher result
   ended opening told_now last publisher result opened few limits same after first_of all merged = record {
     opened = opened;

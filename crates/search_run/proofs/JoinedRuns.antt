@@ -23,7 +23,7 @@ use Rattle.search_run.specs.Beside.{EndsWith, HasAnsweredAll, HasRunTo, IsImport
 use Rattle.session_core.specs.Lawful.{HasPrinted, Rules, waiting_text}
 use Rattle.session_core.specs.SessionState.{SessionState}
 use Rattle.import_segments.specs.Merged.{AreMerged}
-use Rattle.import_segments.specs.Publishing.{IsIdle, IsWithinLimits}
+use Rattle.import_segments.specs.Publishing.{IsIdle, IsLogWithinLimits}
 use Rattle.search_run.specs.Run.{WritesPublished, beside_rules}
 use Rattle.session_core.specs.ImportTexts.{told_text}
 use Rattle.serial_run.specs.Steps.{Kept, PassesText, import_at, kept_report, nothing_kept}
@@ -129,7 +129,7 @@ stands-first opening publisher own opened idle merged empty seen = record {
   opened = opened;
   idle = idle;
   merged = merged;
-  limits = subst IsWithinLimits (sym empty) (omega arith, omega arith);
+  limits = subst IsLogWithinLimits (sym empty) (omega arith, omega arith);
   own_seen = seen ∙ sym empty;
   version = sym (ap length empty);
   games = sym (ap items_in empty);

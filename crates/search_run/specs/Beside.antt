@@ -24,7 +24,7 @@ use Rattle.import_work.specs.declared.source.Source.{Source}
 use Rattle.session_core.specs.Lawful.{HasPrinted, Rules, State}
 use Rattle.session_core.specs.SessionState.{SessionState}
 use Rattle.import_segments.specs.Merged.{AreMerged}
-use Rattle.import_segments.specs.Publishing.{IsIdle, IsWithinLimits}
+use Rattle.import_segments.specs.Publishing.{IsIdle, IsLogWithinLimits}
 use Rattle.session_core.specs.ImportTexts.{told_text}
 use Rattle.search_run.specs.Run.{beside_rules}
 use Rattle.serial_run.specs.Steps.{HasRun, Kept}
@@ -104,7 +104,7 @@ pub record HasEnded (told : Option (List File)) (faults_before : ℕ) (job : Imp
     (publisher : PublisherState Game) (report : Result Report NoMemory) : Type 0 where
   pub opened : publisher.opening ≡ opening
   pub few : length publisher.log ≤ length log + 4294967295
-  pub limits : IsWithinLimits publisher.log
+  pub limits : IsLogWithinLimits publisher.log
   pub same : told_now ≡ told
   pub later : faults_before ≤ faults_now
   pub idle : IfOk report (λ r. IsIdle publisher)
@@ -131,7 +131,7 @@ pub record StandsStill (opening : BookName) (publisher : PublisherState Game)
   pub opened : publisher.opening ≡ opening
   pub idle : IsIdle publisher
   pub merged : AreMerged publisher.parts
-  pub limits : IsWithinLimits publisher.log
+  pub limits : IsLogWithinLimits publisher.log
   pub own_seen : own.seen ≡ publisher.log
   pub version : kept.version ≡ length publisher.log
   pub games : kept.games ≡ items_in publisher.log
@@ -143,7 +143,7 @@ pub record MayBegin (opening : BookName) (publisher : PublisherState Game) (job 
   pub opened : publisher.opening ≡ opening
   pub idle : IsIdle publisher
   pub merged : AreMerged publisher.parts
-  pub limits : IsWithinLimits publisher.log
+  pub limits : IsLogWithinLimits publisher.log
   pub some : 1 ≤ job.batch
   pub at_most : job.batch ≤ 4096
   pub few : length publisher.log ≤ 9000000000000000000

@@ -41,7 +41,7 @@ ghost use Rattle.search_run.specs.Beside.{
   StopsBeside,
 };
 ghost use Rattle.import_segments.specs.Merged.{AreMerged};
-ghost use Rattle.import_segments.specs.Publishing.{IsIdle, IsWithinLimits};
+ghost use Rattle.import_segments.specs.Publishing.{IsIdle, IsLogWithinLimits};
 ghost use Rattle.search_run.specs.Run.{WritesPublished, beside_rules};
 ghost use Rattle.search_run.specs.Seen.{HaveSeen, IsVersionOf};
 ghost use Rattle.search_run.specs.Stopped.{WritesPublishedPrefix};
@@ -529,7 +529,7 @@ fn join<J: OpenName, R: Wait>(
     answered: Result<usize, Stopped>,
 ) -> Result<(RunState, usize), Stopped>
     requires opening { publisher.now.opening ≡ J.opening }
-    requires limits { IsWithinLimits publisher.now.log }
+    requires limits { IsLogWithinLimits publisher.now.log }
     requires few { IfOk report (λ r. games_reported r.body ≤ 400000) }
     ensures seen { HaveSeen searchers.old.own searchers.old.block.items publisher.now.log }
     ensures joined { IfOk result (λ r. IsImportJoined publisher.now.log report r.0) }

@@ -60,8 +60,8 @@ use version_publisher::{Publisher, Searcher};
 /// before the next begins. Without a base this is [`run_serial`]. The boxes are those of
 /// [`run_serial`]. The folder is handed back, and so is the publisher of the base: with
 /// [`Status::Done`], and without `--serial`, its log has the segments of all imports, nothing is
-/// pending, and the last part has fewer games than the one before it, where there are two. With [`Status::SinkFault`] and
-/// [`Status::NoMemory`] its log is a prefix of that.
+/// pending, and the last part has fewer games than the one before it, where there are two. With
+/// [`Status::SinkFault`] and [`Status::NoMemory`] its log is a prefix of that.
 pub fn run<
     R: Threads + Wait + Clone + Drop + Send + Sync + 'static,
     F: Folder + Send + 'static,
@@ -105,13 +105,13 @@ pub fn run<
         S.left script.old ≡ Some bytes → F.files folder ≡ Some files →
         K.written out.old ≡ Some before → base ≡ None →
         result.0 ≡ Status.Done →
-        Prints (map string_bytes words.now) (map (λ board. tally board) boards.items) bytes files
+        Prints (map string_bytes words.now) (map (λ b. tally b) boards.items) bytes files
         before (K.written out.new) (F.faults folder) (F.faults result.1) }
     ensures done_published { (bytes : List ℕ) (files : List File) (before : List ℕ) →
         S.left script.old ≡ Some bytes → F.files folder ≡ Some files →
         K.written out.old ≡ Some before → (given : BaseState) → base ≡ Some given →
         result.0 ≡ Status.Done → (back : PublisherState Game) × (result.2 ≡ Some back)
-        × PrintsPublished (map string_bytes words.now) (map (λ board. tally board) boards.items)
+        × PrintsPublished (map string_bytes words.now) (map (λ b. tally b) boards.items)
         bytes files before (K.written out.new) (F.faults folder) (F.faults result.1)
         given.publisher back }
 
@@ -120,19 +120,19 @@ pub fn run<
         S.left script.old ≡ Some bytes → F.files folder ≡ Some files →
         K.written out.old ≡ Some before → base ≡ None →
         result.0 ≡ Status.SinkFault →
-        PrintsPrefix (map string_bytes words.now) (map (λ board. tally board) boards.items) bytes
+        PrintsPrefix (map string_bytes words.now) (map (λ b. tally b) boards.items) bytes
         files before (K.written out.new) (F.faults folder) (F.faults result.1) }
     ensures no_memory { (bytes : List ℕ) (files : List File) (before : List ℕ) →
         S.left script.old ≡ Some bytes → F.files folder ≡ Some files →
         K.written out.old ≡ Some before → base ≡ None →
         result.0 ≡ Status.NoMemory → (K.written out.new ≡ Some before) × (result.1 ≡ folder)
-        ⊎ PrintsPrefix (map string_bytes words.now) (map (λ board. tally board) boards.items)
+        ⊎ PrintsPrefix (map string_bytes words.now) (map (λ b. tally b) boards.items)
         bytes files before (K.written out.new) (F.faults folder) (F.faults result.1) }
     ensures stopped_with_base { (bytes : List ℕ) (files : List File) (before : List ℕ) →
         S.left script.old ≡ Some bytes → F.files folder ≡ Some files →
         K.written out.old ≡ Some before → (given : BaseState) → base ≡ Some given →
         result.0 ≡ Status.SinkFault → (back : PublisherState Game) × (result.2 ≡ Some back)
-        × PrintsStopped (map string_bytes words.now) (map (λ board. tally board) boards.items)
+        × PrintsStopped (map string_bytes words.now) (map (λ b. tally b) boards.items)
         bytes files before (K.written out.new) (F.faults folder) (F.faults result.1)
         given.publisher back }
     ensures no_memory_with_base { (bytes : List ℕ) (files : List File) (before : List ℕ) →
@@ -141,7 +141,7 @@ pub fn run<
         result.0 ≡ Status.NoMemory → (K.written out.new ≡ Some before) × (result.1 ≡ folder)
         × (result.2 ≡ Some given.publisher)
         ⊎ ((back : PublisherState Game) × (result.2 ≡ Some back)
-        × PrintsStopped (map string_bytes words.now) (map (λ board. tally board) boards.items)
+        × PrintsStopped (map string_bytes words.now) (map (λ b. tally b) boards.items)
         bytes files before (K.written out.new) (F.faults folder) (F.faults result.1)
         given.publisher back) }
 

@@ -13,10 +13,10 @@ abbrev pub serial_rules : ℕ → Rules
 serial_rules batch = record { batch = batch; serial = true }
 
 -- A lawful output of these statements was written, where the boxes tell this at the start, by a
--- course whose losses are at most the rise of
--- the folder's count.
+-- course whose losses are at most the rise of the folder's count.
 pub record WritesLawful (rules : Rules) (files : List File) (boxes : List BoxTally)
-    (placed : List Placed) (before : List ℕ) (written : Option (List ℕ)) (faults_before faults_now : ℕ) : Type 0 where
+    (placed : List Placed) (before : List ℕ) (written : Option (List ℕ))
+    (faults_before faults_now : ℕ) : Type 0 where
   pub course : List ImportCourse
   pub text : List ℕ
   pub lawful : IsLawful files rules boxes course placed text
@@ -26,7 +26,8 @@ pub record WritesLawful (rules : Rules) (files : List File) (boxes : List BoxTal
 -- A prefix of a lawful output of these statements was written, and the losses of its course are at
 -- most the rise of the folder's count.
 pub record WritesPrefix (rules : Rules) (files : List File) (boxes : List BoxTally)
-    (placed : List Placed) (before : List ℕ) (written : Option (List ℕ)) (faults_before faults_now : ℕ) : Type 0 where
+    (placed : List Placed) (before : List ℕ) (written : Option (List ℕ))
+    (faults_before faults_now : ℕ) : Type 0 where
   pub course : List ImportCourse
   pub whole : List ℕ
   pub lawful : IsLawful files rules boxes course placed whole

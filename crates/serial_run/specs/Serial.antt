@@ -15,7 +15,8 @@ use Rattle.query_script.specs.declared.statement.Placed.{Placed}
 -- tell this at the start, by batches of as many files as the words say and by a course whose losses
 -- are at most the rise of the folder's count.
 pub record Prints (words : List (List ℕ)) (boxes : List BoxTally) (script : List ℕ)
-    (files : List File) (before : List ℕ) (written : Option (List ℕ)) (faults_before faults_now : ℕ) : Type 0 where
+    (files : List File) (before : List ℕ) (written : Option (List ℕ))
+    (faults_before faults_now : ℕ) : Type 0 where
   pub read : Words
   pub say : AreLawful words read
   pub placed : List Placed
@@ -42,7 +43,8 @@ pub record PrintsAll (words : List (List ℕ)) (boxes : List BoxTally) (script :
 -- batches of as many files as the words say; the losses of its course are at most the rise of the
 -- folder's count.
 pub record PrintsPrefix (words : List (List ℕ)) (boxes : List BoxTally) (script : List ℕ)
-    (files : List File) (before : List ℕ) (written : Option (List ℕ)) (faults_before faults_now : ℕ) : Type 0 where
+    (files : List File) (before : List ℕ) (written : Option (List ℕ))
+    (faults_before faults_now : ℕ) : Type 0 where
   pub read : Words
   pub say : AreLawful words read
   pub placed : List Placed

@@ -3,7 +3,7 @@ ghost use Rattle.std.specs.Prelude.{◌≡◌, ◌≤◌, IfOk, map};
 ghost use Rattle.version_publisher.specs.Contents.{items_in};
 ghost use Rattle.import_work.specs.Course.{trees_in};
 ghost use Rattle.import_work.specs.Outcome.{counts_of, nodes_of_trees};
-ghost use Rattle.import_work.specs.Rooms.{AreWithinLimits};
+ghost use Rattle.import_work.specs.Rooms.{AreCountsWithinLimits};
 
 use import_work::Counts;
 use kb_geometry::NoMemory;
@@ -14,7 +14,7 @@ use version_publisher::Version;
 
 // The games and nodes of a version that is within the limits of the base.
 pub(crate) fn counts_in(alloc: Global, version: &Version<Segment>) -> Result<Counts, NoMemory>
-    requires { AreWithinLimits (counts_of (trees_in (items_in version.now.parts))) }
+    requires { AreCountsWithinLimits (counts_of (trees_in (items_in version.now.parts))) }
     ensures { IfOk result (λ counts. counts ≡ counts_of (trees_in (items_in version.now.parts))) }
 {
     let games = games(alloc, version)?;

@@ -49,7 +49,7 @@ impl RunState {
     ghost use Rattle.import_work.specs.Course.{trees_in};
     ghost use Rattle.import_work.specs.Imports.{games_reported};
     ghost use Rattle.import_work.specs.Outcome.{counts_of};
-    ghost use Rattle.import_work.specs.Rooms.{AreWithinLimits};
+    ghost use Rattle.import_work.specs.Rooms.{AreCountsWithinLimits};
     ghost use Rattle.version_publisher.specs.Contents.{items_in};
     ghost use Rattle.query_script.specs.Texts.{wait_text};
     ghost use Rattle.session_core.specs.Lawful.{Rules};
@@ -86,7 +86,7 @@ impl RunState {
         version: Version<Segment>,
         report: &Report,
     ) -> Result<RunState, NoMemory>
-        requires limits { AreWithinLimits (counts_of (trees_in (items_in version.parts))) }
+        requires limits { AreCountsWithinLimits (counts_of (trees_in (items_in version.parts))) }
         requires few { games_reported report.now.body ≤ 400000 }
         ensures { IfOk result (λ state. state ≡ kept_at version
             (Some (told_text report.now.line report.now.body report.now.version))) }

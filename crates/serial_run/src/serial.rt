@@ -61,19 +61,19 @@ pub fn run_serial<R: Threads + Sync, F: Folder, S: Source, K: Sink>(
         S.left script.old ≡ Some bytes → F.files folder ≡ Some files →
         K.written out.old ≡ Some before →
         result.0 ≡ Status.Done →
-        Prints (map string_bytes words.now) (map (λ board. tally board) boards.items) bytes files
+        Prints (map string_bytes words.now) (map (λ b. tally b) boards.items) bytes files
         before (K.written out.new) (F.faults folder) (F.faults result.1) }
     ensures stopped { (bytes : List ℕ) (files : List File) (before : List ℕ) →
         S.left script.old ≡ Some bytes → F.files folder ≡ Some files →
         K.written out.old ≡ Some before →
         result.0 ≡ Status.SinkFault →
-        PrintsPrefix (map string_bytes words.now) (map (λ board. tally board) boards.items) bytes
+        PrintsPrefix (map string_bytes words.now) (map (λ b. tally b) boards.items) bytes
         files before (K.written out.new) (F.faults folder) (F.faults result.1) }
     ensures no_memory { (bytes : List ℕ) (files : List File) (before : List ℕ) →
         S.left script.old ≡ Some bytes → F.files folder ≡ Some files →
         K.written out.old ≡ Some before →
         result.0 ≡ Status.NoMemory → (K.written out.new ≡ Some before) × (result.1 ≡ folder)
-        ⊎ PrintsPrefix (map string_bytes words.now) (map (λ board. tally board) boards.items)
+        ⊎ PrintsPrefix (map string_bytes words.now) (map (λ b. tally b) boards.items)
         bytes files before (K.written out.new) (F.faults folder) (F.faults result.1) }
 
     // Where the folder doesn't fail, nothing is lost.
@@ -81,7 +81,7 @@ pub fn run_serial<R: Threads + Sync, F: Folder, S: Source, K: Sink>(
         S.left script.old ≡ Some bytes → F.files folder ≡ Some files →
         K.written out.old ≡ Some before →
         result.0 ≡ Status.Done → ¬ Rose (F.faults folder) (F.faults result.1) →
-        PrintsAll (map string_bytes words.now) (map (λ board. tally board) boards.items) bytes files
+        PrintsAll (map string_bytes words.now) (map (λ b. tally b) boards.items) bytes files
         before (K.written out.new) }
 
     // The folder's files stay, and its count of faults doesn't fall.

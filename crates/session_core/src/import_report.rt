@@ -83,7 +83,7 @@ fn unread_count(lines: &[FileLine]) -> usize
 }
 
 // How many games a file added.
-fn games_by(line: &FileLine) -> u64
+fn games_added(line: &FileLine) -> u64
     ensures { result ≡ games_added line.now.outcome }
 {
     match line.outcome {
@@ -99,7 +99,7 @@ fn game_count(lines: &[FileLine]) -> u64
 {
     let mut games = 0;
     for line in lines {
-        games += games_by(line);
+        games += games_added(line);
     }
     games
 }

@@ -48,13 +48,13 @@ impl<C: Collector> Model for Session<C> {
 
     ghost Value = { SessionState };
 
-    ghost view = { λ s. new_session (map (λ board. C.tally board) s.boxes.items) };
+    ghost view = { λ s. new_session (map (λ b. C.tally b) s.boxes.items) };
 }
 
 impl<C: Collector> Session<C> {
     /// A session with these boxes, which has answered nothing.
     pub fn new(boards: Vec<C>) -> Session<C>
-        ensures { result ≡ new_session (map (λ board. C.tally board) boards.items) }
+        ensures { result ≡ new_session (map (λ b. C.tally b) boards.items) }
     {
         Session { boxes: boards }
     }
@@ -65,8 +65,8 @@ impl<C: Collector> Session<C> {
     /// given to all boxes. Other statements aren't answered.
     ///
     /// The only error is `NoMemory`; then `out` begins with what it held. The boxes are as before,
-    /// or [`feed`](hit_collectors::feed) was refused: then the boxes before one have all hits, that one has those before
-    /// the hit that it refused, and the later boxes have none.
+    /// or [`feed`](hit_collectors::feed) was refused: then the boxes before one have all hits, that
+    /// one has those before the hit that it refused, and the later boxes have none.
     pub fn answer<R: Threads + Sync>(
         &mut self,
         rt: &R,

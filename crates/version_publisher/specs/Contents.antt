@@ -18,6 +18,7 @@ items_in (x ∷ xs) = x ++ items_in xs
 abbrev pub BookName : Type 0
 BookName = ℕ × ℕ × ℕ
 
+-- the name of this book
 abbrev pub book_name_of : Book → BookName
 book_name_of b = (b.number, b.log_name, b.cells_name)
 

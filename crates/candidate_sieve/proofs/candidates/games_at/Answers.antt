@@ -2,23 +2,23 @@ use Rattle.std.proofs.Common.{◌≡◌, ℕ, length, arith, subst}
 use Rattle.std.proofs.lemmas.List.{get_or_default}
 use Rattle.capture_index.specs.Stretches.{no_want}
 use Rattle.candidate_sieve.specs.BlockGames.{HaveEach}
-use Rattle.candidate_sieve.proofs.GamesTold.{bare-settled, each-next, each-start}
+use Rattle.candidate_sieve.proofs.GamesTold.{always_empty-settled, each-next, each-start}
 use Rattle.candidate_sieve.proofs.candidates.games_at.Goals as goal
 
 pub loop-k-init : goal.loop-k-init
-loop-k-init c = each-start c.args.planes.now.games c.args.base c.args.wants.now c.args.there
+loop-k-init c = each-start c.args.planes.now.games c.args.base c.args.wants.now c.args.among
 
 pub loop-k-preserved : goal.loop-k-preserved
 loop-k-preserved c =
-    each-next c.args.planes.now.games c.args.base c.args.wants.now c.args.there c.loop-k.k c.loop-k.games c.games_with-games.result _ (get_or_default c.args.wants.now c.loop-k.k no_want _ c.loop-k-test.true) c.loop-k.invariant c.games_with-games.ensures
+    each-next c.args.planes.now.games c.args.base c.args.wants.now c.args.among c.loop-k.k c.loop-k.games c.games_with-games.result _ (get_or_default c.args.wants.now c.loop-k.k no_want _ c.loop-k-test.true) c.loop-k.invariant c.games_with-games.ensures
 
 pub returns-then-is_settled : goal.returns-then-is_settled
 returns-then-is_settled c =
-    bare-settled c.args.planes.now c.args.bare c.args.base c.args.wants.now c.args.there c.loop-k.k c.loop-k.games _ (get_or_default c.args.wants.now c.loop-k.k no_want _ c.loop-k-test.true) c.requires.bare c.requires.stones_first
+    always_empty-settled c.args.planes.now c.args.always_empty c.args.base c.args.wants.now c.args.among c.loop-k.k c.loop-k.games _ (get_or_default c.args.wants.now c.loop-k.k no_want _ c.loop-k-test.true) c.requires.always_empty c.requires.stones_first
     (λ w below. omega (arith, c.requires.on_board w no_want below)) c.loop-k.invariant c.loop-k-test.true
     (λ g e. c.is_settled.ensures c.if-is_settled.true g e)
 
 pub returns : goal.returns
 returns c =
     let all : c.loop-k.k ≡ length c.args.wants.now = omega arith in
-    subst (λ (n : ℕ). HaveEach c.args.planes.now.games c.args.base c.args.wants.now c.args.there n c.loop-k.games) all c.loop-k.invariant
+    subst (λ (n : ℕ). HaveEach c.args.planes.now.games c.args.base c.args.wants.now c.args.among n c.loop-k.games) all c.loop-k.invariant

@@ -3,4 +3,4 @@ use Rattle.candidate_sieve.proofs.candidates.games_at.Given as goal
 
 -- the wants so far
 abbrev pub invariant-loop-k : goal.invariant-loop-k
-invariant-loop-k l = HaveEach l.planes.games l.base l.wants l.there l.k l.games
+invariant-loop-k l = HaveEach l.planes.games l.base l.wants l.among l.k l.games

@@ -6,7 +6,7 @@ use Rattle.candidate_sieve.proofs.candidates.sieve_row.Goals as goal
 pub returns-in-len1-clause-ok : goal.returns-in-len1-clause-ok
 returns-in-len1-clause-ok c =
     let one : length c.args.numbers.now ≡ 1 = omega (arith, c.in-len1.len_at_least, c.in-len1.len_below) in
-    one-added c.args.planes.now.games c.args.base c.args.wants.now c.args.there c.args.numbers.now c.games_at.result c.args.found.now.items c.add_games.new.found.items one c.games_at.ensures c.in_ok-add_games.ensures.ok
+    one-added c.args.planes.now.games c.args.base c.args.wants.now c.args.among c.args.numbers.now c.games_at.result c.args.found.now.items c.add_games.new.found.items one c.games_at.ensures c.in_ok-add_games.ensures.ok
 
 pub returns-clause-ok : goal.returns-clause-ok
 returns-clause-ok c = record {

@@ -3,4 +3,4 @@ use Rattle.candidate_sieve.proofs.nodes.begun.Given as goal
 
 -- the points so far
 abbrev pub invariant-loop-point : goal.invariant-loop-point
-invariant-loop-point l = AreBegunTo l.runs l.asked l.point l.nodes.items
+invariant-loop-point l = AreBegunTo l.runs l.points l.point l.nodes.items

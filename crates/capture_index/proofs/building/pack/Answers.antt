@@ -4,7 +4,7 @@ use Rattle.capture_board.specs.Deltas.{node_count}
 use Rattle.capture_index.specs.declared.run.Branch.{Branch}
 use Rattle.capture_index.specs.Branches.{AreBranchesTo}
 use Rattle.capture_index.proofs.Branchings.{above-told}
-use Rattle.capture_index.proofs.Packed.{ArePacked-as, ArePacked-more, ArePacked-none, IsIndexOf-packed}
+use Rattle.capture_index.proofs.Packed.{ArePacked-as, ArePacked-more, ArePacked-none, IsRunIndexOf-packed}
 use Rattle.capture_index.proofs.building.pack.Goals as goal
 
 pub loop-p-init : goal.loop-p-init
@@ -22,7 +22,7 @@ pub returns : goal.returns
 returns c =
     let all : c.loop-p.p ≡ point_count c.args.deltas.now.shape = omega (arith, c.count-p-end.ensures.value, ap point_count c.shape-shape.ensures.value) in
     let branches = subst (λ (bs : List Branch). AreBranchesTo c.args.deltas.now (node_count c.args.deltas.now) bs) (sym c.shrink_to_fit-3.ensures.items) c.requires.branches in
-    IsIndexOf-packed c.args.deltas.now c.shape-shape.ensures.deltas _ c.args.growing.now (point_count c.shape-shape.result) c.requires.built c.shape-shape.ensures.value c.node_count-nodes.ensures.value branches
+    IsRunIndexOf-packed c.args.deltas.now c.shape-shape.ensures.deltas _ c.args.growing.now (point_count c.shape-shape.result) c.requires.built c.shape-shape.ensures.value c.node_count-nodes.ensures.value branches
     (ArePacked-as c.args.growing.now c.node_count-nodes.result (node_count c.args.deltas.now) (point_count c.shape-shape.result) c.loop-p.p (point_count c.args.deltas.now.shape) c.loop-p.times.items c.loop-p.ends.items c.shrink_to_fit.new.self.items c.loop-p.runs.items c.shrink_to_fit-2.new.self.items c.node_count-nodes.ensures.value all c.shrink_to_fit.ensures.items c.shrink_to_fit-2.ensures.items c.loop-p.invariant)
 
 pub invariant_of-result : goal.invariant_of-result

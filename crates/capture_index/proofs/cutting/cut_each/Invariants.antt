@@ -10,7 +10,7 @@ use Rattle.capture_index.proofs.cutting.cut_each.Given as goal
 abbrev pub invariant-loop-stretch : goal.invariant-loop-stretch
 invariant-loop-stretch l = record {
   within : l.at ≤ length l.runs;
-  told : (k : ℕ) (d : Stretch) → l.stretch-index ≤ k → k < length l.stretches → AreToldBehind l.runs l.at (slice_index_or l.stretches k d).to;
+  behind : (k : ℕ) (d : Stretch) → l.stretch-index ≤ k → k < length l.stretches → AreToldBehind l.runs l.at (slice_index_or l.stretches k d).to;
   nodes_of : (n : ℕ) → IsIn l.found.items n ↔ (IsIn l.fn.found.items n ⊎ (IsInFirst l.stretch-index l.stretches n × IsTrue (is_wanted l.want (cell_by l.runs n))));
   apart : (most : ℕ) → l.fn.found.items ≡ [] → AreApart 0 most l.stretches → AreApartFrom l.stretches l.stretch-index most l.found.items;
 }

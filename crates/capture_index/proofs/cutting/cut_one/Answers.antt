@@ -6,7 +6,7 @@ use Rattle.capture_index.proofs.cutting.cut_one.Goals as goal
 pub loop-at-init : goal.loop-at-init
 loop-at-init c = record {
   from = c.requires.some;
-  cut = IsCutTo-none c.args.runs.now c.args.want c.args.stretch c.args.found.now.items c.pass_later-at.result c.pass_later-at.ensures.told;
+  cut = IsCutTo-none c.args.runs.now c.args.want c.args.stretch c.args.found.now.items c.pass_later-at.result c.pass_later-at.ensures.behind;
   apart = λ most within apart. IsApartTo-none c.args.stretch c.args.stretch.to most c.args.found.now.items c.requires.some apart;
 }
 
@@ -27,8 +27,8 @@ returns-then-next-stretch-clause-nodes c =
     (IsCutTo-more c.args.runs.now c.args.want c.args.stretch c.args.found.now.items c.loop-at.at c.loop-at.next c.loop-at.found.items c.push_common.new.found.items _ c.from-first.result c.min-next.result c.allows.result
     c.loop-at-test.true c.loop-at.invariant.cut c.in_ok-push_common.ensures.nodes c.from-first.ensures c.allows.ensures c.min-next.ensures)
 
-pub returns-then-next-stretch-clause-told : goal.returns-then-next-stretch-clause-told
-returns-then-next-stretch-clause-told c = told-sooner c.args.runs.now c.loop-at.at c.args.stretch.from c.loop-at.next (omega (arith, c.loop-at.invariant.from)) c.loop-at.invariant.cut.rest
+pub returns-then-next-stretch-clause-behind : goal.returns-then-next-stretch-clause-behind
+returns-then-next-stretch-clause-behind c = told-sooner c.args.runs.now c.loop-at.at c.args.stretch.from c.loop-at.next (omega (arith, c.loop-at.invariant.from)) c.loop-at.invariant.cut.rest
 
 pub returns-then-next-stretch-clause-apart : goal.returns-then-next-stretch-clause-apart
 returns-then-next-stretch-clause-apart c most within apart =
@@ -42,8 +42,8 @@ returns-clause-nodes c =
     IsCutTo-all c.args.runs.now c.args.want c.args.stretch c.args.found.now.items c.loop-at.next c.loop-at.found.items c.push_common-2.new.found.items c.loop-at.at
     (omega arith) c.loop-at.invariant.cut c.in_ok-push_common-2.ensures.nodes
 
-pub returns-clause-told : goal.returns-clause-told
-returns-clause-told c =
+pub returns-clause-behind : goal.returns-clause-behind
+returns-clause-behind c =
     told-all c.args.runs.now c.loop-at.at c.args.stretch.from (omega arith) (told-sooner c.args.runs.now c.loop-at.at c.args.stretch.from c.loop-at.next (omega (arith, c.loop-at.invariant.from)) c.loop-at.invariant.cut.rest)
 
 pub returns-clause-apart : goal.returns-clause-apart

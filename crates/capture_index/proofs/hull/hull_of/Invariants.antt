@@ -7,5 +7,5 @@ use Rattle.capture_index.proofs.hull.hull_of.Given as goal
 abbrev pub invariant-loop-run : goal.invariant-loop-run
 invariant-loop-run l = record {
   hull : IsHullTo (IsWantedBy l.want l.runs) l.end l.next l.hull;
-  told : AreToldBehind l.runs l.run-index l.next;
+  behind : AreToldBehind l.runs l.run-index l.next;
 }

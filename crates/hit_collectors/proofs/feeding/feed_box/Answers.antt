@@ -28,4 +28,4 @@ loop-hit-preserved g c = record {
 pub returns-clause-ok : goal.returns-clause-ok
 returns-clause-ok g c =
     c.loop-hit.invariant.told
-    ∙ ap (λ (some : List Hit). with_hits some (g.C.Collector.tally c.args.board.now)) (take_all c.loop-hit.hit-index c.args.hits.now (omega (arith, c.loop-hit-test.false)))
+    ∙ ap (λ (some : List Hit). with_hits some (g.C.Collector.tally c.args.collector.now)) (take_all c.loop-hit.hit-index c.args.hits.now (omega (arith, c.loop-hit-test.false)))

@@ -4,6 +4,6 @@ use Rattle.hit_collectors.proofs.feeding.feed_box.Given as goal
 
 abbrev pub invariant-loop-hit : goal.invariant-loop-hit
 invariant-loop-hit g l = record {
-  told : g.C.Collector.tally l.board ≡ with_hits (take l.hit-index l.hits) (g.C.Collector.tally l.fn.board);
-  no_hits : l.hits ≡ [] → l.board ≡ l.fn.board;
+  told : g.C.Collector.tally l.collector ≡ with_hits (take l.hit-index l.hits) (g.C.Collector.tally l.fn.collector);
+  no_hits : l.hits ≡ [] → l.collector ≡ l.fn.collector;
 }

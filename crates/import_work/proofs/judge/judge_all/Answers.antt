@@ -3,7 +3,7 @@ use Rattle.std.proofs.lemmas.Grind.{common_steps}
 use Rattle.std.proofs.lemmas.Iterator.Adapters.{YieldsList-from_vec}
 use Rattle.std.proofs.lemmas.Iterator.Consumers.{YieldsList-end}
 use Rattle.std.proofs.lemmas.List.{map-id}
-use Rattle.import_work.specs.Judged.{AreFound}
+use Rattle.import_work.specs.Judged.{AreFoundFiles}
 use Rattle.import_work.proofs.Judges.{judged-more, judged-start}
 use Rattle.import_work.proofs.judge.judge_all.Goals as goal
 
@@ -22,4 +22,4 @@ loop-file-preserved c = record {
 pub returns-clause-judged : goal.returns-clause-judged
 returns-clause-judged c = λ texts are.
     let all : c.loop-file.yielded ≡ c.args.files.items = sym (map-id c.loop-file.yielded) ∙ (YieldsList-end (YieldsList-from_vec {s = c.into_iter-file-iterator.result} c.args.files.items (first_of (search rules, grind (arith, common_steps))) (first_of (search rules, grind (arith, common_steps)))) c.loop-file.yielded c.loop-file.file-iterator c.loop-file.yielded_by c.next.result c.next.new.self c.in-None.is c.next.ensures.steps).0 in
-    c.loop-file.invariant.judged texts (subst (λ fs. AreFound texts fs) (sym all) are)
+    c.loop-file.invariant.judged texts (subst (λ fs. AreFoundFiles texts fs) (sym all) are)

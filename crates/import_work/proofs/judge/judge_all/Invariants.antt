@@ -1,12 +1,12 @@
 use Rattle.std.proofs.Common.{◌≤◌, length}
 use Rattle.import_work.specs.Batches.{line_reports}
-use Rattle.import_work.specs.Judged.{AreFound, AreJudgedAs}
+use Rattle.import_work.specs.Judged.{AreFoundFiles, AreJudgedAs}
 use Rattle.import_work.specs.Reads.{FileText}
 use Rattle.std.proofs.Common.{List}
 use Rattle.import_work.proofs.judge.judge_all.Given as goal
 
 abbrev pub invariant-loop-file : goal.invariant-loop-file
 invariant-loop-file l = record {
-  judged : (texts : List FileText) → AreFound texts l.yielded → AreJudgedAs texts l.fn.counts l.counts (line_reports l.fn.lines.items) (line_reports l.lines.items) l.fn.games l.games;
+  judged : (texts : List FileText) → AreFoundFiles texts l.yielded → AreJudgedAs texts l.fn.counts l.counts (line_reports l.fn.lines.items) (line_reports l.lines.items) l.fn.games l.games;
   counted : length l.games ≤ l.counts.games;
 }

@@ -2,7 +2,8 @@ use Rattle.std.proofs.Common.{◌∙◌, arith, sym}
 use Rattle.std.proofs.lemmas.Iterator.Adapters.{YieldsList-from_vec}
 use Rattle.std.proofs.lemmas.Iterator.Consumers.{YieldsList-so_far, YieldsList-turn}
 use Rattle.std.proofs.lemmas.List.{map-id}
-use Rattle.import_work.proofs.Joined.{ArePiecesJoined-more, room_left}
+use Rattle.kb_geometry.proofs.Pieces.{ArePiecesJoined-more}
+use Rattle.import_work.proofs.Joined.{room_left}
 use Rattle.import_work.proofs.making.joined.Goals as goal
 
 pub add_piece-requires : goal.add_piece-requires

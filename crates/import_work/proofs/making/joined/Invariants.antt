@@ -1,4 +1,4 @@
-use Rattle.import_work.specs.Pieces.{ArePiecesJoined}
+use Rattle.kb_geometry.specs.Pieces.{ArePiecesJoined}
 use Rattle.import_work.proofs.making.joined.Given as goal
 
 abbrev pub invariant-loop-piece : goal.invariant-loop-piece

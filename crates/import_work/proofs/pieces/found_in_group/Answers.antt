@@ -3,7 +3,7 @@ use Rattle.std.proofs.lemmas.Grind.{common_steps}
 use Rattle.std.proofs.lemmas.Iterator.Adapters.{YieldsList-from_vec}
 use Rattle.std.proofs.lemmas.Iterator.Consumers.{YieldsList-end}
 use Rattle.std.proofs.lemmas.List.{map-id}
-use Rattle.import_work.specs.Judged.{AreFound}
+use Rattle.import_work.specs.Judged.{AreFoundFiles}
 use Rattle.import_work.specs.Reads.{file_texts}
 use Rattle.import_work.proofs.FoundPieces.{found-more}
 use Rattle.import_work.proofs.pieces.found_in_group.Goals as goal
@@ -17,4 +17,4 @@ loop-file-preserved c = found-more c.loop-file.yielded c.in-Some.file c.loop-fil
 pub returns : goal.returns
 returns c =
     let all : c.loop-file.yielded ≡ c.args.group.items = sym (map-id c.loop-file.yielded) ∙ (YieldsList-end (YieldsList-from_vec {s = c.into_iter-file-iterator.result} c.args.group.items (first_of (search rules, grind (arith, common_steps))) (first_of (search rules, grind (arith, common_steps)))) c.loop-file.yielded c.loop-file.file-iterator c.loop-file.yielded_by c.next.result c.next.new.self c.in-None.is c.next.ensures.steps).0 in
-    subst (λ files. AreFound (file_texts files) c.loop-file.found.items) all c.loop-file.invariant
+    subst (λ files. AreFoundFiles (file_texts files) c.loop-file.found.items) all c.loop-file.invariant

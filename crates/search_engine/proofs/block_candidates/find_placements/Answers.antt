@@ -19,4 +19,4 @@ returns-clause-allowed c =
     let few : length games ≤ 64 = omega (arith, c.len-count.ensures.value, c.len-count.ensures.most) in
     let found = c.find_candidates.new.found.items in
     OnOk-then c.fill.result c.fill.ensures (λ by_game.
-    allowed-listed c.args.matchers.now.query games few found c.fill.new.self (subst (λ (cs : List Candidate). AreByGame cs (length cs) c.fill.new.self) c.deref.ensures.value by_game) c.args.matchers.now.shapes c.args.asked c.in_ok-find_candidates.ensures.allowed)
+    allowed-listed c.args.matchers.now.query games few found c.fill.new.self (subst (λ (cs : List Candidate). AreByGame cs (length cs) c.fill.new.self) c.deref.ensures.value by_game) c.args.matchers.now.shapes c.args.games c.in_ok-find_candidates.ensures.allowed)

@@ -3,6 +3,7 @@ use Rattle.game_tree.specs.Tree.{node_count}
 use Rattle.run_matcher.specs.GoingOn.{occurrences_of}
 use Rattle.search_engine.specs.Hits.{AreHitsOf}
 use Rattle.search_engine.specs.Searching.{AreHitsAdded}
+use Rattle.search_engine.proofs.NodesVisited.{AreVisitedTo}
 use Rattle.search_engine.proofs.game_hits.add_hits.Given as goal
 
 abbrev pub invariant-loop-one : goal.invariant-loop-one
@@ -11,4 +12,5 @@ invariant-loop-one g l = record {
   within : l.visited ≤ node_count l.game.tree;
   ticks : l.steps ≤ l.fn.steps + l.visited;
   grows : l.fn.steps ≤ l.steps;
+  nodes : AreVisitedTo l.query l.number l.game.tree (occurrences_of l.begun) l.one-index l.visited l.fn.hits.items l.hits.items l.fn.steps l.steps;
 }

@@ -5,8 +5,8 @@ use Rattle.search_engine.proofs.game_hits.add_hits_in.Goals as goal
 pub add_hits-requires-clause-occurrences : goal.add_hits-requires-clause-occurrences
 add_hits-requires-clause-occurrences g c = c.requires.occurrences c.deltas-deltas.result.now c.args.matcher.now.images.now.placements c.deltas-deltas.ensures c.requires.images
 
-pub add_hits-requires-clause-known : goal.add_hits-requires-clause-known
-add_hits-requires-clause-known g c = c.requires.known c.deltas-deltas.result.now c.args.matcher.now.images.now.placements c.deltas-deltas.ensures c.requires.images
+pub add_hits-requires-clause-go_on : goal.add_hits-requires-clause-go_on
+add_hits-requires-clause-go_on g c = c.requires.go_on c.deltas-deltas.result.now c.args.matcher.now.images.now.placements c.deltas-deltas.ensures c.requires.images
 
 pub returns-clause-hits : goal.returns-clause-hits
 returns-clause-hits g c =

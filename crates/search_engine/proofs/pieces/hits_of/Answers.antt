@@ -1,20 +1,27 @@
 use Rattle.std.proofs.Common.{arith, rules, get_or, subst}
 use Rattle.std.proofs.lemmas.Grind.{common_steps}
 use Rattle.std.proofs.lemmas.Result.{IfOk-weaker}
-use Rattle.search_engine.specs.Searching.{IsPiece}
+use Rattle.search_engine.specs.Searching.{AreAllPieces, IsPiece}
 use Rattle.search_engine.proofs.BlocksSearched.{hits_alone}
+use Rattle.search_engine.proofs.JoinedPieces.{hits_joined}
 use Rattle.search_engine.proofs.pieces.hits_of.Goals as goal
 
 pub returns-then-items-size : goal.returns-then-items-size
 returns-then-items-size g c =
     IfOk-weaker c.piece_hits.result _ _ (λ hits are. hits_alone c.args.matchers.now.query c.args.filter.now c.args.matchers.now.shapes c.args.items.now hits.items 0 are c.requires.numbered c.requires.covered) c.piece_hits.ensures
 
-pub joined-requires-clause-pieces : goal.joined-requires-clause-pieces
-joined-requires-clause-pieces g c =
+pub returns : goal.returns
+returns g c =
+    let query = c.args.matchers.now.query in
+    let filter = c.args.filter.now in
+    let shapes = c.args.matchers.now.shapes in
+    let items = c.args.items.now in
     let pieces = c.in_ok-pieces.pieces.items in
-    let size = c.piece_size-size.result in record {
+    let size = c.piece_size-size.result in
+    let are : AreAllPieces query filter shapes items size pieces = record {
       all = first_of (search rules, grind (arith, common_steps));
       each = λ n d lt.
           let given = (c.in_ok-pieces.ensures.each n d lt).1 in
-          subst (λ chunk. IsPiece c.args.matchers.now.query c.args.filter.now c.args.matchers.now.shapes chunk (get_or pieces n d)) given.argument_is.value (let called = given.call in search rules);
-    }
+          subst (λ chunk. IsPiece query filter shapes chunk (get_or pieces n d)) given.argument_is.value (let called = given.call in search rules);
+    } in
+    IfOk-weaker c.joined.result _ _ (λ hits joined. hits_joined query filter shapes items size pieces are c.requires.numbered c.requires.covered hits.items joined) c.joined.ensures

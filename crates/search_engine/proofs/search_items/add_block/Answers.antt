@@ -5,6 +5,7 @@ use Rattle.search_engine.specs.Items.{games_of_item}
 use Rattle.search_engine.proofs.CutLists.{slice_get-drop}
 use Rattle.search_engine.proofs.GamesSearched.{AreHitsFrom-refused}
 use Rattle.search_engine.proofs.StepsTaken.{AreStepsIn-none}
+use Rattle.search_engine.proofs.NodesVisited.{AreVisited-none}
 use Rattle.search_engine.proofs.search_items.add_block.Goals as goal
 
 pub returns-then-accepted-eq0-clause-hits : goal.returns-then-accepted-eq0-clause-hits
@@ -15,6 +16,9 @@ returns-then-accepted-eq0-clause-hits g c covered =
     let there = sym (slice_get-drop skip c.args.item.now.block.now k) ∙ at in
     let bit = (c.accepted_games-accepted.ensures (skip + k) game (omega arith) there).1 accepts in
     absurd (omega (arith, bit_at-zero (skip + k), subst (λ word. bit_at word (skip + k) ≡ 1) c.if-accepted-eq0.true bit)))
+
+pub returns-then-accepted-eq0-clause-visited : goal.returns-then-accepted-eq0-clause-visited
+returns-then-accepted-eq0-clause-visited g c = AreVisited-none c.args.hits.now.items c.args.steps.now
 
 pub returns-then-accepted-eq0-clause-steps : goal.returns-then-accepted-eq0-clause-steps
 returns-then-accepted-eq0-clause-steps g c = AreStepsIn-none c.args.matchers.now.query (games_of_item c.args.item.now) c.args.steps.now

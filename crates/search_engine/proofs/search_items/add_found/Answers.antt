@@ -12,6 +12,7 @@ use Rattle.search_engine.specs.StepBounds.{AreStepsIn}
 use Rattle.search_engine.proofs.CutLists.{slice_get-behind}
 use Rattle.search_engine.proofs.GamesSearched.{AreHitsAdded-game, AreHitsFrom-none, some_there}
 use Rattle.search_engine.proofs.StepsTaken.{AreStepsIn-all, AreStepsIn-more, AreStepsIn-none}
+use Rattle.search_engine.proofs.NodesVisited.{AreVisited-none, AreVisited-then}
 use Rattle.search_engine.proofs.search_items.add_found.Goals as goal
 
 pub loop-at-init : goal.loop-at-init
@@ -21,18 +22,19 @@ loop-at-init g c =
     let old = c.args.hits.now.items in
     let none : 0 ≡ item.skip - item.skip = omega arith in
     record {
-      asked = omega arith;
+      left_in = omega arith;
       rest = λ k game le there. c.requires.gathered k game le there;
-      known = λ k game le there. c.requires.known k game there;
+      go_on = λ k game le there. c.requires.go_on k game there;
       hits = λ covered. subst (λ n. AreHitsAdded (AreHitsFrom item.first c.args.matchers.now.query c.args.filter.now (take n games)) old old) none (AreHitsFrom-none item.first c.args.matchers.now.query c.args.filter.now old);
+      visited = AreVisited-none old c.args.steps.now;
       steps = AreStepsIn-none c.args.matchers.now.query (take (item.skip - item.skip) games) c.args.steps.now;
     }
 
 pub add_one-requires-clause-gathered : goal.add_one-requires-clause-gathered
 add_one-requires-clause-gathered g c = λ game there. c.loop-at.invariant.rest c.loop-at.at game (omega arith) there
 
-pub add_one-requires-clause-known : goal.add_one-requires-clause-known
-add_one-requires-clause-known g c = λ game there. c.loop-at.invariant.known c.loop-at.at game (omega arith) there
+pub add_one-requires-clause-go_on : goal.add_one-requires-clause-go_on
+add_one-requires-clause-go_on g c = λ game there. c.loop-at.invariant.go_on c.loop-at.at game (omega arith) there
 
 pub loop-at-preserved : goal.loop-at-preserved
 loop-at-preserved g c =
@@ -41,21 +43,22 @@ loop-at-preserved g c =
     let block = item.block.now in
     let games = games_of_item item in
     let at = c.loop-at.at in
-    let asked : item.skip ≤ at = c.loop-at.invariant.asked in
+    let left_in : item.skip ≤ at = c.loop-at.invariant.left_in in
     let k = at - item.skip in
-    let next : k + 1 ≡ at + 1 - item.skip = omega (arith, asked) in
+    let next : k + 1 ≡ at + 1 - item.skip = omega (arith, left_in) in
     let (game, here) = some_there block at (omega (arith, c.loop-at-test.true, c.len-at-end.ensures.value)) in
-    let there = slice_get-behind item.skip block at game asked here in
+    let there = slice_get-behind item.skip block at game left_in here in
     record {
-      asked = omega (arith, asked);
+      left_in = omega (arith, left_in);
       rest = λ j other le found. subst (λ (bs : List Begun). HasOccurrences query c.args.filter.now c.args.matchers.now.shapes other.tree (occurrences_of bs)) (sym (c.in_ok-add_one.ensures.others j (λ same. absurd (omega (arith, le, same))))) (c.loop-at.invariant.rest j other (omega (arith, le)) found);
-      known = λ j other le found. subst (GoOnIn query other.tree) (sym (c.in_ok-add_one.ensures.others j (λ same. absurd (omega (arith, le, same))))) (c.loop-at.invariant.known j other (omega (arith, le)) found);
+      go_on = λ j other le found. subst (GoOnIn query other.tree) (sym (c.in_ok-add_one.ensures.others j (λ same. absurd (omega (arith, le, same))))) (c.loop-at.invariant.go_on j other (omega (arith, le)) found);
       hits = λ covered.
           let lt = slice_get_within games k game there in
           let covers = subst (λ (h : Game). IsCovered query c.args.matchers.now.shapes h.tree.shape) (get_or_from_slice_get games k game game there) (covered k game lt) in
           subst (λ n. AreHitsAdded (AreHitsFrom item.first query c.args.filter.now (take n games)) c.args.hits.now.items c.add_one.new.hits.items) next
           (AreHitsAdded-game item.first query c.args.filter.now c.args.hits.now.items games k game c.loop-at.hits.items c.add_one.new.hits.items _ lt there refl (c.loop-at.invariant.hits covered)
           (c.in_ok-add_one.ensures.hits game here covers));
+      visited = AreVisited-then c.args.hits.now.items c.loop-at.hits.items c.add_one.new.hits.items c.args.steps.now c.loop-at.steps c.add_one.new.steps c.loop-at.invariant.visited c.in_ok-add_one.ensures.visited;
       steps =
           subst (λ n. AreStepsIn query (take n games) c.args.steps.now c.add_one.new.steps) next
           (AreStepsIn-more query games k game c.args.steps.now c.loop-at.steps c.add_one.new.steps there c.loop-at.invariant.steps (c.add_one.ensures.steps game here));
@@ -70,7 +73,7 @@ returns-in_err-add_one-clause-steps g c =
     let at = c.loop-at.at in
     let k = at - item.skip in
     let (game, here) = some_there block at (omega (arith, c.loop-at-test.true, c.len-at-end.ensures.value)) in
-    let there = slice_get-behind item.skip block at game c.loop-at.invariant.asked here in
+    let there = slice_get-behind item.skip block at game c.loop-at.invariant.left_in here in
     AreStepsIn-all query games (k + 1) c.args.steps.now c.add_one.new.steps
     (AreStepsIn-more query games k game c.args.steps.now c.loop-at.steps c.add_one.new.steps there c.loop-at.invariant.steps (c.add_one.ensures.steps game here))
 

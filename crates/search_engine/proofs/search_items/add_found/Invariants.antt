@@ -5,14 +5,15 @@ use Rattle.search_engine.specs.Gathering.{GoOnIn, HasOccurrences, begun_at, gath
 use Rattle.search_engine.specs.Hits.{AreHitsFrom}
 use Rattle.search_engine.specs.Items.{games_of_item}
 use Rattle.search_engine.specs.Searching.{AreCovered, AreHitsAdded}
-use Rattle.search_engine.specs.StepBounds.{AreStepsIn}
+use Rattle.search_engine.specs.StepBounds.{AreStepsIn, AreVisited}
 use Rattle.search_engine.proofs.search_items.add_found.Given as goal
 
 abbrev pub invariant-loop-at : goal.invariant-loop-at
 invariant-loop-at g l = record {
-  asked : l.item.skip ≤ l.at;
+  left_in : l.item.skip ≤ l.at;
   rest : (k : ℕ) (game : Game) → l.at ≤ k → slice_get l.item.block.now k ≡ Some game → HasOccurrences l.matchers.query l.filter l.matchers.shapes game.tree (gathered_of l.gathered k);
-  known : (k : ℕ) (game : Game) → l.at ≤ k → slice_get l.item.block.now k ≡ Some game → GoOnIn l.matchers.query game.tree (begun_at l.gathered k);
+  go_on : (k : ℕ) (game : Game) → l.at ≤ k → slice_get l.item.block.now k ≡ Some game → GoOnIn l.matchers.query game.tree (begun_at l.gathered k);
   hits : AreCovered l.matchers.query l.matchers.shapes (games_of_item l.item) → AreHitsAdded (AreHitsFrom l.item.first l.matchers.query l.filter (take (l.at - l.item.skip) (games_of_item l.item))) l.fn.hits.items l.hits.items;
+  visited : AreVisited l.fn.hits.items l.hits.items l.fn.steps l.steps;
   steps : AreStepsIn l.matchers.query (take (l.at - l.item.skip) (games_of_item l.item)) l.fn.steps l.steps;
 }

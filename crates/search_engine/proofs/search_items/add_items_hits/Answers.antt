@@ -2,6 +2,7 @@ use Rattle.std.proofs.Common.{◌+◌, arith, take}
 use Rattle.search_engine.specs.Items.{games_of_items}
 use Rattle.search_engine.proofs.BlocksSearched.{so_far-all, so_far-more, so_far-none}
 use Rattle.search_engine.proofs.StepsTaken.{AreStepsIn-block, AreStepsIn-items, AreStepsIn-none}
+use Rattle.search_engine.proofs.NodesVisited.{AreVisited-none, AreVisited-then}
 use Rattle.search_engine.proofs.search_items.add_items_hits.Goals as goal
 
 pub returns-in_err-new-clause-steps : goal.returns-in_err-new-clause-steps
@@ -10,12 +11,14 @@ returns-in_err-new-clause-steps g c = AreStepsIn-none c.args.matchers.now.query 
 pub loop-item-init : goal.loop-item-init
 loop-item-init g c = record {
   hits = so_far-none c.args.matchers.now.query c.args.filter.now c.args.matchers.now.shapes c.args.items.now c.args.hits.now.items;
+  visited = AreVisited-none c.args.hits.now.items c.args.steps.now;
   steps = AreStepsIn-none c.args.matchers.now.query (games_of_items (take 0 c.args.items.now)) c.args.steps.now;
 }
 
 pub loop-item-preserved : goal.loop-item-preserved
 loop-item-preserved g c = record {
   hits = so_far-more c.args.matchers.now.query c.args.filter.now c.args.matchers.now.shapes c.args.items.now c.loop-item.item-index c.item-item.result c.args.hits.now.items c.loop-item.hits.items c.add_block.new.hits.items c.loop-item-test.true c.item-item.is c.loop-item.invariant.hits c.in_ok-add_block.ensures.hits;
+  visited = AreVisited-then c.args.hits.now.items c.loop-item.hits.items c.add_block.new.hits.items c.args.steps.now c.loop-item.steps c.add_block.new.steps c.loop-item.invariant.visited c.in_ok-add_block.ensures.visited;
   steps = AreStepsIn-block c.args.matchers.now.query c.args.items.now c.loop-item.item-index c.item-item.result c.args.steps.now c.loop-item.steps c.add_block.new.steps c.loop-item-test.true c.item-item.is c.loop-item.invariant.steps c.add_block.ensures.steps;
 }
 

@@ -9,6 +9,7 @@ use Rattle.search_engine.specs.StepBounds.{AreStepsIn}
 use Rattle.search_engine.proofs.Gathering.{asked_with_some, has_exactly, kept_with_some, no_hits}
 use Rattle.search_engine.proofs.GamesSearched.{same_game}
 use Rattle.search_engine.proofs.StepsTaken.{AreStepsIn-game, AreStepsIn-none}
+use Rattle.search_engine.proofs.NodesVisited.{AreVisited-none}
 use Rattle.search_engine.proofs.search_items.add_one.Goals as goal
 
 pub returns-then-is_empty-clause-hits : goal.returns-then-is_empty-clause-hits
@@ -19,8 +20,8 @@ returns-then-is_empty-clause-hits g c = λ game at covered.
     (no_hits query c.args._filter.now c.args.matchers.now.shapes (c.args.item.now.first + (c.args.at - c.args.item.now.skip)) c.get-game.result.now.tree (gathered_of c.args.gathered.now c.args.at) (c.requires.gathered c.get-game.result.now c.get-game.ensures) c.deltas-changes.result.now c.deltas-changes.ensures
     (c.is_empty.ensures.0 c.if-is_empty.true) (subst (λ (h : Game). IsCovered query c.args.matchers.now.shapes h.tree.shape) (sym same) covered) c.args.hits.now.items)
 
-pub add_on_its_board-requires-clause-there : goal.add_on_its_board-requires-clause-there
-add_on_its_board-requires-clause-there g c =
+pub add_on_its_board-requires-clause-among_shapes : goal.add_on_its_board-requires-clause-among_shapes
+add_on_its_board-requires-clause-among_shapes g c =
     (asked_with_some c.args.matchers.now.query c.args._filter.now c.args.matchers.now.shapes c.get-game.result.now.tree (gathered_of c.args.gathered.now c.args.at) (c.requires.gathered c.get-game.result.now c.get-game.ensures) c.deltas-changes.result.now c.deltas-changes.ensures c.is_empty.result c.is_empty.ensures c.if-is_empty.false).1
 
 pub add_on_its_board-requires-clause-occurrences : goal.add_on_its_board-requires-clause-occurrences
@@ -32,9 +33,9 @@ add_on_its_board-requires-clause-occurrences g c = λ changes placements of are.
     let asked = asked_with_some query c.args._filter.now c.args.matchers.now.shapes tree gathered has c.deltas-changes.result.now c.deltas-changes.ensures c.is_empty.result c.is_empty.ensures c.if-is_empty.false in
     ap occurrences_of c.deref.ensures.value ∙ c.in_ok-found.ensures.list changes placements (has_exactly query c.args._filter.now c.args.matchers.now.shapes tree gathered has changes of asked.0 asked.1 placements are)
 
-pub add_on_its_board-requires-clause-known : goal.add_on_its_board-requires-clause-known
-add_on_its_board-requires-clause-known g c = λ changes placements of are b h.
-    c.requires.known c.get-game.result.now c.get-game.ensures changes placements of are b
+pub add_on_its_board-requires-clause-go_on : goal.add_on_its_board-requires-clause-go_on
+add_on_its_board-requires-clause-go_on g c = λ changes placements of are b h.
+    c.requires.go_on c.get-game.result.now c.get-game.ensures changes placements of are b
     (c.in_ok-found.ensures.from b (subst (λ (bs : List Begun). Contains bs b) c.deref.ensures.value h))
 
 pub returns-clause-hits : goal.returns-clause-hits
@@ -43,6 +44,9 @@ returns-clause-hits g c = λ game at covered.
     let same : c.get-game.result.now ≡ game = same_game c.args.item.now.block.now c.args.at c.get-game.result.now game c.get-game.ensures at in
     subst (λ (h : Game). AreHitsAdded (AreGameHits c.args.matchers.now.query c.args._filter.now (c.args.item.now.first + (c.args.at - c.args.item.now.skip)) h.tree) c.args.hits.now.items c.add_on_its_board.new.hits.items) same
     (c.in_ok-add_on_its_board.ensures.hits c.args._filter.now asked.0)
+
+pub returns-then-is_empty-clause-visited : goal.returns-then-is_empty-clause-visited
+returns-then-is_empty-clause-visited g c = AreVisited-none c.args.hits.now.items c.args.steps.now
 
 pub returns-then-is_empty-clause-steps : goal.returns-then-is_empty-clause-steps
 returns-then-is_empty-clause-steps g c = λ game at. AreStepsIn-none c.args.matchers.now.query (game ∷ []) c.args.steps.now

@@ -14,10 +14,10 @@ loop-i-init c =
 
 pub loop-i-preserved : goal.loop-i-preserved
 loop-i-preserved c =
-    from_none-more (λ i. AsksThere c.args.images.now.shape (placement_at c.args.images.now.placements i)) c.loop-i.asked c.add_placement.new.self c.loop-i.i c.loop-i.invariant c.add_placement.ensures
+    from_none-more (λ i. AsksThere c.args.images.now.shape (placement_at c.args.images.now.placements i)) c.loop-i.points c.add_placement.new.self c.loop-i.i c.loop-i.invariant c.add_placement.ensures
 
 pub returns : goal.returns
 returns c =
     let images = c.args.images.now in
     let all : c.loop-i.i ≡ length images.placements = omega (arith, c.loop-i-test.false, c.loop-i.auto.i-end, c.len-i-end.ensures.value) in
-    subst (λ (n : ℕ). (d : Cell) (p : ℕ) → Contains (noted c.loop-i.asked d) p ↔ AsksBelow (λ i. AsksThere images.shape (placement_at images.placements i)) n p d) all c.loop-i.invariant
+    subst (λ (n : ℕ). (d : Cell) (p : ℕ) → Contains (noted c.loop-i.points d) p ↔ AsksBelow (λ i. AsksThere images.shape (placement_at images.placements i)) n p d) all c.loop-i.invariant

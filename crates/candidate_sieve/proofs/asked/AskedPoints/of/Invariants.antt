@@ -8,4 +8,4 @@ use Rattle.candidate_sieve.proofs.asked.AskedPoints.of.Given as goal
 
 -- the placements so far
 abbrev pub invariant-loop-i : goal.invariant-loop-i
-invariant-loop-i l = (c : Cell) (p : ℕ) → Contains (noted l.asked c) p ↔ AsksBelow (λ i. AsksThere l.images.shape (placement_at l.images.placements i)) l.i p c
+invariant-loop-i l = (c : Cell) (p : ℕ) → Contains (noted l.points c) p ↔ AsksBelow (λ i. AsksThere l.images.shape (placement_at l.images.placements i)) l.i p c

@@ -1,7 +1,7 @@
 use Rattle.std.proofs.Common.{◌≡◌, ◌∙◌, ◌≤◌, All, ap, arith, sym, subst}
 use Rattle.info_filter.specs.Players.{Side, TableRow, is_black_win, is_white_win}
 use Rattle.info_filter.specs.Seats.{IsSeat, table_rows_of}
-use Rattle.info_filter.specs.SidesCounted.{IsSideAdded}
+use Rattle.info_filter.specs.SidesCounted.{AreRowsWithSide}
 use Rattle.info_filter.proofs.Tables.{game_rows, same_side, small_added, table_more}
 use Rattle.info_filter.proofs.players.Players.add.Goals as goal
 
@@ -34,8 +34,8 @@ returns-clause-rows c =
     let seat-2 = subst (λ es. IsSeat es c.white.result.now c.in_ok-white.white) (sym c.in_ok-reserve.ensures.entries) c.in_ok-white.ensures in
     let black_won = c.is_black_win-black_wins.ensures ∙ ap is_black_win c.outcome-outcome.ensures in
     let white_won = c.is_white_win-white_wins.ensures ∙ ap is_white_win c.outcome-outcome.ensures in
-    let black = subst (λ (side : Side). IsSideAdded rows side between) (same_side _ _ _ _ _ _ c.black.ensures black_won white_won) (c.add_side.ensures.added c.black.result.now seat) in
-    let white = subst (λ (side : Side). IsSideAdded between side new) (same_side _ _ _ _ _ _ c.white.ensures white_won black_won) (c.add_side-2.ensures.added c.white.result.now (c.add_side.ensures.kept c.white.result.now c.in_ok-white.white seat-2)) in
+    let black = subst (λ (side : Side). AreRowsWithSide rows side between) (same_side _ _ _ _ _ _ c.black.ensures black_won white_won) (c.add_side.ensures.added c.black.result.now seat) in
+    let white = subst (λ (side : Side). AreRowsWithSide between side new) (same_side _ _ _ _ _ _ c.white.ensures white_won black_won) (c.add_side-2.ensures.added c.white.result.now (c.add_side.ensures.kept c.white.result.now c.in_ok-white.white seat-2)) in
     game_rows c.args.info.now c.args.self.now rows between new old_is black white
 
 pub returns-clause-ok : goal.returns-clause-ok

@@ -15,8 +15,8 @@ returns-then-is_empty-clause-occurrences c =
     gathered-more c.args.runs.now c.args.sought.now stretches c.requires.shape c.requires.sought c.in_ok-find.ensures.apart c.in_ok-find.ensures.nodes (occurrences_of c.args.self.now) (occurrences_of c.args.self.now)
     (none-begins c.args.runs.now stretches c.args.sought.now.number (occurrences_of c.args.self.now) (omega (arith, eqb-true _ 0 (sym c.is_empty.ensures ∙ c.if-is_empty.true), c.find.new.found.ok.0)))
 
-pub returns-then-is_empty-clause-known : goal.returns-then-is_empty-clause-known
-returns-then-is_empty-clause-known c = λ deltas are is b h. inl h
+pub returns-then-is_empty-clause-go_on : goal.returns-then-is_empty-clause-go_on
+returns-then-is_empty-clause-go_on c = λ deltas are is b h. inl h
 
 pub returns-clause-occurrences : goal.returns-clause-occurrences
 returns-clause-occurrences c =
@@ -24,10 +24,10 @@ returns-clause-occurrences c =
     gathered-more c.args.runs.now c.args.sought.now stretches c.requires.shape c.requires.sought c.in_ok-find.ensures.apart c.in_ok-find.ensures.nodes (occurrences_of c.args.self.now) (occurrences_of c.add_begins.new.self)
     (λ o. subst (λ (ss : List Stretch). Contains (occurrences_of c.add_begins.new.self) o ↔ (Contains (occurrences_of c.args.self.now) o ⊎ ((o.placement ≡ c.args.sought.now.number) × BeginsIn c.args.runs.now ss o.node))) c.deref.ensures.value (c.in_ok-add_begins.ensures.occurrences o))
 
-pub returns-clause-known : goal.returns-clause-known
-returns-clause-known c = λ deltas are is b h.
+pub returns-clause-go_on : goal.returns-clause-go_on
+returns-clause-go_on c = λ deltas are is b h.
     let stretches = c.find.new.found.items in
-    elim (c.in_ok-add_begins.ensures.known b h) [
+    elim (c.in_ok-add_begins.ensures.go_on b h) [
       | inl was ↦ inl was
       | inr told ↦
           inr (known-holds c.args.runs.now c.args.sought.now stretches c.requires.shape c.requires.sought c.in_ok-find.ensures.apart c.in_ok-find.ensures.nodes deltas is b

@@ -25,8 +25,8 @@ returns-clause-occurrences c =
     begins-added c.args.runs.now c.args.stretches.now c.args.placement c.known_end.result nodes c.self.inside.keys.items c.push_keys.new.keys.items c.args.self.now c.requires.placement c.known_end.ensures.few begun
     (c.in_ok-push_keys.ensures.added ∙ ap (λ (ns : List ℕ). c.self.inside.keys.items ++ map (key_of c.args.placement c.known_end.result) ns) c.deref.ensures.value) c.self.view_is
 
-pub returns-clause-known : goal.returns-clause-known
-returns-clause-known c =
+pub returns-clause-go_on : goal.returns-clause-go_on
+returns-clause-go_on c =
     let nodes = c.push_begins.new.nodes.items in
     let begun = only-added c.clear.new.self.items nodes (BeginsIn c.args.runs.now c.args.stretches.now) c.clear.ensures.items c.in_ok-push_begins.ensures.begun in
     known-added c.args.runs.now c.args.stretches.now c.args.placement c.known_end.result nodes c.self.inside.keys.items c.push_keys.new.keys.items c.args.self.now c.requires.placement c.known_end.ensures.few begun

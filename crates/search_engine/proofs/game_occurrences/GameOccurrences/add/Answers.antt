@@ -13,7 +13,7 @@ use Rattle.search_engine.proofs.game_occurrences.GameOccurrences.add.Goals as go
 pub loop-at-init : goal.loop-at-init
 loop-at-init c = record {
   gathered = of_candidate-start c.args.block.now c.args.matcher.now.images.now.placements c.args.candidate c.args.self.now;
-  known = more-none c.args.block.now c.args.matcher.now.images.now.shape c.args.matcher.now.images.now.placements c.args.self.now;
+  go_on = more-none c.args.block.now c.args.matcher.now.images.now.shape c.args.matcher.now.images.now.placements c.args.self.now;
 }
 
 pub get-requires : goal.get-requires
@@ -44,10 +44,10 @@ loop-at-preserved c =
           (λ changes of o. subst (λ (i : ImageList). Contains (gathered_of new at) o ↔ (Contains (gathered_of lists at) o ⊎ IsOccurrenceOf changes i.placements c.args.candidate.placement o)) c.sought-sought.ensures.images
           (subst (λ (i : ℕ). Contains (gathered_of new at) o ↔ (Contains (gathered_of lists at) o ⊎ IsOccurrenceOf changes c.sought-sought.result.images.now.placements i o)) c.sought-sought.ensures.number (c.in_ok-add_at.ensures.here changes of o)))
           (λ g other. ap occurrences_of (c.in_ok-add_at.ensures.others g other));
-      known =
-          more-then block images.shape images.placements c.args.self.now lists new c.loop-at.invariant.known
+      go_on =
+          more-then block images.shape images.placements c.args.self.now lists new c.loop-at.invariant.go_on
           (more-at block images.shape images.placements at lists new c.get.result.now c.get.ensures (ap (λ (g : Game). g.tree.shape) same ∙ shape)
-          (λ changes of b h. subst (λ (i : ImageList). Contains (begun_at lists at) b ⊎ GoesOnToHold changes i.placements b) c.sought-sought.ensures.images (c.in_ok-add_at.ensures.known changes of b h))
+          (λ changes of b h. subst (λ (i : ImageList). Contains (begun_at lists at) b ⊎ GoesOnToHold changes i.placements b) c.sought-sought.ensures.images (c.in_ok-add_at.ensures.go_on changes of b h))
           c.in_ok-add_at.ensures.others);
     }
 

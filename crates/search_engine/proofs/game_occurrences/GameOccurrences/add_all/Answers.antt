@@ -9,7 +9,7 @@ use Rattle.search_engine.proofs.game_occurrences.GameOccurrences.add_all.Goals a
 pub loop-candidate-init : goal.loop-candidate-init
 loop-candidate-init c = record {
   gathered = of_candidates-start c.args.block.now c.args.matcher.now.images.now.placements c.args.candidates.now c.args.self.now;
-  known = more-none c.args.block.now c.args.matcher.now.images.now.shape c.args.matcher.now.images.now.placements c.args.self.now;
+  go_on = more-none c.args.block.now c.args.matcher.now.images.now.shape c.args.matcher.now.images.now.placements c.args.self.now;
 }
 
 pub add-requires-clause-in_range : goal.add-requires-clause-in_range
@@ -30,7 +30,7 @@ loop-candidate-preserved c =
     let images = c.args.matcher.now.images.now in
     let k = c.loop-candidate.candidate-index in record {
       gathered = of_candidates-more c.args.block.now images.placements found c.args.self.now (omega (arith, c.len-count.ensures.value, c.len-count.ensures.most)) k (candidate_at found k) c.loop-candidate.self c.add.new.self refl c.loop-candidate.invariant.gathered c.in_ok-add.ensures.gathered;
-      known = more-then c.args.block.now images.shape images.placements c.args.self.now c.loop-candidate.self c.add.new.self c.loop-candidate.invariant.known c.in_ok-add.ensures.known;
+      go_on = more-then c.args.block.now images.shape images.placements c.args.self.now c.loop-candidate.self c.add.new.self c.loop-candidate.invariant.go_on c.in_ok-add.ensures.go_on;
     }
 
 pub returns-clause-gathered : goal.returns-clause-gathered

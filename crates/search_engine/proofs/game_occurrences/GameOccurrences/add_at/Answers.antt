@@ -12,12 +12,12 @@ returns-clause-here c = λ changes of.
     gains lists c.args.self.now c.args.at c.index_mut.result.now c.add.new.self c.self.view_is lt c.index_mut.ensures.value (IsOccurrenceOf changes c.args.sought.now.images.now.placements c.args.sought.now.number)
     (c.in_ok-add.ensures.occurrences changes of.net (c.runs.ensures changes of))
 
-pub returns-clause-known : goal.returns-clause-known
-returns-clause-known c = λ changes of.
+pub returns-clause-go_on : goal.returns-clause-go_on
+returns-clause-go_on c = λ changes of.
     let lists = c.self.inside.lists.items in
     let lt : c.args.at < length lists = omega (arith, c.requires.at, c.self.invariant) in
     gains-only lists c.args.self.now c.args.at c.index_mut.result.now c.add.new.self c.self.view_is lt c.index_mut.ensures.value (GoesOnToHold changes c.args.sought.now.images.now.placements)
-    (c.in_ok-add.ensures.known changes of.net (c.runs.ensures changes of))
+    (c.in_ok-add.ensures.go_on changes of.net (c.runs.ensures changes of))
 
 pub returns-clause-others : goal.returns-clause-others
 returns-clause-others c = λ g other.
