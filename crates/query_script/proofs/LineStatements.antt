@@ -1,6 +1,7 @@
 -- What the words of a line spell, and what a line is.
 use Rattle.std.proofs.Common.{◌≡◌, ◌≢◌, ◌∙◌, ℕ, List, [], ◌∷◌, Option, Some, None, Result, Ok, Err, IfOk, IfNone, codes, if◌then◌else◌, refl, sym, ap, subst, inl, inr, arith}
 use Rattle.std.specs.Str.{bytes_eq}
+use Rattle.kb_geometry.specs.declared.shape.Shape.{Shape}
 use Rattle.pattern_images.specs.declared.query.Query.{Query}
 use Rattle.dyer_signature.specs.declared.bytes.SigPattern.{SigPattern}
 use Rattle.info_filter.specs.declared.filter.Filter.{Filter}
@@ -43,21 +44,23 @@ pub no_statement : (words : List Word) →
     ((games start : ℕ) → ¬ IsStatement words (statement.Make games start)) → words ≢ bare (codes "wait") ∷ [] →
     ((number : ℕ) → ¬ IsStatement words (statement.Until number)) → ((query : Query) → ¬ IsStatement words (statement.Kept query)) → ((pattern : SigPattern) → ¬ IsStatement words (statement.Signature pattern)) →
     words ≢ bare (codes "players") ∷ [] → words ≢ bare (codes "doubles") ∷ [] → ((number : ℕ) → ¬ IsStatement words (statement.Game number)) →
+    ((shape : Shape) (depth least : ℕ) → ¬ IsStatement words (statement.Opening shape depth least)) →
     words ≢ bare (codes "report") ∷ [] → ((name : List ℕ) → ¬ IsStatement words (statement.Retire name)) →
     (s : Statement) → ¬ IsStatement words s
-no_statement words searched import_ make wait until kept signature players doubles game report retire (statement.Import path) is = import_ path is
-no_statement words searched import_ make wait until kept signature players doubles game report retire (statement.Make games start) is = make games start is
-no_statement words searched import_ make wait until kept signature players doubles game report retire statement.Wait is = wait is
-no_statement words searched import_ make wait until kept signature players doubles game report retire (statement.Until number) is = until number is
-no_statement words searched import_ make wait until kept signature players doubles game report retire (statement.Search query filter) is = searched query filter is
-no_statement words searched import_ make wait until kept signature players doubles game report retire (statement.Together searches) is = is
-no_statement words searched import_ make wait until kept signature players doubles game report retire (statement.Kept query) is = kept query is
-no_statement words searched import_ make wait until kept signature players doubles game report retire (statement.Signature pattern) is = signature pattern is
-no_statement words searched import_ make wait until kept signature players doubles game report retire statement.Players is = players is
-no_statement words searched import_ make wait until kept signature players doubles game report retire statement.Doubles is = doubles is
-no_statement words searched import_ make wait until kept signature players doubles game report retire (statement.Game number) is = game number is
-no_statement words searched import_ make wait until kept signature players doubles game report retire statement.Report is = report is
-no_statement words searched import_ make wait until kept signature players doubles game report retire (statement.Retire name) is = retire name is
+no_statement words searched import_ make wait until kept signature players doubles game opening report retire (statement.Import path) is = import_ path is
+no_statement words searched import_ make wait until kept signature players doubles game opening report retire (statement.Make games start) is = make games start is
+no_statement words searched import_ make wait until kept signature players doubles game opening report retire statement.Wait is = wait is
+no_statement words searched import_ make wait until kept signature players doubles game opening report retire (statement.Until number) is = until number is
+no_statement words searched import_ make wait until kept signature players doubles game opening report retire (statement.Search query filter) is = searched query filter is
+no_statement words searched import_ make wait until kept signature players doubles game opening report retire (statement.Together searches) is = is
+no_statement words searched import_ make wait until kept signature players doubles game opening report retire (statement.Kept query) is = kept query is
+no_statement words searched import_ make wait until kept signature players doubles game opening report retire (statement.Signature pattern) is = signature pattern is
+no_statement words searched import_ make wait until kept signature players doubles game opening report retire statement.Players is = players is
+no_statement words searched import_ make wait until kept signature players doubles game opening report retire statement.Doubles is = doubles is
+no_statement words searched import_ make wait until kept signature players doubles game opening report retire (statement.Game number) is = game number is
+no_statement words searched import_ make wait until kept signature players doubles game opening report retire (statement.Opening shape depth least) is = opening shape depth least is
+no_statement words searched import_ make wait until kept signature players doubles game opening report retire statement.Report is = report is
+no_statement words searched import_ make wait until kept signature players doubles game opening report retire (statement.Retire name) is = retire name is
 
 -- ---- the kinds of statements, by the words with which they begin
 
@@ -73,6 +76,7 @@ pub data Kind : Type 0 where
   players : Kind
   doubles : Kind
   shows : Kind
+  opens : Kind
   reports : Kind
   retires : Kind
 
@@ -89,6 +93,7 @@ kind_of (statement.Signature pattern) = Some signs
 kind_of statement.Players = Some players
 kind_of statement.Doubles = Some doubles
 kind_of (statement.Game number) = Some shows
+kind_of (statement.Opening shape depth least) = Some opens
 kind_of statement.Report = Some reports
 kind_of (statement.Retire name) = Some retires
 
@@ -105,9 +110,10 @@ kind_named name =
     else (if bytes_eq name (codes "players") then Some players
     else (if bytes_eq name (codes "doubles") then Some doubles
     else (if bytes_eq name (codes "game") then Some shows
+    else (if bytes_eq name (codes "opening") then Some opens
     else (if bytes_eq name (codes "report") then Some reports
     else (if bytes_eq name (codes "retire") then Some retires
-    else None)))))))))))
+    else None))))))))))))
 
 -- the statement is of this kind
 abbrev pub IsOfKind : Option Kind → Statement → Type 0
@@ -121,6 +127,7 @@ IsOfKind (Some signs) s = (pattern : SigPattern) × (s ≡ statement.Signature p
 IsOfKind (Some players) s = s ≡ statement.Players
 IsOfKind (Some doubles) s = s ≡ statement.Doubles
 IsOfKind (Some shows) s = (number : ℕ) × (s ≡ statement.Game number)
+IsOfKind (Some opens) s = (shape : Shape) × (depth : ℕ) × (least : ℕ) × (s ≡ statement.Opening shape depth least)
 IsOfKind (Some reports) s = s ≡ statement.Report
 IsOfKind (Some retires) s = (name : List ℕ) × (s ≡ statement.Retire name)
 IsOfKind None s = Unit {0}
@@ -137,6 +144,7 @@ of_kind (statement.Signature pattern) = (pattern, refl)
 of_kind statement.Players = refl
 of_kind statement.Doubles = refl
 of_kind (statement.Game number) = (number, refl)
+of_kind (statement.Opening shape depth least) = (shape, depth, least, refl)
 of_kind statement.Report = refl
 of_kind (statement.Retire name) = (name, refl)
 
@@ -161,6 +169,7 @@ name_of words (statement.Signature pattern) (is, pattern_is) = record { name = c
 name_of words statement.Players is = record { name = codes "players"; rest = []; kind = players; begins = is; names = refl; is_kind = refl }
 name_of words statement.Doubles is = record { name = codes "doubles"; rest = []; kind = doubles; begins = is; names = refl; is_kind = refl }
 name_of words (statement.Game number) (w, is, number_is, bound) = record { name = codes "game"; rest = w ∷ []; kind = shows; begins = is; names = refl; is_kind = refl }
+name_of words (statement.Opening shape depth least) (c, r, d, m, is, numbers) = record { name = codes "opening"; rest = c ∷ r ∷ d ∷ m ∷ []; kind = opens; begins = is; names = refl; is_kind = refl }
 name_of words statement.Report is = record { name = codes "report"; rest = []; kind = reports; begins = is; names = refl; is_kind = refl }
 name_of words (statement.Retire name) (is, utf8) = record { name = codes "retire"; rest = bare name ∷ []; kind = retires; begins = is; names = refl; is_kind = refl }
 

@@ -102,6 +102,7 @@ module _ (lines : List (List ℕ)) where
   alone_once k s statement.Players one other = spells_once (line_at lines k) s statement.Players one.spelled other.spelled
   alone_once k s statement.Doubles one other = spells_once (line_at lines k) s statement.Doubles one.spelled other.spelled
   alone_once k s (statement.Game number) one other = spells_once (line_at lines k) s (statement.Game number) one.spelled other.spelled
+  alone_once k s (statement.Opening shape depth least) one other = spells_once (line_at lines k) s (statement.Opening shape depth least) one.spelled other.spelled
   alone_once k s statement.Report one other = spells_once (line_at lines k) s statement.Report one.spelled other.spelled
   alone_once k s (statement.Retire name) one other = spells_once (line_at lines k) s (statement.Retire name) one.spelled other.spelled
 
@@ -118,6 +119,7 @@ module _ (lines : List (List ℕ)) where
   block_once k searches statement.Players one other = absurd (not_both (line_at lines k) statement.Players one.0 other.spelled)
   block_once k searches statement.Doubles one other = absurd (not_both (line_at lines k) statement.Doubles one.0 other.spelled)
   block_once k searches (statement.Game number) one other = absurd (not_both (line_at lines k) (statement.Game number) one.0 other.spelled)
+  block_once k searches (statement.Opening shape depth least) one other = absurd (not_both (line_at lines k) (statement.Opening shape depth least) one.0 other.spelled)
   block_once k searches statement.Report one other = absurd (not_both (line_at lines k) statement.Report one.0 other.spelled)
   block_once k searches (statement.Retire name) one other = absurd (not_both (line_at lines k) (statement.Retire name) one.0 other.spelled)
 
@@ -133,6 +135,7 @@ module _ (lines : List (List ℕ)) where
   stands_once k statement.Players t one other = alone_once k statement.Players t one other
   stands_once k statement.Doubles t one other = alone_once k statement.Doubles t one other
   stands_once k (statement.Game number) t one other = alone_once k (statement.Game number) t one other
+  stands_once k (statement.Opening shape depth least) t one other = alone_once k (statement.Opening shape depth least) t one other
   stands_once k statement.Report t one other = alone_once k statement.Report t one other
   stands_once k (statement.Retire name) t one other = alone_once k (statement.Retire name) t one other
 

@@ -26,6 +26,7 @@ stands_cases (statement.Signature pattern) h = inl h
 stands_cases statement.Players h = inl h
 stands_cases statement.Doubles h = inl h
 stands_cases (statement.Game number) h = inl h
+stands_cases (statement.Opening shape depth least) h = inl h
 stands_cases statement.Report h = inl h
 stands_cases (statement.Retire name) h = inl h
 
@@ -42,6 +43,7 @@ stands_there (statement.Signature pattern) h outside = record { spelled = h; out
 stands_there statement.Players h outside = record { spelled = h; outside = outside }
 stands_there statement.Doubles h outside = record { spelled = h; outside = outside }
 stands_there (statement.Game number) h outside = record { spelled = h; outside = outside }
+stands_there (statement.Opening shape depth least) h outside = record { spelled = h; outside = outside }
 stands_there statement.Report h outside = record { spelled = h; outside = outside }
 stands_there (statement.Retire name) h outside = record { spelled = h; outside = outside }
 

@@ -118,6 +118,8 @@ module _ (lines : List (List ℕ)) where
       inl (broken placed first k (other_statement lines k placed first searches h statement.Doubles (λ is. absurd (cc is.2)) at))
   step_statement k placed first searches h (statement.Game number) at =
       inl (broken placed first k (other_statement lines k placed first searches h (statement.Game number) (λ is. absurd (cc is.2)) at))
+  step_statement k placed first searches h (statement.Opening shape depth least) at =
+      inl (broken placed first k (other_statement lines k placed first searches h (statement.Opening shape depth least) (λ is. absurd (cc is.2)) at))
   step_statement k placed first searches h statement.Report at =
       inl (broken placed first k (other_statement lines k placed first searches h statement.Report (λ is. absurd (cc is.2)) at))
   step_statement k placed first searches h (statement.Retire name) at =

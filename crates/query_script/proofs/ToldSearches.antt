@@ -109,7 +109,7 @@ told_up_to w most = elim (told_number w) [
   ]
 ]
 
-told_side : (w : Word) → ((n : ℕ) × IsNumber w n × IsSide n) ⊎ ((n : ℕ) → IsNumber w n → IsSide n → ⊥)
+pub told_side : (w : Word) → ((n : ℕ) × IsNumber w n × IsSide n) ⊎ ((n : ℕ) → IsNumber w n → IsSide n → ⊥)
 told_side w = elim (told_up_to w 52) [
   | inr never ↦ inr (λ n is side. never n is side.1)
   | inl (n, is, le) ↦ elim (cases_lt 0 n) [

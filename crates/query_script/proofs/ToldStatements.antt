@@ -23,6 +23,7 @@ use Rattle.query_script.proofs.LineStatements.{of_name}
 use Rattle.query_script.proofs.Numbers.{IsNumber-once}
 use Rattle.query_script.proofs.FilteredBodies.{told_filtered_body}
 use Rattle.query_script.proofs.KeptBodies.{told_kept_body}
+use Rattle.query_script.proofs.OpeningWords.{opening_once, told_opening}
 use Rattle.query_script.proofs.ToldSearches.{behind_name, same_bare, same_first, same_rest, told_name, told_up_to}
 
 -- the statement that words spell, and no other
@@ -359,24 +360,44 @@ game_there words rest name = elim (told_single rest) [
   ]
 ]
 
+opening_there : (words rest : List Word) → words ≡ bare (codes "opening") ∷ rest → ToldStatement words
+opening_there words rest name = elim (told_opening rest) [
+  | inr never ↦ inr (λ s is.
+      let (shape, depth, least, same) = of_name words rest (codes "opening") s name is in
+      let (c, r, d, m, both, numbers) = subst (IsStatement words) same is in
+      never shape depth least (c, r, d, m, behind_name (codes "opening") words rest (c ∷ r ∷ d ∷ m ∷ []) name both, numbers))
+  | inl (shape, depth, least, there) ↦
+      let (c, r, d, m, four, numbers) = there in
+      inl (
+        statement.Opening shape depth least,
+        (c, r, d, m, name ∙ ap (λ l. bare (codes "opening") ∷ l) four, numbers),
+        λ s is.
+            let (other, deep, few, same) = of_name words rest (codes "opening") s name is in
+            let (a, b, e, f, both, numbers_too) = subst (IsStatement words) same is in
+            let (shapes, depths, leasts) = opening_once rest shape other depth deep least few there (a, b, e, f, behind_name (codes "opening") words rest (a ∷ b ∷ e ∷ f ∷ []) name both, numbers_too) in
+            same ∙ ap (λ t. statement.Opening t deep few) shapes ∙ ap (λ t. statement.Opening shape t few) depths ∙ ap (λ t. statement.Opening shape depth t) leasts,
+      )
+]
+
 -- words without such a name spell nothing
 none_there : (words : List Word) → BeginsOtherwise (codes "import") words → BeginsOtherwise (codes "make") words → BeginsOtherwise (codes "wait") words →
     BeginsOtherwise (codes "until") words → BeginsOtherwise (codes "search") words → BeginsOtherwise (codes "kept") words → BeginsOtherwise (codes "signature") words →
-    BeginsOtherwise (codes "players") words → BeginsOtherwise (codes "doubles") words → BeginsOtherwise (codes "game") words →
+    BeginsOtherwise (codes "players") words → BeginsOtherwise (codes "doubles") words → BeginsOtherwise (codes "game") words → BeginsOtherwise (codes "opening") words →
     BeginsOtherwise (codes "report") words → BeginsOtherwise (codes "retire") words → NoStatement words
-none_there words import_ make wait until searched kept signature players doubles game report retire (statement.Import path) (w, is, _) = import_ (w ∷ []) is
-none_there words import_ make wait until searched kept signature players doubles game report retire (statement.Make games start) (w, v, is, _) = make (w ∷ v ∷ []) is
-none_there words import_ make wait until searched kept signature players doubles game report retire statement.Wait is = wait [] is
-none_there words import_ make wait until searched kept signature players doubles game report retire (statement.Until number) (w, is, _, _) = until (w ∷ []) is
-none_there words import_ make wait until searched kept signature players doubles game report retire (statement.Search query filter) (body, is, _) = searched body is
-none_there words import_ make wait until searched kept signature players doubles game report retire (statement.Kept query) (body, is, _) = kept body is
-none_there words import_ make wait until searched kept signature players doubles game report retire (statement.Signature pattern) (is, _) = signature (bare pattern.bytes ∷ []) is
-none_there words import_ make wait until searched kept signature players doubles game report retire statement.Players is = players [] is
-none_there words import_ make wait until searched kept signature players doubles game report retire statement.Doubles is = doubles [] is
-none_there words import_ make wait until searched kept signature players doubles game report retire (statement.Game number) (w, is, _, _) = game (w ∷ []) is
-none_there words import_ make wait until searched kept signature players doubles game report retire (statement.Together searches) is = is
-none_there words import_ make wait until searched kept signature players doubles game report retire statement.Report is = report [] is
-none_there words import_ make wait until searched kept signature players doubles game report retire (statement.Retire name) (is, _) = retire (bare name ∷ []) is
+none_there words import_ make wait until searched kept signature players doubles game opening report retire (statement.Import path) (w, is, _) = import_ (w ∷ []) is
+none_there words import_ make wait until searched kept signature players doubles game opening report retire (statement.Make games start) (w, v, is, _) = make (w ∷ v ∷ []) is
+none_there words import_ make wait until searched kept signature players doubles game opening report retire statement.Wait is = wait [] is
+none_there words import_ make wait until searched kept signature players doubles game opening report retire (statement.Until number) (w, is, _, _) = until (w ∷ []) is
+none_there words import_ make wait until searched kept signature players doubles game opening report retire (statement.Search query filter) (body, is, _) = searched body is
+none_there words import_ make wait until searched kept signature players doubles game opening report retire (statement.Kept query) (body, is, _) = kept body is
+none_there words import_ make wait until searched kept signature players doubles game opening report retire (statement.Signature pattern) (is, _) = signature (bare pattern.bytes ∷ []) is
+none_there words import_ make wait until searched kept signature players doubles game opening report retire statement.Players is = players [] is
+none_there words import_ make wait until searched kept signature players doubles game opening report retire statement.Doubles is = doubles [] is
+none_there words import_ make wait until searched kept signature players doubles game opening report retire (statement.Game number) (w, is, _, _) = game (w ∷ []) is
+none_there words import_ make wait until searched kept signature players doubles game opening report retire (statement.Together searches) is = is
+none_there words import_ make wait until searched kept signature players doubles game opening report retire (statement.Opening shape depth least) (c, r, d, m, is, _) = opening (c ∷ r ∷ d ∷ m ∷ []) is
+none_there words import_ make wait until searched kept signature players doubles game opening report retire statement.Report is = report [] is
+none_there words import_ make wait until searched kept signature players doubles game opening report retire (statement.Retire name) (is, _) = retire (bare name ∷ []) is
 
 -- of words that begin with the name of none of the first seven kinds it can be told
 told_later : (words : List Word) → BeginsOtherwise (codes "import") words → BeginsOtherwise (codes "make") words → BeginsOtherwise (codes "wait") words →
@@ -388,11 +409,14 @@ told_later words import_ make wait until searched kept signature = elim (told_na
     | inl (rest, is) ↦ doubles_there words rest is
     | inr doubles ↦ elim (told_name (codes "game") words) [
       | inl (rest, is) ↦ game_there words rest is
-      | inr game ↦ elim (told_name (codes "report") words) [
-        | inl (rest, is) ↦ report_there words rest is
-        | inr report ↦ elim (told_name (codes "retire") words) [
-          | inl (rest, is) ↦ retire_there words rest is
-          | inr retire ↦ inr (none_there words import_ make wait until searched kept signature players doubles game report retire)
+      | inr game ↦ elim (told_name (codes "opening") words) [
+        | inl (rest, is) ↦ opening_there words rest is
+        | inr opening ↦ elim (told_name (codes "report") words) [
+          | inl (rest, is) ↦ report_there words rest is
+          | inr report ↦ elim (told_name (codes "retire") words) [
+            | inl (rest, is) ↦ retire_there words rest is
+            | inr retire ↦ inr (none_there words import_ make wait until searched kept signature players doubles game opening report retire)
+          ]
         ]
       ]
     ]

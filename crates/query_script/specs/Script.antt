@@ -152,6 +152,8 @@ IsStatementAt lines k (statement.Signature pattern) =
 IsStatementAt lines k statement.Players = StandsAlone lines k statement.Players
 IsStatementAt lines k statement.Doubles = StandsAlone lines k statement.Doubles
 IsStatementAt lines k (statement.Game number) = StandsAlone lines k (statement.Game number)
+IsStatementAt lines k (statement.Opening shape depth least) =
+    StandsAlone lines k (statement.Opening shape depth least)
 IsStatementAt lines k statement.Report = StandsAlone lines k statement.Report
 IsStatementAt lines k (statement.Retire name) = StandsAlone lines k (statement.Retire name)
 

@@ -1,5 +1,7 @@
 -- What a line spells: nothing that counts, a statement, the beginning of a block, or its end.
 use Rattle.std.specs.Prelude.{◌≡◌, ◌⊎◌, ℕ, ◌≤◌, List, [], ◌∷◌, ◌++◌, length, codes, All, IsUtf8}
+use Rattle.kb_geometry.specs.declared.shape.Shape.{Shape}
+use Rattle.kb_geometry.specs.Board.{cols_of, rows_of}
 use Rattle.pattern_images.specs.declared.query.Query.{Query}
 use Rattle.info_filter.specs.declared.filter.Filter.{Filter}
 use Rattle.dyer_signature.specs.Patterns.{IsSignaturePatternByte}
@@ -8,10 +10,11 @@ use Rattle.query_script.specs.declared.statement.Statement.TheVariants as statem
 use Rattle.query_script.specs.declared.word.Word.{Word}
 use Rattle.query_script.specs.Bytes.{number_sign}
 use Rattle.query_script.specs.Conditions.{IsFilteredBody}
-use Rattle.query_script.specs.Search.{IsKeptBody}
+use Rattle.query_script.specs.Search.{IsKeptBody, IsSideNumber, most_moves}
 use Rattle.query_script.specs.Words.{AreBlanks, AreWords, IsNumber, bare, bytes_of}
 
--- the greatest number of a version that a statement may wait for, and of a game
+-- the greatest number of a version that a statement may wait for, of a game, and of the entries that an
+-- opening must have
 abbrev pub most_number : ℕ
 most_number = 4294967295
 
@@ -43,6 +46,17 @@ pub record IsSignaturePattern (bytes : List ℕ) : Type 0 where
   pub twelve : length bytes ≡ 12
   pub kinds : All IsSignaturePatternByte bytes
 
+-- The four words are numbers: the columns and the rows of a board, the greatest move number of an
+-- entry, and how many entries an opening must have, which is one at least.
+pub record AreOpeningNumbers (c r d m : Word) (shape : Shape) (depth least : ℕ) : Type 0 where
+  pub cols_are : IsSideNumber c (cols_of shape)
+  pub rows_are : IsSideNumber r (rows_of shape)
+  pub depth_is : IsNumber d depth
+  pub depth_bound : depth ≤ most_moves
+  pub least_is : IsNumber m least
+  pub some : 1 ≤ least
+  pub bound : least ≤ most_number
+
 -- the words spell the statement, which takes one line
 abbrev pub IsStatement : List Word → Statement → Type 0
 IsStatement words (statement.Import path) = (w : Word) × (words ≡ bare (codes "import") ∷ w ∷ [])
@@ -63,6 +77,10 @@ IsStatement words statement.Players = words ≡ bare (codes "players") ∷ []
 IsStatement words statement.Doubles = words ≡ bare (codes "doubles") ∷ []
 IsStatement words (statement.Game number) = (w : Word) × (words ≡ bare (codes "game") ∷ w ∷ [])
     × IsNumber w number × (number ≤ most_number)
+IsStatement words (statement.Opening shape depth least) =
+    (c : Word) × (r : Word) × (d : Word) × (m : Word)
+    × (words ≡ bare (codes "opening") ∷ c ∷ r ∷ d ∷ m ∷ [])
+    × AreOpeningNumbers c r d m shape depth least
 IsStatement words statement.Report = words ≡ bare (codes "report") ∷ []
 IsStatement words (statement.Retire name) =
     (words ≡ bare (codes "retire") ∷ bare name ∷ []) × IsUtf8 name

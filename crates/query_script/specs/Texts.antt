@@ -2,6 +2,7 @@
 use Rattle.std.specs.Prelude.{ℕ, Bool, true, false, List, [], ◌∷◌, ◌++◌, length, codes, Option, Some, None}
 use Rattle.std.specs.Fmt.{decimal}
 use Rattle.std.specs.List.{flat_map}
+use Rattle.kb_geometry.specs.declared.shape.Point.{Point}
 use Rattle.kb_geometry.specs.declared.stone.Colour.{Colour}
 use Rattle.kb_geometry.specs.declared.stone.Colour.TheVariants as colour
 use Rattle.kb_geometry.specs.Symmetry.{number_of_label}
@@ -11,6 +12,7 @@ use Rattle.continuation_table.specs.declared.table.Row.{Row}
 use Rattle.info_filter.specs.Players.{TableRow}
 use Rattle.continuation_table.specs.declared.tally.Tally.{Tally}
 use Rattle.continuation_table.specs.Table.{TableView}
+use Rattle.query_script.specs.declared.opening_text.NodeCounts.{NodeCounts}
 use Rattle.query_script.specs.Bytes.{line_feed}
 
 -- a line: these pieces and a line feed
@@ -170,3 +172,30 @@ spaced number = codes " " ++ decimal number
 -- `double SIGNATURE` and the games, each behind a space
 abbrev pub double_text : List ℕ → List ℕ → List ℕ
 double_text signature games = line_text (codes "double " ∷ signature ∷ flat_map spaced games ∷ [])
+
+-- `LINE opening version V games G positions P`
+abbrev pub opening_head : ℕ → ℕ → ℕ → ℕ → List ℕ
+opening_head line version games positions =
+    head_text line (codes "opening") version games (codes "positions") positions
+
+-- `COUNT BLACK WHITE OTHER`: how many nodes, and in games of which result
+abbrev pub counts_text : NodeCounts → List ℕ
+counts_text counts = decimal counts.count
+    ++ (codes " "
+    ++ (decimal counts.black
+    ++ (codes " " ++ (decimal counts.white ++ (codes " " ++ decimal counts.other)))))
+
+-- `position COUNT BLACK WHITE OTHER GAME NODE`
+abbrev pub position_text : NodeCounts → ℕ → ℕ → List ℕ
+position_text counts game node = line_text (codes "position " ∷ counts_text counts ∷ codes " "
+    ∷ decimal game ∷ codes " " ∷ decimal node ∷ [])
+
+-- where a next move is: `X Y`, or `pass`
+abbrev pub place_text : Option Point → List ℕ
+place_text None = codes "pass"
+place_text (Some p) = decimal p.x ++ (codes " " ++ decimal p.y)
+
+-- `next COLOUR X Y COUNT BLACK WHITE OTHER`, or `next COLOUR pass COUNT BLACK WHITE OTHER`
+abbrev pub next_move_text : Colour → Option Point → NodeCounts → List ℕ
+next_move_text colour point counts = line_text (codes "next " ∷ colour_letter colour ∷ codes " "
+    ∷ place_text point ∷ codes " " ∷ counts_text counts ∷ [])

@@ -16,6 +16,7 @@ mod laws;
 mod line;
 mod list_text;
 mod number;
+mod opening_text;
 mod pieces;
 mod print;
 mod progress;
@@ -36,6 +37,7 @@ pub use list_text::{
     print_double, print_doubles_head, print_found_game, print_kept, print_players,
     print_signature_head,
 };
+pub use opening_text::{NodeCounts, print_next_move, print_opening_head, print_position};
 pub use print::{
     print_game, print_import, print_make, print_no_game, print_no_retire, print_report_head,
     print_retire, print_until, print_wait,

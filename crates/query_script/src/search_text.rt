@@ -22,7 +22,7 @@ use kb_geometry::{Colour, NoMemory, append, append_decimal_and, cut_back};
 use pattern_images::{Hit, Next};
 
 // The letter of a colour.
-fn colour_letter(colour: Colour) -> &'static str
+pub(crate) fn colour_letter(colour: Colour) -> &'static str
     ensures { result.now ≡ colour_letter colour }
 {
     match colour {

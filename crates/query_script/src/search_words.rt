@@ -142,7 +142,7 @@ pub(crate) fn board_of(words: &[Word]) -> Option<(Option<Shape>, &[Word])>
 }
 
 // The board with the columns and rows that two words name.
-fn shape_of(cols: &Word, rows: &Word) -> Option<Shape>
+pub(crate) fn shape_of(cols: &Word, rows: &Word) -> Option<Shape>
     ensures some { IfSome result (λ shape. IsNumber cols.now (cols_of shape)
         × IsNumber rows.now (rows_of shape)) }
     ensures none { result ≡ None → (shape : Shape) → IsNumber cols.now (cols_of shape) →

@@ -18,6 +18,7 @@ ghost use Rattle.std.specs.Prelude.{
   IsTrue,
   IsUtf8,
 };
+ghost use Rattle.kb_geometry.specs.declared.shape.Shape.{Shape};
 ghost use Rattle.pattern_images.specs.declared.query.Query.{Query};
 ghost use Rattle.dyer_signature.specs.declared.bytes.SigPattern.{SigPattern};
 ghost use Rattle.dyer_signature.specs.Patterns.{IsSignaturePatternByte};
@@ -28,22 +29,22 @@ ghost use Rattle.query_script.specs.declared.word.Word.{Word};
 ghost use Rattle.query_script.specs.Conditions.{IsFilteredBody};
 ghost use Rattle.query_script.specs.Statements.{
   AreMakeNumbers,
+  AreOpeningNumbers,
   IsPath,
   IsSignaturePattern,
   IsStatement,
-  most_games_made,
 };
 ghost use Rattle.query_script.specs.Words.{IsNumber, bare};
 
 use crate::conditions::{filter_of, parted_at_where};
 use crate::kept_words::kept_query_of;
 use crate::number::number_up_to;
-use crate::search_words::{behind_name, only_bare, query_of};
+use crate::search_words::{MAX_MOVES, behind_name, only_bare, query_of, shape_of};
 use crate::statement::Statement;
 use crate::word::Word;
 use dyer_signature::SigPattern;
 use info_filter::Filter;
-use kb_geometry::{NoMemory, Text};
+use kb_geometry::{NoMemory, Shape, Text};
 use pattern_images::Query;
 use std::alloc::Global;
 
@@ -63,14 +64,11 @@ pub(crate) fn statement_of(alloc: Global, words: &[Word]) -> Result<Option<State
     if let Some(named) = named_statement(words) {
         return Ok(Some(named));
     }
+    if let Some(numbered) = numbered_statement(words) {
+        return Ok(Some(numbered));
+    }
     if let Some(path) = import_of(alloc, words)? {
         return Ok(Some(Statement::Import { path }));
-    }
-    if let Some((games, start)) = make_of(words) {
-        return Ok(Some(Statement::Make { games, start }));
-    }
-    if let Some(number) = until_of(words) {
-        return Ok(Some(Statement::Until { number }));
     }
     if let Some((query, filter)) = search_of(alloc, words)? {
         return Ok(Some(Statement::Search { query, filter }));
@@ -80,9 +78,6 @@ pub(crate) fn statement_of(alloc: Global, words: &[Word]) -> Result<Option<State
     }
     if let Some(pattern) = signature_of(words) {
         return Ok(Some(Statement::Signature { pattern }));
-    }
-    if let Some(number) = game_of(words) {
-        return Ok(Some(Statement::Game { number }));
     }
     if let Some(name) = retire_of(alloc, words)? {
         return Ok(Some(Statement::Retire { name }));
@@ -109,6 +104,37 @@ fn named_statement(words: &[Word]) -> Option<Statement>
     }
     if is_name(words, b"report") {
         return Some(Statement::Report);
+    }
+    None
+}
+
+// The statement behind whose name numbers stand alone, if the words spell one.
+fn numbered_statement(words: &[Word]) -> Option<Statement>
+    ensures some { IfSome result (λ s. IsStatement words.now s) }
+    ensures no_make { IfNone result ((games start : ℕ) →
+        ¬ IsStatement words.now (statement.Make games start)) }
+    ensures no_until { IfNone result ((number : ℕ) →
+        ¬ IsStatement words.now (statement.Until number)) }
+    ensures no_game { IfNone result ((number : ℕ) →
+        ¬ IsStatement words.now (statement.Game number)) }
+    ensures no_opening { IfNone result ((shape : Shape) (depth least : ℕ) →
+        ¬ IsStatement words.now (statement.Opening shape depth least)) }
+{
+    if let Some((games, start)) = make_of(words) {
+        return Some(Statement::Make { games, start });
+    }
+    if let Some(number) = until_of(words) {
+        return Some(Statement::Until { number });
+    }
+    if let Some(number) = game_of(words) {
+        return Some(Statement::Game { number });
+    }
+    if let Some((shape, depth, least)) = opening_of(words) {
+        return Some(Statement::Opening {
+            shape,
+            depth,
+            least,
+        });
     }
     None
 }
@@ -164,20 +190,22 @@ fn make_numbers(games: &Word, start: &Word) -> Option<(u32, u32)>
     ensures some { IfSome result (λ r. AreMakeNumbers games.now start.now r.0 r.1) }
     ensures none { result ≡ None → (n s : ℕ) → ¬ AreMakeNumbers games.now start.now n s }
 {
-    let games = games_made(games)?;
+    let games = number_from_one(games, MAX_MADE)?;
     let start = number_up_to(start, u64::from(MAX_START))?;
     Some((games, start as u32))
 }
 
-// The number of games to make that a word names, one at least.
-fn games_made(word: &Word) -> Option<u32>
-    ensures some { IfSome result (λ games. IsNumber word.now games × (1 ≤ games)
-        × (games ≤ most_games_made)) }
-    ensures none { result ≡ None → (games : ℕ) → 1 ≤ games → games ≤ most_games_made →
-        ¬ IsNumber word.now games }
+// The number from one to this one that a word names.
+fn number_from_one(word: &Word, most: u32) -> Option<u32>
+    ensures some { IfSome result (λ n. IsNumber word.now n × (1 ≤ n) × (n ≤ most)) }
+    ensures none { result ≡ None → (n : ℕ) → 1 ≤ n → n ≤ most → ¬ IsNumber word.now n }
 {
-    let games = number_up_to(word, u64::from(MAX_MADE))?;
-    if games == 0 { None } else { Some(games as u32) }
+    let number = number_up_to(word, u64::from(most))?;
+    if number == 0 {
+        None
+    } else {
+        Some(number as u32)
+    }
 }
 
 // The number of `until K`.
@@ -282,6 +310,34 @@ fn game_of(words: &[Word]) -> Option<u32>
     Some(number as u32)
 }
 
+// The board, the greatest move number and the least number of entries of `opening C R D M`.
+fn opening_of(words: &[Word]) -> Option<(Shape, u32, u32)>
+    ensures some { IfSome result (λ r. IsStatement words.now (statement.Opening r.0 r.1 r.2)) }
+    ensures none { result ≡ None → (shape : Shape) (depth least : ℕ) →
+        ¬ IsStatement words.now (statement.Opening shape depth least) }
+{
+    let (cols, rows, depth, least) = only_four_behind(words, b"opening")?;
+    opening_numbers(cols, rows, depth, least)
+}
+
+// The board, the greatest move number and the least number of entries that four words tell.
+fn opening_numbers(
+    cols: &Word,
+    rows: &Word,
+    depth: &Word,
+    least: &Word,
+) -> Option<(Shape, u32, u32)>
+    ensures some { IfSome result (λ r.
+        AreOpeningNumbers cols.now rows.now depth.now least.now r.0 r.1 r.2) }
+    ensures none { result ≡ None → (shape : Shape) (d m : ℕ) →
+        ¬ AreOpeningNumbers cols.now rows.now depth.now least.now shape d m }
+{
+    let shape = shape_of(cols, rows)?;
+    let depth = number_up_to(depth, u64::from(MAX_MOVES))?;
+    let least = number_from_one(least, u32::MAX)?;
+    Some((shape, depth as u32, least))
+}
+
 // The name of `retire NAME`. The only error is `NoMemory`.
 fn retire_of(alloc: Global, words: &[Word]) -> Result<Option<Text>, NoMemory>
     ensures some { IfOk result
@@ -323,6 +379,26 @@ fn only_two_behind<'a>(words: &'a [Word], name: &[u8]) -> Option<(&'a Word, &'a 
     };
     if first.is_bare(name) {
         Some((second, third))
+    } else {
+        None
+    }
+}
+
+// The only four words behind this bare word, if the words are these five.
+fn only_four_behind<'a>(
+    words: &'a [Word],
+    name: &[u8],
+) -> Option<(&'a Word, &'a Word, &'a Word, &'a Word)>
+    ensures some { IfSome result (λ r. words.now
+        ≡ bare name.now ∷ r.0.now ∷ r.1.now ∷ r.2.now ∷ r.3.now ∷ []) }
+    ensures none { result ≡ None → (c r d m : Word) →
+        words.now ≢ bare name.now ∷ c ∷ r ∷ d ∷ m ∷ [] }
+{
+    let [first, second, third, fourth, fifth] = words else {
+        return None;
+    };
+    if first.is_bare(name) {
+        Some((second, third, fourth, fifth))
     } else {
         None
     }
