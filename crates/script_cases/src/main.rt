@@ -7,6 +7,7 @@
 mod collectors;
 mod hits;
 mod lists;
+mod openings;
 mod printed;
 mod row;
 mod statements;

@@ -1,5 +1,6 @@
 // Lines that the program prints, from what they tell.
 use crate::lists::append_list_line;
+use crate::openings::append_opening_line;
 use crate::row::{Row, row_of, text_of};
 use case_files::{Case, CaseError};
 use query_script::{
@@ -17,6 +18,9 @@ pub fn answer(alloc: Global, case: &Case<'_>, out: &mut Vec<u8>) -> Result<(), C
 }
 
 fn append_line(alloc: Global, row: &Row<'_>, out: &mut Vec<u8>) -> Result<(), CaseError> {
+    if matches!(row.word(0), "opening" | "position" | "next") {
+        return append_opening_line(row, out);
+    }
     let line = row.small(1)?;
     match row.word(0) {
         "import" => Ok(print_import(line, row.text, out)?),

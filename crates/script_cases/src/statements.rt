@@ -83,12 +83,29 @@ fn append_statement(
             append(out, b"signature ")?;
             Ok(append(out, &pattern.bytes)?)
         }
+        Statement::Opening {
+            shape,
+            depth,
+            least,
+        } => append_opening(alloc, *shape, *depth, *least, out),
         Statement::Retire { name } => append_named(alloc, "retire", name.as_str(), out),
         Statement::Wait => Ok(append(out, b"wait")?),
         Statement::Players => Ok(append(out, b"players")?),
         Statement::Doubles => Ok(append(out, b"doubles")?),
         Statement::Report => Ok(append(out, b"report")?),
     }
+}
+
+fn append_opening(
+    alloc: Global,
+    shape: Shape,
+    depth: u32,
+    least: u32,
+    out: &mut Vec<u8>,
+) -> Result<(), CaseError> {
+    let (cols, rows) = (shape.cols(), shape.rows());
+    let told = format!(in alloc; "opening {cols} {rows} {depth} {least}")?;
+    Ok(append(out, told.as_bytes())?)
 }
 
 fn append_named(alloc: Global, name: &str, text: &str, out: &mut Vec<u8>) -> Result<(), CaseError> {
