@@ -123,6 +123,8 @@ module _ (files : List File) (rules : Rules) (beside : ¬ IsTrue rules.serial) (
       answered-longer line statement.Doubles text told used next (λ n after named answer. (n, after, named, answer, refl, refl)) of.0 of.1 of.2 of.3 of.5 tells
   passed-longer line (statement.Game number) text told leaves reaches (used, next, of, tells) =
       answered-longer line (statement.Game number) text told used next (λ n after named answer. (n, after, named, answer, refl, refl)) of.0 of.1 of.2 of.3 of.5 tells
+  passed-longer line (statement.Opening shape depth least) text told leaves reaches (used, next, of, tells) =
+      answered-longer line (statement.Opening shape depth least) text told used next (λ n after named answer. (n, after, named, answer, refl, refl)) of.0 of.1 of.2 of.3 of.5 tells
   passed-longer line statement.Report text told leaves reaches (used, next, of, tells) = record {
     next = s;
     passed = (of.0, refl, refl);

@@ -100,6 +100,7 @@ text-told files rules s line (statement.Signature pattern) text told of = (of.0,
 text-told files rules s line statement.Players text told of = (of.0, of.1, of.2)
 text-told files rules s line statement.Doubles text told of = (of.0, of.1, of.2)
 text-told files rules s line (statement.Game number) text told of = (of.0, of.1, of.2)
+text-told files rules s line (statement.Opening shape depth least) text told of = (of.0, of.1, of.2)
 text-told files rules s line statement.Report text told of = (of.0, of.1, of.2)
 text-told files rules s line (statement.Retire name) text told of = (of.0, of.1, of.2)
 
@@ -142,6 +143,7 @@ module _ (rules : Rules) (files : List File) (s : State) (kept : Kept) (session 
   text-answered statement.Players of = ([], with_session (with_floor s (last_of s)) told, answered-here statement.Players of, refl)
   text-answered statement.Doubles of = ([], with_session (with_floor s (last_of s)) told, answered-here statement.Doubles of, refl)
   text-answered (statement.Game number) of = ([], with_session (with_floor s (last_of s)) told, answered-here (statement.Game number) of, refl)
+  text-answered (statement.Opening shape depth least) of = ([], with_session (with_floor s (last_of s)) told, answered-here (statement.Opening shape depth least) of, refl)
   text-answered statement.Report of = ([], s, (of.0 ∙ ap (λ (left : SessionState). boxes_text line left.boxes) (sym is.session_is), refl, refl), is.session_is ∙ sym of.1)
   text-answered (statement.Retire name) of = ([], with_session s told, (told, rw is.session_is of, refl, refl), refl)
   text-answered (statement.Import path) of = absurd of
@@ -165,6 +167,7 @@ leaves-base (statement.Signature pattern) no_import no_wait = tt
 leaves-base statement.Players no_import no_wait = tt
 leaves-base statement.Doubles no_import no_wait = tt
 leaves-base (statement.Game number) no_import no_wait = tt
+leaves-base (statement.Opening shape depth least) no_import no_wait = tt
 leaves-base statement.Report no_import no_wait = tt
 leaves-base (statement.Retire name) no_import no_wait = tt
 
@@ -190,6 +193,7 @@ module _ (rules : Rules) (files : List File) (kept : Kept) (line : ℕ) (text : 
   led s next session used is statement.Players still of = (of.4, named s next of.0 session of.1 is of.2.to of.5)
   led s next session used is statement.Doubles still of = (of.4, named s next of.0 session of.1 is of.2.to of.5)
   led s next session used is (statement.Game number) still of = (of.4, named s next of.0 session of.1 is of.2.to of.5)
+  led s next session used is (statement.Opening shape depth least) still of = (of.4, named s next of.0 session of.1 is of.2.to of.5)
   led s next session used is statement.Report still of =
       (of.1, subst (λ (t : State). IsKeptOfState t kept t.session) (sym of.2) (record { version = is.version; games = is.games; waiting = is.waiting; floor = is.floor; session_is = refl }))
   led s next session used is (statement.Retire name) still of =
@@ -214,6 +218,7 @@ module _ (rules : Rules) (files : List File) (kept : Kept) (line : ℕ) (text : 
   leads-still statement.Players still = λ session told s is of. led_on statement.Players s session told still is of.0 of.1 of.2 of.3
   leads-still statement.Doubles still = λ session told s is of. led_on statement.Doubles s session told still is of.0 of.1 of.2 of.3
   leads-still (statement.Game number) still = λ session told s is of. led_on (statement.Game number) s session told still is of.0 of.1 of.2 of.3
+  leads-still (statement.Opening shape depth least) still = λ session told s is of. led_on (statement.Opening shape depth least) s session told still is of.0 of.1 of.2 of.3
   leads-still statement.Report still = λ session told s is of. led_on statement.Report s session told still is of.0 of.1 of.2 of.3
   leads-still (statement.Retire name) still = λ session told s is of. led_on (statement.Retire name) s session told still is of.0 of.1 of.2 of.3
 

@@ -1,4 +1,5 @@
 mod AnswerTexts
+pub mod OpeningAnswers
 pub mod OneAnswer
 mod KeyEntries
 mod Numbered

@@ -18,10 +18,11 @@ use Rattle.query_script.specs.declared.statement.Statement.TheVariants as statem
 use Rattle.query_script.specs.Texts.{game_head, kept_text, no_game_text, no_retire_text, retire_text, search_text}
 use Rattle.hit_collectors.specs.Tallies.{BoxTally}
 use Rattle.hit_collectors.proofs.RetiredOnce.{none_retired, one_retired, some_retired}
-use Rattle.session_core.specs.Answers.{IsAnswer, IsAnswered, IsDoublesText, IsGameText, IsKeptText, IsPlayersText, IsRetiredBy, IsSearchText, IsSearched, IsSignatureText, IsThere, View, boxes_text}
+use Rattle.session_core.specs.Answers.{IsAnswer, IsAnswered, IsDoublesText, IsGameText, IsKeptText, IsOpeningText, IsPlayersText, IsRetiredBy, IsSearchText, IsSearched, IsSignatureText, IsThere, View, boxes_text}
 use Rattle.session_core.specs.SessionState.{SessionState, fed_with, with_boxes}
 use Rattle.search_engine.proofs.HitsExist.{hits-found}
 use Rattle.search_engine.proofs.KeptCounts.{AreKept-unique, kept-found}
+use Rattle.session_core.proofs.OpeningAnswers.{opening-one, opening-text}
 use Rattle.session_core.proofs.ListAnswers.{doubles-one, doubles-text, players-one, players-text, signature-one, signature-text}
 use Rattle.search_engine.proofs.OneListOfHits.{hits-unique}
 
@@ -122,6 +123,7 @@ module _ (line : ℕ) (view : View) (trees : All (λ (g : Game). IsTree g.tree) 
   answer-found session statement.Players answered = found-same (IsPlayersText line view) session (players-text line view trees)
   answer-found session statement.Doubles answered = found-same (IsDoublesText line view) session (doubles-text line view trees)
   answer-found session (statement.Game number) answered = found-same (IsGameText line view number) session (game-text number)
+  answer-found session (statement.Opening shape depth least) answered = found-same (IsOpeningText line view shape depth least) session (opening-text line view trees shape depth least)
   answer-found session statement.Report answered = (boxes_text line session.boxes, session, (refl, refl))
   answer-found session (statement.Retire name) answered = retired-found line name session
   answer-found session (statement.Import path) answered = absurd answered
@@ -137,6 +139,7 @@ module _ (line : ℕ) (view : View) (trees : All (λ (g : Game). IsTree g.tree) 
   answer-unique session statement.Players a b after other one too = one-same a b session after other (players-one line view trees a b one.0 too.0) one.1 too.1
   answer-unique session statement.Doubles a b after other one too = one-same a b session after other (doubles-one line view trees a b one.0 too.0) one.1 too.1
   answer-unique session (statement.Game number) a b after other one too = one-same a b session after other (game-one number a b one.0 too.0) one.1 too.1
+  answer-unique session (statement.Opening shape depth least) a b after other one too = one-same a b session after other (opening-one line view trees shape depth least a b one.0 too.0) one.1 too.1
   answer-unique session statement.Report a b after other one too = one-same a b session after other (one.0 ∙ sym too.0) one.1 too.1
   answer-unique session (statement.Retire name) a b after other one too = retired-one line name session a b after other one too
   answer-unique session (statement.Import path) a b after other one too = absurd one

@@ -118,6 +118,8 @@ module _ (files : List File) (rules : Rules) (serial : IsTrue rules.serial) (s :
       one-answer line statement.Doubles one.0 other.0 a b one.1 other.1 next after one.2 other.2 one.3 other.3 one.5 other.5
   one-passing line (statement.Game number) used more a b next after one none other too =
       one-answer line (statement.Game number) one.0 other.0 a b one.1 other.1 next after one.2 other.2 one.3 other.3 one.5 other.5
+  one-passing line (statement.Opening shape depth least) used more a b next after one none other too =
+      one-answer line (statement.Opening shape depth least) one.0 other.0 a b one.1 other.1 next after one.2 other.2 one.3 other.3 one.5 other.5
   one-passing line statement.Report used more a b next after one none other too =
       let text = one.0 ∙ sym other.0 in
       let state = one.2 ∙ sym other.2 in

@@ -37,6 +37,7 @@ module _ (files : List File) (rules : Rules) where
   passed-beside s next line statement.Players used text of = (of.0, of.1, named-beside s of.0 of.2, of.3, of.4, of.5)
   passed-beside s next line statement.Doubles used text of = (of.0, of.1, named-beside s of.0 of.2, of.3, of.4, of.5)
   passed-beside s next line (statement.Game number) used text of = (of.0, of.1, named-beside s of.0 of.2, of.3, of.4, of.5)
+  passed-beside s next line (statement.Opening shape depth least) used text of = (of.0, of.1, named-beside s of.0 of.2, of.3, of.4, of.5)
 
   printed-beside : (boxes : List BoxTally) (course : List ImportCourse) (placed : List Placed) (s : State) (out : List ℕ) → HasPrinted files rules boxes course placed s out → HasPrinted files (rules_beside rules.batch) boxes course placed s out
   printed-beside boxes _ _ _ _ HasPrinted.nothing = HasPrinted.nothing

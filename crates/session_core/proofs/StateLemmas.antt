@@ -47,6 +47,7 @@ log_kept rules files s next line (statement.Signature pattern) used text not of 
 log_kept rules files s next line statement.Players used text not of = ap (λ (t : State). t.log) of.5
 log_kept rules files s next line statement.Doubles used text not of = ap (λ (t : State). t.log) of.5
 log_kept rules files s next line (statement.Game number) used text not of = ap (λ (t : State). t.log) of.5
+log_kept rules files s next line (statement.Opening shape depth least) used text not of = ap (λ (t : State). t.log) of.5
 log_kept rules files s next line statement.Report used text not of = ap (λ (t : State). t.log) of.2
 log_kept rules files s next line (statement.Retire name) used text not of = ap (λ (t : State). t.log) of.3
 
@@ -67,6 +68,7 @@ log_grows rules files s next line (statement.Signature pattern) used text of = s
 log_grows rules files s next line statement.Players used text of = same_begins s.log next.log (log_kept rules files s next line statement.Players used text tt of)
 log_grows rules files s next line statement.Doubles used text of = same_begins s.log next.log (log_kept rules files s next line statement.Doubles used text tt of)
 log_grows rules files s next line (statement.Game number) used text of = same_begins s.log next.log (log_kept rules files s next line (statement.Game number) used text tt of)
+log_grows rules files s next line (statement.Opening shape depth least) used text of = same_begins s.log next.log (log_kept rules files s next line (statement.Opening shape depth least) used text tt of)
 log_grows rules files s next line statement.Report used text of = same_begins s.log next.log (log_kept rules files s next line statement.Report used text tt of)
 log_grows rules files s next line (statement.Retire name) used text of = same_begins s.log next.log (log_kept rules files s next line (statement.Retire name) used text tt of)
 

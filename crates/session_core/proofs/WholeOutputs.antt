@@ -79,6 +79,7 @@ module _ (files : List File) (rules : Rules) where
   passed-on s next line statement.Players used text h is = rw is.5 (named s is.0 is.1 h is.2.to)
   passed-on s next line statement.Doubles used text h is = rw is.5 (named s is.0 is.1 h is.2.to)
   passed-on s next line (statement.Game number) used text h is = rw is.5 (named s is.0 is.1 h is.2.to)
+  passed-on s next line (statement.Opening shape depth least) used text h is = rw is.5 (named s is.0 is.1 h is.2.to)
   passed-on s next line statement.Report used text h is = rw is.2 h
   passed-on s next line (statement.Retire name) used text h is = rw is.3 (record { floor = h.floor; trees = h.trees })
 
@@ -130,6 +131,7 @@ module _ (files : List File) (rules : Rules) where
   statement-passes s line statement.Players h = let found = answered-passes s line statement.Players h tt in (found.0, ([], found.1, found.2, refl))
   statement-passes s line statement.Doubles h = let found = answered-passes s line statement.Doubles h tt in (found.0, ([], found.1, found.2, refl))
   statement-passes s line (statement.Game number) h = let found = answered-passes s line (statement.Game number) h tt in (found.0, ([], found.1, found.2, refl))
+  statement-passes s line (statement.Opening shape depth least) h = let found = answered-passes s line (statement.Opening shape depth least) h tt in (found.0, ([], found.1, found.2, refl))
   statement-passes s line statement.Report h = (boxes_text line s.session.boxes, ([], s, (refl, refl, refl), refl))
   statement-passes s line (statement.Retire name) h =
       let found = retired-found line name s.session in (found.0, ([], with_session s found.1, (found.1, found.2, refl, refl), refl))
@@ -147,6 +149,7 @@ module _ (files : List File) (rules : Rules) where
   text-passes s line statement.Players text (used, next, is) = (used, next, is, rw is.4 refl)
   text-passes s line statement.Doubles text (used, next, is) = (used, next, is, rw is.4 refl)
   text-passes s line (statement.Game number) text (used, next, is) = (used, next, is, rw is.4 refl)
+  text-passes s line (statement.Opening shape depth least) text (used, next, is) = (used, next, is, rw is.4 refl)
   text-passes s line statement.Report text (used, next, is) = (used, next, is, rw is.1 refl)
   text-passes s line (statement.Retire name) text (used, next, is) = (used, next, is, rw is.2 refl)
 

@@ -1,6 +1,7 @@
 -- The texts of the statements that a session answers, and what they leave behind.
 use Rattle.std.specs.Prelude.{◌≡◌, ◌≢◌, ◌⊎◌, ℕ, ◌<◌, ◌≤◌, List, [], ◌∷◌, ◌++◌, length, map, slice_index_or, All}
 use Rattle.std.specs.List.{flat_map}
+use Rattle.kb_geometry.specs.declared.shape.Shape.{Shape}
 use Rattle.pattern_images.specs.declared.hit.Hit.{Hit}
 use Rattle.pattern_images.specs.declared.query.Query.{Query}
 use Rattle.continuation_table.specs.Table.{IsTable, TableView}
@@ -8,14 +9,17 @@ use Rattle.sgf_writer.specs.Written.{IsWritten}
 use Rattle.query_script.specs.declared.statement.Statement.{Statement}
 use Rattle.query_script.specs.declared.statement.Statement.TheVariants as statement
 use Rattle.query_script.specs.Bytes.{line_feed}
-use Rattle.query_script.specs.Texts.{double_text, doubles_head, game_head, kept_text, no_game_text, no_retire_text, players_text, report_head, retire_text, search_text, signature_head, found_game_text}
+use Rattle.query_script.specs.Texts.{double_text, doubles_head, game_head, kept_text, no_game_text, no_retire_text, opening_head, players_text, report_head, retire_text, search_text, signature_head, found_game_text}
 use Rattle.hit_collectors.specs.Boxes.{IsFedInPart, IsRetired}
 use Rattle.hit_collectors.specs.Reports.{report_line}
 use Rattle.hit_collectors.specs.Tallies.{BoxTally}
 use Rattle.info_filter.specs.declared.filter.Filter.{Filter}
 use Rattle.info_filter.specs.Players.{IsPlayersTable, TableRow}
 use Rattle.node_position.specs.Games.{Game}
+use Rattle.opening_tree.specs.declared.answer.Opening.{Opening}
+use Rattle.opening_tree.specs.Openings.{IsOpenings}
 use Rattle.session_core.specs.Doubles.{AreKeysOf, DoubleKey, Group, groups_of}
+use Rattle.session_core.specs.OpeningLines.{opening_lines}
 use Rattle.session_core.specs.SessionState.{SessionState, fed_with, with_boxes}
 use Rattle.search_engine.specs.Hits.{AreHits}
 use Rattle.search_engine.specs.KeptGames.{AreKept}
@@ -86,6 +90,20 @@ pub record IsDoublesText (line : ℕ) (view : View) (text : List ℕ) : Type 0 w
       ≡ doubles_head line view.version (length view.games) (length (groups_of keys))
       ++ flat_map (λ (g : Group). double_text g.form g.games) (groups_of keys)
 
+-- the text of openings: how many there are, and the lines of each, in order
+abbrev pub openings_text : ℕ → View → List Opening → List ℕ
+openings_text line view openings =
+    opening_head line view.version (length view.games) (length openings)
+    ++ flat_map opening_lines openings
+
+-- the text of the openings of the games on boards of a shape, down to a move number and with at least
+-- so many entries
+pub record IsOpeningText (line : ℕ) (view : View) (shape : Shape) (depth least : ℕ)
+    (text : List ℕ) : Type 0 where
+  pub openings : List Opening
+  pub are_openings : IsOpenings shape depth least view.games openings
+  pub text_is : text ≡ openings_text line view openings
+
 -- the text of a report at this line: how many boxes there are, and the report line of each, in order
 abbrev pub boxes_text : ℕ → List BoxTally → List ℕ
 boxes_text line boxes = report_head line (length boxes) ++ flat_map report_line boxes
@@ -115,6 +133,8 @@ IsAnswer line view session statement.Doubles text after =
     IsDoublesText line view text × (after ≡ session)
 IsAnswer line view session (statement.Game number) text after =
     IsGameText line view number text × (after ≡ session)
+IsAnswer line view session (statement.Opening shape depth least) text after =
+    IsOpeningText line view shape depth least text × (after ≡ session)
 IsAnswer line view session statement.Report text after =
     (text ≡ boxes_text line session.boxes) × (after ≡ session)
 IsAnswer line view session (statement.Retire name) text after =
@@ -133,6 +153,7 @@ IsAnswered (statement.Signature pattern) = Unit {0}
 IsAnswered statement.Players = Unit {0}
 IsAnswered statement.Doubles = Unit {0}
 IsAnswered (statement.Game number) = Unit {0}
+IsAnswered (statement.Opening shape depth least) = Unit {0}
 IsAnswered statement.Report = Unit {0}
 IsAnswered (statement.Retire name) = Unit {0}
 IsAnswered (statement.Import path) = ⊥

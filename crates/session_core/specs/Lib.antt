@@ -3,6 +3,7 @@ pub mod Answers
 pub mod Doubles
 pub mod ImportTexts
 pub mod Lawful
+pub mod OpeningLines
 pub mod SessionState
 pub mod Signed
 pub mod Sources

@@ -2,11 +2,11 @@
 //! the hits of its searches; the lawful outputs of a script, and the printed report of an import.
 //!
 //! Stands on search_engine for the hits, on hit_collectors for the boxes, on segment_store and
-//! version_publisher for the games of a version, on info_filter and dyer_signature for players and
-//! signatures, on import_work and kb_edges for what an import finds, and on query_script and
-//! sgf_writer for the texts. The layer above uses that what [`Session::answer`] appends is exactly
-//! the statement's text, and that each box is given each hit of each search. In `specs/Lawful.antt`
-//! are the lawful outputs, which runs promise to write.
+//! version_publisher for the games of a version, on opening_tree for openings, on info_filter and
+//! dyer_signature for players and signatures, on import_work and kb_edges for what an import finds,
+//! and on query_script and sgf_writer for the texts. The layer above uses that what
+//! [`Session::answer`] appends is exactly the statement's text, and that each box is given each hit
+//! of each search. In `specs/Lawful.antt` are the lawful outputs, which runs promise to write.
 #![tactic(auto)]
 
 mod boxes;
@@ -16,6 +16,7 @@ mod import_report;
 mod import_statement;
 mod laws;
 mod lists;
+mod openings;
 mod session;
 
 pub use import_report::print_report;

@@ -21,6 +21,7 @@ ghost use Rattle.session_core.specs.Stores.{view_of};
 
 use crate::boxes::{append_report, feed_boxes, retire_box};
 use crate::lists::{append_doubles, append_players, append_signature};
+use crate::openings::{Asked, append_opening};
 use hit_collectors::Collector;
 use info_filter::Filter;
 use kb_geometry::{NoMemory, cut_back};
@@ -60,8 +61,8 @@ impl<C: Collector> Session<C> {
     }
 
     /// Appends the text of a search, of a count of kept games, of the games whose signature matches
-    /// a pattern, of the players, of the double games or of a game, whose line is this one, over a
-    /// version; or the report of the boxes, or that a box was retired. The hits of a search are
+    /// a pattern, of the players, of the double games, of a game or of openings, whose line is this one,
+    /// over a version; or the report of the boxes, or that a box was retired. The hits of a search are
     /// given to all boxes. Other statements aren't answered.
     ///
     /// The only error is `NoMemory`; then `out` begins with what it held. The boxes are as before,
@@ -95,6 +96,18 @@ impl<C: Collector> Session<C> {
             Statement::Players => append_players(alloc, line, version, out),
             Statement::Doubles => append_doubles(rt, alloc, line, version, out),
             Statement::Game { number: game } => append_game(line, *game, version, out),
+            Statement::Opening {
+                shape,
+                depth,
+                least,
+            } => {
+                let asked = Asked {
+                    shape: *shape,
+                    depth: *depth,
+                    least: *least,
+                };
+                append_opening(alloc, line, asked, version, out)
+            }
             Statement::Report => append_report(line, &self.boxes, out),
             Statement::Retire { name } => retire_box(line, name.as_str(), &mut self.boxes, out),
             Statement::Import { .. }
