@@ -99,6 +99,7 @@ kept X
 signature ************
 players
 doubles
+opening 5 5 2 1
 game 1
 report
 retire labels

@@ -17,6 +17,8 @@ TOTAL = re.compile("total" + (" " + NUMBER) * 6 + "$")
 PLAYER = re.compile("player" + (" " + NUMBER) * 3 + " (.*)$", re.S)
 FOUND = re.compile(r"game (\d{1,10}) ([A-Za-z?]{12})$")
 DOUBLE = re.compile(r"double ([A-Za-z?]{12})((?: \d{1,10})+)$")
+POSITION = re.compile("position" + (" " + NUMBER) * 4 + r" (\d{1,10}) (\d{1,10})$")
+NEXT = re.compile(r"next ([BW]) (?:pass|(\d{1,2}) (\d{1,2}))" + (" " + NUMBER) * 4 + "$")
 COLLECTOR = re.compile(r"collector (\S+) (\S+)((?: \d{1,20})*)$")
 REFUSED = re.compile(r"refused ([A-Za-z]+) " + NUMBER + " (.*)$")
 FULL = re.compile("full" + (" " + NUMBER) * 2 + " (.*)$")
@@ -176,6 +178,57 @@ class Doubles(Answer):
     def missing(self) -> str:
         few = len(self.groups) < self.expected
         return f"it has {len(self.groups):,} of its {self.expected:,} groups" if few else ""
+
+
+@dataclass(slots=True)
+class Counts:
+    """The four numbers of a position or of a next move."""
+
+    count: int
+    black: int
+    white: int
+    other: int
+
+
+@dataclass(slots=True)
+class NextMove:
+    colour: str
+    # None for a pass.
+    point: tuple[int, int] | None
+    counts: Counts
+
+
+@dataclass(slots=True)
+class Position:
+    counts: Counts
+    game: int
+    node: int
+    nexts: list[NextMove] = field(default_factory=list)
+
+
+@dataclass
+class Opening(Answer):
+    version: int = 0
+    games: int = 0
+    expected: int = 0
+    positions: list[Position] = field(default_factory=list)
+
+    def take(self, line: str) -> bool:
+        if match := POSITION.match(line):
+            *counts, game, node = map(int, match.groups())
+            self.positions.append(Position(Counts(*counts), game, node))
+            return True
+        match = NEXT.match(line)
+        if match is None or not self.positions:
+            return False
+        colour, x, y, *counts = match.groups()
+        point = None if x is None else (int(x), int(y))
+        self.positions[-1].nexts.append(NextMove(colour, point, Counts(*map(int, counts))))
+        return True
+
+    def missing(self) -> str:
+        few = len(self.positions) < self.expected
+        return f"it has {len(self.positions):,} of its {self.expected:,} positions" if few else ""
 
 
 @dataclass

@@ -5,7 +5,7 @@ import re
 import subprocess
 from dataclasses import dataclass
 
-from .answers import Doubles, Game, Search, Signature
+from .answers import Doubles, Game, Opening, Search, Signature
 from .record import Record, read_record
 from .script import Script, read_script
 from .sgf import GameRecord, read_game
@@ -54,6 +54,8 @@ def wanted_games(record: Record) -> list[int]:
             numbers.update((game, None) for game, _ in answer.found)
         elif isinstance(answer, Doubles):
             numbers.update((game, None) for _, games in answer.groups for game in games)
+        elif isinstance(answer, Opening):
+            numbers.update((position.game, None) for position in answer.positions)
         elif isinstance(answer, Game) and answer.place is not None:
             numbers[answer.number] = None
     return list(numbers)

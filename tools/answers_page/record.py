@@ -68,6 +68,8 @@ FORMS: list[tuple[str, re.Pattern[str], Maker]] = [
          numbers_into(kinds.Signature, "version", "games", "expected")),
         ("players", f"{OF_VERSION} names {NUMBER}", numbers_into(kinds.Players, "version", "games", "expected")),
         ("doubles", f"{OF_VERSION} groups {NUMBER}", numbers_into(kinds.Doubles, "version", "games", "expected")),
+        ("opening", f"{OF_VERSION} positions {NUMBER}",
+         numbers_into(kinds.Opening, "version", "games", "expected")),
         ("game", f" {NUMBER} version {NUMBER}(?: none| place {NUMBER} file (.*))", make_game),
         ("report", f" collectors {NUMBER}", numbers_into(kinds.Report, "expected")),
         ("retire", r" ([^ ]+)( none)?",

@@ -231,6 +231,45 @@ def doubles(answer: kinds.Doubles, context: Context) -> str:
     return "".join(parts) + cut_note(count)
 
 
+def asked_openings(words: tuple[str, ...]) -> str:
+    """Which openings a statement asks for, in words."""
+    if len(words) != 5:
+        return ""
+    columns, rows, depth, least = words[1:]
+    return f"Asked for, on boards of {columns} by {rows}, up to move {depth}: positions that came up {least} times or more."
+
+
+def counts_cells(counts: kinds.Counts) -> list[str]:
+    return [often(counts.count),
+            f'{results_bar(counts.black, counts.white, counts.other)}<span class="small">black {counts.black:,}, '
+            f"white {counts.white:,}, neither {counts.other:,}</span>"]
+
+
+def next_row(one: kinds.NextMove) -> list[str]:
+    stone = "black" if one.colour == "B" else "white"
+    where = "passes" if one.point is None else f"at column {one.point[0] + 1}, row {one.point[1] + 1}"
+    return [f'<span class="stone {stone}"></span>{COLOURS[one.colour]} {where}', *counts_cells(one.counts)]
+
+
+def opening_position(index: int, one: kinds.Position, context: Context) -> str:
+    often_cell, results = counts_cells(one.counts)
+    rows = [next_row(move) for move in one.nexts[:MOST_LINES]]
+    listed = table(["Next move", "How often", "Results"], rows, "continuations") if rows else "<p>Nothing was played next.</p>"
+    return (f"<h3>Position {index:,}: {often_cell}</h3><p>First in {game_words(context, one.game)}, at node {one.node:,}. "
+            f"{results}</p>{listed}{cut_note(len(one.nexts))}")
+
+
+def opening(answer: kinds.Opening, context: Context) -> str:
+    count = len(answer.positions)
+    parts = [f'<p class="asked">{text(asked_openings(answer.statement.words))}</p>',
+             f"<p class=\"totals\">{times(count, 'position')} among {times(answer.games, 'game')}. Other orders of moves and "
+             "turned boards count as one. Next moves are told for the board turned so that, read row by row, "
+             "its stones come as late as they can.</p>"]
+    parts += [opening_position(index, one, context)
+              for index, one in enumerate(answer.positions[:MOST_LINES], start=1)]
+    return "".join(parts) + cut_note(count)
+
+
 def game(answer: kinds.Game, context: Context) -> str:
     if answer.place is None:
         return f"<p>There is no game {answer.number} in the base.</p>"
@@ -371,6 +410,7 @@ SECTIONS: dict[type[Answer], tuple[str, Callable[..., str]]] = {
     kinds.Players: ("Players", players),
     kinds.Signature: ("Games with a signature", signature),
     kinds.Doubles: ("Games that stand here twice", doubles),
+    kinds.Opening: ("Openings", opening),
     kinds.Game: ("", game),
     kinds.Report: ("All searches together", report),
     kinds.Retire: ("", retire),

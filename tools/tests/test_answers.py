@@ -114,6 +114,22 @@ total 3 2 1 1 1 1
         found = self.one("doubles", "1 doubles version 1 games 15 groups 1\ndouble ddhh??df???? 3 14\n")
         self.assertEqual(found.groups, [("ddhh??df????", (3, 14))])
 
+    def test_opening(self) -> None:
+        found = self.one("opening 3 3 1 1", """1 opening version 1 games 2 positions 2
+position 2 1 0 1 0 0
+next B 0 0 2 1 0 1
+next W pass 1 1 0 0
+position 2 1 0 1 0 1
+""")
+        self.assertEqual(found.positions, [
+            kinds.Position(kinds.Counts(2, 1, 0, 1), 0, 0, [
+                kinds.NextMove("B", (0, 0), kinds.Counts(2, 1, 0, 1)),
+                kinds.NextMove("W", None, kinds.Counts(1, 1, 0, 0))]),
+            kinds.Position(kinds.Counts(2, 1, 0, 1), 0, 1)])
+        self.assertEqual(found.missing(), "")
+        record = read("opening 3 3 1 1", "1 opening version 1 games 2 positions 2\nposition 2 1 0 1 0 0\n")
+        self.assertEqual(record.answers[0].missing(), "it has 1 of its 2 positions")
+
     def test_game(self) -> None:
         text = "(;GM[1]FF[4]SZ[3];B[bb](;B[cc])(;W[aa];AE[aa]))"
         game = self.one("game 0", f"1 game 0 version 1 place 2 file my a.sgf\n{text}\n")
