@@ -7,6 +7,7 @@ mod Groups
 mod KeysOfGames
 mod FoundGames
 mod ListTexts
+mod OpeningTexts
 mod GroupTexts
 pub mod ListAnswers
 pub mod OneOutput

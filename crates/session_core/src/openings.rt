@@ -93,9 +93,17 @@ fn append_nexts(nexts: &[NextMove], out: &mut Vec<u8>) -> Result<(), NoMemory>
     ensures refused { OnErr result (IsPrefix out.old.items out.new.items) }
 {
     for next in nexts {
-        print_next_move(next.colour, next.point, nodes_counted(next), out)?;
+        append_next(next, out)?;
     }
     Ok(())
+}
+
+// Appends the line of a next move.
+fn append_next(next: &NextMove, out: &mut Vec<u8>) -> Result<(), NoMemory>
+    ensures ok { OnOk result (out.new.items ≡ out.old.items ++ next_line next.now) }
+    ensures refused { OnErr result (IsPrefix out.old.items out.new.items) }
+{
+    print_next_move(next.colour, next.point, nodes_counted(next), out)
 }
 
 // How many entries an opening has.
