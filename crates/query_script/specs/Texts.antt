@@ -195,7 +195,11 @@ abbrev pub place_text : Option Point → List ℕ
 place_text None = codes "pass"
 place_text (Some p) = decimal p.x ++ (codes " " ++ decimal p.y)
 
+-- `next COLOUR `
+abbrev pub next_move_head : Colour → List ℕ
+next_move_head colour = codes "next " ++ (colour_letter colour ++ codes " ")
+
 -- `next COLOUR X Y COUNT BLACK WHITE OTHER`, or `next COLOUR pass COUNT BLACK WHITE OTHER`
 abbrev pub next_move_text : Colour → Option Point → NodeCounts → List ℕ
-next_move_text colour point counts = line_text (codes "next " ∷ colour_letter colour ∷ codes " "
-    ∷ place_text point ∷ codes " " ∷ counts_text counts ∷ [])
+next_move_text colour point counts =
+    next_move_head colour ++ line_text (place_text point ∷ codes " " ∷ counts_text counts ∷ [])

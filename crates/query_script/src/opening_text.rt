@@ -3,6 +3,7 @@ ghost use Rattle.std.specs.Prelude.{◌≡◌, ◌++◌, OnErr, OnOk, Some};
 ghost use mathlib.Core.List.{IsPrefix};
 ghost use Rattle.query_script.specs.Texts.{
   counts_text,
+  next_move_head,
   next_move_text,
   opening_head,
   place_text,
@@ -105,13 +106,22 @@ fn append_next_move(
     ensures ok { OnOk result (out.new.items ≡ out.old.items ++ next_move_text colour point counts) }
     ensures refused { OnErr result (IsPrefix out.old.items out.new.items) }
 {
-    append(out, b"next ")?;
-    append(out, colour_letter(colour).as_bytes())?;
-    append(out, b" ")?;
+    append_next_head(out, colour)?;
     append_place(out, point)?;
     append(out, b" ")?;
     append_counts(out, counts)?;
     append(out, b"\n")?;
+    Ok(())
+}
+
+// Appends of which colour a next move is.
+fn append_next_head(out: &mut Vec<u8>, colour: Colour) -> Result<(), NoMemory>
+    ensures ok { OnOk result (out.new.items ≡ out.old.items ++ next_move_head colour) }
+    ensures refused { OnErr result (IsPrefix out.old.items out.new.items) }
+{
+    append(out, b"next ")?;
+    append(out, colour_letter(colour).as_bytes())?;
+    append(out, b" ")?;
     Ok(())
 }
 
