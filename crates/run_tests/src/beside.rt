@@ -332,8 +332,8 @@ fn the_sink_fails_at_each_write(rt: HostRuntime) -> Result<(), Fail> {
     Ok(())
 }
 
-// A script over 2,000 made games: the whole board, one point at each move, the players, and one point
-// at the first move.
+// A script over 2,000 made games: the whole board, one point at each move, the players, the openings
+// without a move, and one point at the first move.
 fn script(alloc: Global) -> Result<String, Fail> {
     let mut script = String::new(alloc);
     script.push_str("make 2000 1\nwait\nkept same fixed *******************")?;
@@ -341,8 +341,9 @@ fn script(alloc: Global) -> Result<String, Fail> {
         script.push_str("/*******************")?;
     }
     script.push_str(
-        "\nsearch same fixed moves 1 65536 *\nplayers\nsearch same fixed moves 1 1 at 2 4 X\n",
+        "\nsearch same fixed moves 1 65536 *\nplayers\nopening 19 19 0 2001\nopening 19 19 0 2000\n",
     )?;
+    script.push_str("search same fixed moves 1 1 at 2 4 X\n")?;
     Ok(script)
 }
 
@@ -361,7 +362,10 @@ fn made_games_with_both_forms_of_a_run(rt: HostRuntime) -> Result<(), Fail> {
               4 search version 32 games 2000 hits 0\n\
               total 0 0 0 0 0 0\n\
               5 players version 32 games 2000 names 0\n\
-              6 search version 32 games 2000 hits "
+              6 opening version 32 games 2000 positions 0\n\
+              7 opening version 32 games 2000 positions 1\n\
+              position 2000 1000 1000 0 0 0\n\
+              next B "
         )
     );
     let (also_done, serial, _) = run_base(&rt, alloc, "--serial", 0, &script, NO_FAULTS)?;
