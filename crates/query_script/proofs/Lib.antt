@@ -17,6 +17,7 @@ pub mod ToldSearches
 pub mod ToldConditions
 pub mod FilteredBodies
 pub mod KeptBodies
+pub mod NamedBodies
 pub mod ToldStatements
 pub mod SomeStatements
 pub mod OneList
