@@ -17,35 +17,55 @@ pub const MAX_SCRIPT: usize = 1_048_576;
 #[derive(Debug, Drop)]
 pub enum Statement {
     /// `import PATH`: imports the files of a folder.
-    Import { path: Text },
+    Import {
+        path: Text,
+    },
     /// `make N START`: makes so many games by a generator whose numbers begin with START, at most
     /// 400,000 games and 2,147,483,647.
-    Make { games: u32, start: u32 },
+    Make {
+        games: u32,
+        start: u32,
+    },
     /// `wait`: waits for the import, and tells the version after it.
     Wait,
     /// `until K`: waits for the version with this number.
-    Until { number: u64 },
+    Until {
+        number: u64,
+    },
     /// `search ..`: where a pattern occurs in the games that a filter accepts. Without `where` the
     /// filter has no condition.
-    Search { query: Query, filter: Filter },
+    Search {
+        query: Query,
+        filter: Filter,
+    },
     /// `together`, one to eight lines of searches, `end`: searches that are asked together.
-    Together { searches: SearchList },
+    Together {
+        searches: SearchList,
+    },
     /// `kept ..`: how many games may have the pattern by what their points and corners were. The
     /// query is that of a search on all lines of play and at all moves.
-    Kept { query: Query },
+    Kept {
+        query: Query,
+    },
     /// `signature PATTERN`: the games whose signature matches a pattern.
-    Signature { pattern: SigPattern },
+    Signature {
+        pattern: SigPattern,
+    },
     /// `players`: the players of the games.
     Players,
     /// `doubles`: the groups of two games or more that have boards of one shape and one canonical
     /// signature, in which not every byte is `?`.
     Doubles,
     /// `game N`: a game as SGF text.
-    Game { number: u32 },
+    Game {
+        number: u32,
+    },
     /// `report`: what the collectors tell of the hits so far.
     Report,
     /// `retire NAME`: drops the first collector of this name.
-    Retire { name: Text },
+    Retire {
+        name: Text,
+    },
     /// `watch NAME ..`: a search under a name, whose hits are kept up by [`Statement::Watched`].
     /// Without `where` the filter has no condition.
     Watch {
@@ -54,7 +74,9 @@ pub enum Statement {
         filter: Filter,
     },
     /// `watched NAME`: the hits of the watched search of this name.
-    Watched { name: Text },
+    Watched {
+        name: Text,
+    },
 }
 
 /// A statement and its line, from 1. A block of searches has the line of its `together`.

@@ -133,7 +133,7 @@ pub(crate) fn run_beside<
         Ok(searchers) => searchers,
         Err(error) => return (Err(Stopped::from(error)), importer),
     };
-    let mut session = Session::new(boxes);
+    let mut session = Session::new(alloc, boxes);
     let Passed { importer, outcome } = run_all(
         rt,
         alloc,

@@ -91,7 +91,7 @@ pub fn run_statements<R: Threads + Sync, F: Folder, K: Sink, C: Collector>(
     ensures later { F.faults folder.old ≤ F.faults folder.new }
     ensures sink_later { K.faults out.old ≤ K.faults out.new }
 {
-    let mut session = Session::new(boxes);
+    let mut session = Session::new(alloc, boxes);
     let mut state = RunState::new(alloc);
     for statement in placed {
         state = run_statement(

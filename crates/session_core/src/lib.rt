@@ -17,6 +17,8 @@ mod import_statement;
 mod laws;
 mod lists;
 mod session;
+mod watch;
+mod watches;
 
 pub use import_report::print_report;
 pub use import_statement::{print_import_line, source_of};
