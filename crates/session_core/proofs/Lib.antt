@@ -12,4 +12,6 @@ pub mod OneOutput
 mod ReportLines
 pub mod SerialOutputs
 pub mod StateLemmas
+pub mod WatchAnswers
+pub mod WatchLemmas
 pub mod WholeOutputs
