@@ -35,10 +35,10 @@ IsSearched-delivered (Ok x) line number games hits table session after old new p
 )
 
 -- the boxes were fed in part
-pub IsLeft-fed : {T E : Type 0} (result : Result T E) (AreThese : List Hit → Type 0) (hits : List Hit) (session : SessionState) (boxes : List BoxTally) → AreThese hits
-    → OnErr result (IsFedInPart hits session.boxes boxes) → OnErr result (IsLeft AreThese session (with_boxes session boxes))
-IsLeft-fed (Ok x) AreThese hits session boxes these fed = tt
-IsLeft-fed (Err e) AreThese hits session boxes these fed = inr (hits, boxes, these, fed, refl)
+pub IsLeft-fed : {T E : Type 0} (result : Result T E) (AreThese : List Hit → Type 0) (hits : List Hit) (session after : SessionState) (boxes : List BoxTally) → AreThese hits → after ≡ with_boxes session boxes
+    → OnErr result (IsFedInPart hits session.boxes boxes) → OnErr result (IsLeft AreThese session after)
+IsLeft-fed (Ok x) AreThese hits session after boxes these same fed = tt
+IsLeft-fed (Err e) AreThese hits session after boxes these same fed = inr (hits, boxes, these, fed, same)
 
 -- what is left by hits of which one thing holds is left by hits of which another does
 pub IsLeft-weaker : {T E : Type 0} (result : Result T E) (AreThese AreThose : List Hit → Type 0) (session after : SessionState) → ((hits : List Hit) → AreThese hits → AreThose hits)

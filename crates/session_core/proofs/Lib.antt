@@ -14,4 +14,5 @@ pub mod SerialOutputs
 pub mod StateLemmas
 pub mod WatchAnswers
 pub mod WatchLemmas
+mod WatchSteps
 pub mod WholeOutputs
