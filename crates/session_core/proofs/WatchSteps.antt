@@ -2,7 +2,7 @@
 -- given to the boxes.
 use Rattle.std.proofs.Common.{◌≡◌, ◌⊎◌, inl, inr, ℕ, suc, ◌+◌, ◌<◌, ◌≤◌, List, [], ◌∷◌, ◌++◌, drop, get_or, length, length-take, set, take, refl, sym, ap, ◌∙◌, subst, arith}
 use Rattle.std.specs.Prelude.{IfOk, OnErr, OnOk, Result, Ok, Err}
-use Rattle.std.proofs.Math.Seq.{split_at}
+use Rattle.std.proofs.Math.Seq.{get_or-append_seam, split_at}
 use Rattle.std.proofs.lemmas.List.{get_or_default, set_split, set-get_or}
 use Rattle.node_position.specs.Games.{Game}
 use Rattle.pattern_images.specs.declared.hit.Hit.{Hit}
@@ -11,12 +11,12 @@ use Rattle.info_filter.specs.declared.filter.Filter.{Filter}
 use Rattle.continuation_table.specs.Table.{IsTable, TableView}
 use Rattle.query_script.specs.declared.statement.Statement.TheVariants as statement
 use Rattle.query_script.specs.Texts.{no_watch_text, taken_text, watch_text, watched_text}
-use Rattle.hit_collectors.specs.Boxes.{IsFedInPart}
+use Rattle.hit_collectors.specs.Boxes.{IsFedInPart, all_with_hits}
 use Rattle.hit_collectors.specs.Tallies.{BoxTally}
 use Rattle.search_engine.specs.Hits.{AreHits, AreHitsFrom}
 use Rattle.session_core.specs.Answers.{FeedsHits, IsAnswer, IsLeft, IsLeftBehind, IsWatchTold, View}
-use Rattle.session_core.specs.SessionState.{SessionState, Watched, fed_with, with_boxes, with_watches}
-use Rattle.session_core.specs.Watches.{ChangesWatches, IsFree, IsWatch, IsWatchAdded, IsWatchAdvanced, covering, watch_over}
+use Rattle.session_core.specs.SessionState.{SessionState, Watched, fed_with, session_of, with_boxes, with_watches}
+use Rattle.session_core.specs.Watches.{IsFree, IsWatch, IsWatchAdded, IsWatchAdvanced, covering, watch_over}
 use Rattle.session_core.specs.Watching.{IsAdvanced, IsAdvancedAt, IsWatchAt}
 
 -- ---- one watched search goes on
@@ -72,6 +72,30 @@ advanced-is name games at first before after is on = record {
   are_new = on.advanced.are_new;
   others = on.others ∙ ap (λ (w : Watched). take at before ++ w ∷ drop (at + 1) before) on.advanced.after_is;
 }
+
+-- ---- the one that the boxes are fed with
+
+-- the last one of a list
+pub last-there : (watches all : List Watched) (w : Watched) (at : ℕ) → all ≡ watches ++ w ∷ [] → at ≡ length watches → (d : Watched) → get_or all at d ≡ w
+last-there watches all w at is counted d =
+    ap (λ (l : List Watched). get_or l at d) is ∙ ap (λ (n : ℕ). get_or (watches ++ w ∷ []) n d) counted ∙ get_or-append_seam watches w [] d
+
+-- the one that went on
+pub now-there : (games : List Game) (at first : ℕ) (before after : List Watched) → at < length before → (on : IsAdvancedAt games at before after first) → (d : Watched) → get_or after at d ≡ on.now
+now-there games at first before after below on d =
+    let counted : at ≡ length (take at before) = omega (arith, length-take at before, below) in
+    ap (λ (l : List Watched). get_or l at d) on.others
+    ∙ ap (λ (n : ℕ). get_or (take at before ++ on.now ∷ drop (at + 1) before) n d) counted
+    ∙ get_or-append_seam (take at before) on.now (drop (at + 1) before) d
+
+-- a session whose boxes were given the hits of one that was added
+pub fed-added : (session : SessionState) (boxes : List BoxTally) (watches : List Watched) (w : Watched) → watches ≡ session.watches ++ w ∷ [] → boxes ≡ all_with_hits w.hits session.boxes →
+    session_of boxes watches ≡ fed_with w.hits (with_watches session (session.watches ++ w ∷ []))
+fed-added session boxes watches w added fed = λ i. session_of (fed i) (added i)
+
+-- a session whose boxes were given the new hits of one that went on
+pub fed-new : (session : SessionState) (boxes : List BoxTally) (watches : List Watched) (hits : List Hit) → boxes ≡ all_with_hits hits session.boxes → session_of boxes watches ≡ fed_with hits (with_watches session watches)
+fed-new session boxes watches hits fed = λ i. session_of (fed i) watches
 
 -- ---- a search is watched from now on
 
