@@ -1,14 +1,11 @@
-use Rattle.std.proofs.Common.{ap, map, subst, sym}
-use Rattle.std.proofs.lemmas.Result.{on_err_weaker}
+use Rattle.std.proofs.Common.{ap, map, subst}
 use Rattle.indexmap.proofs.MapLemmas.{OnOk-map}
 use Rattle.session_core.specs.SessionState.{SessionState}
 use Rattle.session_core.specs.Stores.{view_of}
 use Rattle.session_core.specs.Watching.{IsAdvancedAt}
-use Rattle.session_core.proofs.WatchSteps.{fed-new, now-there, told-left, told-left-fed, watch-told}
+use Rattle.session_core.proofs.WatchSteps.{fed-new, now-there, watch-told}
 use Rattle.session_core.proofs.session.Session.tell_watch.Goals as goal
 
--- What is left to be seen here: the names of the facts. `on` is what the advanced search is, over the
--- session as it was seen, and `there` that it stands at its place.
 pub returns-clause-ok : goal.returns-clause-ok
 returns-clause-ok g c =
     let view = view_of c.args.version.now in
