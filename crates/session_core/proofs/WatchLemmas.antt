@@ -1,10 +1,10 @@
 -- Watched searches: which one has a name can be told, what their statements leave is one thing alone, and
 -- whether they fit more games.
-use Rattle.std.proofs.Common.{◌≡◌, ◌≢◌, ◌⊎◌, inl, inr, ℕ, zero, suc, ◌+◌, ◌≤◌, List, [], ◌∷◌, ◌++◌, All, drop, length, length-append, take, refl, sym, ap, ◌∙◌, subst, arith}
+use Rattle.std.proofs.Common.{◌≡◌, ◌≢◌, ◌⊎◌, inl, inr, ℕ, List, [], ◌∷◌, ◌++◌, All, drop, length, length-append, take, refl, sym, ap, ◌∙◌, subst, arith}
 use Rattle.std.proofs.Math.Seq.{get_or-append_seam}
 use Rattle.std.proofs.lemmas.Bool.{cases_eq}
-use Rattle.std.proofs.lemmas.List.{append-nil, take-append-drop, take-append-le, take_all}
-use Rattle.std.proofs.lemmas.List.Elements.{All-append, All-cons, All-head, All-nil, All-push, All-tail, All-weaker}
+use Rattle.std.proofs.lemmas.List.{take-append-le, take_all}
+use Rattle.std.proofs.lemmas.List.Elements.{All-append, All-cons, All-drop, All-head, All-nil, All-push, All-tail, All-weaker}
 use mathlib.Core.List.{IsPrefix}
 use Rattle.kb_geometry.proofs.Lists.{All-before}
 use Rattle.game_tree.specs.Tree.{IsTree}
@@ -14,7 +14,7 @@ use Rattle.pattern_images.specs.declared.query.Query.{Query}
 use Rattle.info_filter.specs.declared.filter.Filter.{Filter}
 use Rattle.search_engine.specs.Hits.{AreHits, AreHitsFrom}
 use Rattle.session_core.specs.SessionState.{SessionState, Watched}
-use Rattle.session_core.specs.Watches.{AreNewHits, IsFree, IsWatch, IsWatchAdded, IsWatchAdvanced, IsWatchOf, WatchesFit, covering, watch_over}
+use Rattle.session_core.specs.Watches.{IsFree, IsWatch, IsWatchAdded, IsWatchAdvanced, IsWatchOf, WatchesFit, covering, watch_over}
 
 -- ---- the watched search of a name
 
@@ -145,6 +145,4 @@ fit-found name games watches found fit =
 
 -- trees behind some of them
 pub trees-behind : (n : ℕ) (games : List Game) → All (λ (g : Game). IsTree g.tree) games → All (λ (g : Game). IsTree g.tree) (drop n games)
-trees-behind zero games trees = trees
-trees-behind (suc n) [] trees = trees
-trees-behind (suc n) (g ∷ games) trees = trees-behind n games (All-tail (λ (h : Game). IsTree h.tree) g games trees)
+trees-behind n games trees = All-drop (λ (g : Game). IsTree g.tree) n games trees

@@ -99,97 +99,89 @@ fed-new session boxes watches hits fed = λ i. session_of (fed i) watches
 
 -- ---- a search is watched from now on
 
-module _ {T E : Type 0} (result : Result T E) (line : ℕ) (view : View) (name : List ℕ) (query : Query) (filter : Filter) (session : SessionState) (watch : Watched) (free : IsFree name session.watches)
+module _ (line : ℕ) (view : View) (name : List ℕ) (query : Query) (filter : Filter) (session : SessionState) (watch : Watched) (free : IsFree name session.watches)
     (is : watch ≡ watch_over name query filter view.games watch.hits) (are : AreHits query filter view.games watch.hits) where
-  added : IsWatchAdded name query filter view.games session.watches (session.watches ++ watch ∷ []) watch.hits
+  -- the watched searches with this one more
+  abbrev pub with_more : List Watched
+  with_more = session.watches ++ watch ∷ []
+
+  added : IsWatchAdded name query filter view.games session.watches with_more watch.hits
   added = record { free = free; are_hits = are; added = ap (λ (w : Watched). session.watches ++ w ∷ []) is }
 
-  pub watch-begun : (after : SessionState) (old new : List ℕ) (version count : ℕ) → version ≡ view.version → count ≡ length watch.hits
-      → OnOk result (new ≡ old ++ watch_text line name version count) → OnOk result (after ≡ fed_with watch.hits (with_watches session (session.watches ++ watch ∷ [])))
+  pub watch-begun : {T E : Type 0} (result : Result T E) (after : SessionState) (old new : List ℕ) (version count : ℕ) → version ≡ view.version → count ≡ length watch.hits
+      → OnOk result (new ≡ old ++ watch_text line name version count) → OnOk result (after ≡ fed_with watch.hits (with_watches session with_more))
       → OnOk result ((text : List ℕ) × IsAnswer line view session (statement.Watch name query filter) text after × (new ≡ old ++ text))
-  watch-begun after old new version count own counted printed fed = elim result as (λ r.
-      OnOk r (new ≡ old ++ watch_text line name version count) → OnOk r (after ≡ fed_with watch.hits (with_watches session (session.watches ++ watch ∷ [])))
-      → OnOk r ((text : List ℕ) × IsAnswer line view session (statement.Watch name query filter) text after × (new ≡ old ++ text))) [
-    | Err e ↦ λ p f. tt
-    | Ok x ↦ λ p f. (
-      watch_text line name view.version (length watch.hits),
-      inl (record { hits = watch.hits; watches = session.watches ++ watch ∷ []; added = added; text_is = refl; fed = f }),
-      p ∙ (λ i. old ++ watch_text line name (own i) (counted i)),
-    )
-  ] printed fed
+  watch-begun (Err e) after old new version count own counted printed fed = tt
+  watch-begun (Ok x) after old new version count own counted printed fed = (
+    watch_text line name view.version (length watch.hits),
+    inl (record { hits = watch.hits; watches = with_more; added = added; text_is = refl; fed = fed }),
+    printed ∙ (λ i. old ++ watch_text line name (own i) (counted i)),
+  )
 
   -- the hits that were given to boxes in part
   fed_these : (hits : List Hit) → hits ≡ watch.hits → FeedsHits view session (statement.Watch name query filter) hits
-  fed_these hits same = (session.watches ++ watch ∷ [], subst (IsWatchAdded name query filter view.games session.watches (session.watches ++ watch ∷ [])) (sym same) added)
+  fed_these hits same = (with_more, subst (IsWatchAdded name query filter view.games session.watches with_more) (sym same) added)
 
-  left_in : (after : SessionState) → IsLeft (λ hits. hits ≡ watch.hits) (with_watches session (session.watches ++ watch ∷ [])) after → IsLeft (FeedsHits view session (statement.Watch name query filter)) (with_watches session (session.watches ++ watch ∷ [])) after
+  left_in : (after : SessionState) → IsLeft (λ hits. hits ≡ watch.hits) (with_watches session with_more) after → IsLeft (FeedsHits view session (statement.Watch name query filter)) (with_watches session with_more) after
   left_in after (inl same) = inl same
   left_in after (inr (hits, boxes, these, fed, same)) = inr (hits, boxes, fed_these hits these, fed, same)
 
-  left_behind : (after : SessionState) → (after ≡ session) ⊎ IsLeft (λ hits. hits ≡ watch.hits) (with_watches session (session.watches ++ watch ∷ [])) after → IsLeftBehind view (statement.Watch name query filter) session after
+  left_behind : (after : SessionState) → (after ≡ session) ⊎ IsLeft (λ hits. hits ≡ watch.hits) (with_watches session with_more) after → IsLeftBehind view (statement.Watch name query filter) session after
   left_behind after (inl same) = inl (inl same)
-  left_behind after (inr left) = inr (session.watches ++ watch ∷ [], watch.hits, added, left_in after left)
+  left_behind after (inr left) = inr (with_more, watch.hits, added, left_in after left)
 
-  pub watch-left : (after : SessionState) → OnErr result ((after ≡ session) ⊎ IsLeft (λ hits. hits ≡ watch.hits) (with_watches session (session.watches ++ watch ∷ [])) after) → OnErr result (IsLeftBehind view (statement.Watch name query filter) session after)
-  watch-left after left = elim result as (λ r. OnErr r ((after ≡ session) ⊎ IsLeft (λ hits. hits ≡ watch.hits) (with_watches session (session.watches ++ watch ∷ [])) after) → OnErr r (IsLeftBehind view (statement.Watch name query filter) session after)) [
-    | Ok x ↦ λ l. tt
-    | Err e ↦ left_behind after
-  ] left
+  pub watch-left : {T E : Type 0} (result : Result T E) (after : SessionState) → OnErr result ((after ≡ session) ⊎ IsLeft (λ hits. hits ≡ watch.hits) (with_watches session with_more) after) → OnErr result (IsLeftBehind view (statement.Watch name query filter) session after)
+  watch-left (Ok x) after left = tt
+  watch-left (Err e) after left = left_behind after left
 
 -- its name is taken
 pub watch-taken : {T E : Type 0} (result : Result T E) (line : ℕ) (view : View) (name : List ℕ) (query : Query) (filter : Filter) (session : SessionState) (at : ℕ) (old new : List ℕ) → IsWatchAt name session.watches at
     → OnOk result (new ≡ old ++ taken_text line name) → OnOk result ((text : List ℕ) × IsAnswer line view session (statement.Watch name query filter) text session × (new ≡ old ++ text))
 watch-taken (Err e) line view name query filter session at old new is printed = tt
 watch-taken (Ok x) line view name query filter session at old new is printed =
-    let d : Watched = record { name = name; query = query; filter = filter; covered = 0; hits = [] } in
+    let d : Watched = watch_over name query filter [] [] in
     let found = watch-at name session.watches at (get_or session.watches at d) is (λ e. get_or_default session.watches at e d is.within) in
     (taken_text line name, inr (record { found = found; text_is = refl; same = refl }), printed)
 
 -- ---- a watched search is told
 
-module _ {T E : Type 0} (result : Result T E) (line : ℕ) (view : View) (name : List ℕ) (session : SessionState) (watches : List Watched) (at first : ℕ) (is : IsWatchAt name session.watches at)
+module _ (line : ℕ) (view : View) (name : List ℕ) (session : SessionState) (watches : List Watched) (at first : ℕ) (is : IsWatchAt name session.watches at)
     (on : IsAdvancedAt view.games at session.watches watches first) where
   goes_on : IsWatchAdvanced name view.games session.watches watches on.now.hits (drop first on.now.hits)
   goes_on = advanced-is name view.games at first session.watches watches is on
 
-  pub watch-told : (after : SessionState) (hits : List Hit) (table : TableView) (old new : List ℕ) (version games : ℕ) → hits ≡ on.now.hits → IsTable hits table → version ≡ view.version → games ≡ length view.games
+  pub watch-told : {T E : Type 0} (result : Result T E) (after : SessionState) (hits : List Hit) (table : TableView) (old new : List ℕ) (version games : ℕ) → hits ≡ on.now.hits → IsTable hits table → version ≡ view.version → games ≡ length view.games
       → OnOk result (new ≡ old ++ watched_text line name version games hits table) → OnOk result (after ≡ fed_with (drop first on.now.hits) (with_watches session watches))
       → OnOk result ((text : List ℕ) × IsWatchTold line view name session text after × (new ≡ old ++ text))
-  watch-told after hits table old new version games these is_table own counted printed fed = elim result as (λ r.
-      OnOk r (new ≡ old ++ watched_text line name version games hits table) → OnOk r (after ≡ fed_with (drop first on.now.hits) (with_watches session watches))
-      → OnOk r ((text : List ℕ) × IsWatchTold line view name session text after × (new ≡ old ++ text))) [
-    | Err e ↦ λ p f. tt
-    | Ok x ↦ λ p f. (
-      watched_text line name view.version (length view.games) on.now.hits table,
-      record {
-        hits = on.now.hits;
-        new = drop first on.now.hits;
-        table = table;
-        watches = watches;
-        advanced = goes_on;
-        is_table = subst (λ (hs : List Hit). IsTable hs table) these is_table;
-        text_is = refl;
-        fed = f;
-      },
-      p ∙ (λ i. old ++ watched_text line name (own i) (counted i) (these i) table),
-    )
-  ] printed fed
+  watch-told (Err e) after hits table old new version games these is_table own counted printed fed = tt
+  watch-told (Ok x) after hits table old new version games these is_table own counted printed fed = (
+    watched_text line name view.version (length view.games) on.now.hits table,
+    record {
+      hits = on.now.hits;
+      new = drop first on.now.hits;
+      table = table;
+      watches = watches;
+      advanced = goes_on;
+      is_table = subst (λ (hs : List Hit). IsTable hs table) these is_table;
+      text_is = refl;
+      fed = fed;
+    },
+    printed ∙ (λ i. old ++ watched_text line name (own i) (counted i) (these i) table),
+  )
 
   -- it goes on, and then memory is wanted: no box is fed yet
   pub told-left : IsLeftBehind view (statement.Watched name) session (with_watches session watches)
   told-left = inr (watches, drop first on.now.hits, (on.now.hits, goes_on), inl refl)
 
   -- or some are
-  pub told-left-fed : (boxes : List BoxTally) → OnErr result (IsFedInPart (drop first on.now.hits) session.boxes boxes) → OnErr result (IsLeftBehind view (statement.Watched name) session (with_boxes (with_watches session watches) boxes))
-  told-left-fed boxes fed = elim result as (λ r. OnErr r (IsFedInPart (drop first on.now.hits) session.boxes boxes) → OnErr r (IsLeftBehind view (statement.Watched name) session (with_boxes (with_watches session watches) boxes))) [
-    | Ok x ↦ λ f. tt
-    | Err e ↦ λ f. inr (
-      watches,
-      drop first on.now.hits,
-      (on.now.hits, goes_on),
-      inr (drop first on.now.hits, boxes, (watches, (on.now.hits, goes_on)), f, refl),
-    )
-  ] fed
+  pub told-left-fed : {T E : Type 0} (result : Result T E) (boxes : List BoxTally) → OnErr result (IsFedInPart (drop first on.now.hits) session.boxes boxes) → OnErr result (IsLeftBehind view (statement.Watched name) session (with_boxes (with_watches session watches) boxes))
+  told-left-fed (Ok x) boxes fed = tt
+  told-left-fed (Err e) boxes fed = inr (
+    watches,
+    drop first on.now.hits,
+    (on.now.hits, goes_on),
+    inr (drop first on.now.hits, boxes, (watches, (on.now.hits, goes_on)), fed, refl),
+  )
 
 -- none is watched under the name
 pub watch-missing : {T E : Type 0} (result : Result T E) (line : ℕ) (view : View) (name : List ℕ) (session : SessionState) (old new : List ℕ) → IsFree name session.watches

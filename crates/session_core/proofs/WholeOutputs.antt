@@ -148,7 +148,6 @@ module _ (files : List File) (rules : Rules) where
   statement-passes s line statement.Report h = (boxes_text line s.session.boxes, ([], s, (refl, refl, refl), refl))
   statement-passes s line (statement.Retire name) h =
       let found = retired-found line name s.session in (found.0, ([], with_session s found.1, (found.1, found.2, refl, refl), refl))
-
   statement-passes s line (statement.Watch name query filter) h =
       let found = watch-found line (view_at s (last_of s)) (trees-at s h (last_of s)) name query filter s.session in
       let on = either-passes s h (λ view after. IsWatchBegun line view name query filter s.session found.0 after) (IsWatchTaken line name s.session found.0) found.1 found.2 in

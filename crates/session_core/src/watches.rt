@@ -4,7 +4,6 @@ ghost use Rattle.std.specs.Prelude.{
   ◌<◌,
   ◌≤◌,
   ◌↔◌,
-  ℕ,
   All,
   IfNone,
   IfOk,

@@ -1,4 +1,4 @@
-use Rattle.std.proofs.Common.{◌++◌, ◌∷◌, [], ap, subst, sym}
+use Rattle.std.proofs.Common.{subst}
 use Rattle.session_core.specs.SessionState.{SessionState}
 use Rattle.session_core.specs.Stores.{view_of}
 use Rattle.session_core.specs.Watches.{IsFree}
@@ -13,14 +13,14 @@ returns-in-Some-clause-ok g c =
 
 pub returns-clause-ok : goal.returns-clause-ok
 returns-clause-ok g c =
-    watch-begun c.cut_back.result c.args.line (view_of c.args.version.now) c.args.name.now c.args.query.now c.args.filter.now c.args.self.now c.in_ok-watch.watch
+    watch-begun c.args.line (view_of c.args.version.now) c.args.name.now c.args.query.now c.args.filter.now c.args.self.now c.in_ok-watch.watch
     (subst (λ (s : SessionState). IsFree c.args.name.now s.watches) c.self.view_is c.in_default.ensures.none) c.in_ok-watch.ensures.covers c.in_ok-watch.ensures.hits
-    _ c.args.out.now.items _ c.number.result c.len-count.result c.number.ensures c.len-count.ensures
+    c.cut_back.result _ c.args.out.now.items _ c.number.result c.len-count.result c.number.ensures c.len-count.ensures
     (rw c.in_ok-print_watch.ensures.ok at c.cut_back.ensures.ok)
     (rw c.cut_back.ensures.same c.begin-begun.ensures.ok)
 
 pub returns-clause-left : goal.returns-clause-left
 returns-clause-left g c =
-    watch-left c.cut_back.result c.args.line (view_of c.args.version.now) c.args.name.now c.args.query.now c.args.filter.now c.args.self.now c.in_ok-watch.watch
+    watch-left c.args.line (view_of c.args.version.now) c.args.name.now c.args.query.now c.args.filter.now c.args.self.now c.in_ok-watch.watch
     (subst (λ (s : SessionState). IsFree c.args.name.now s.watches) c.self.view_is c.in_default.ensures.none) c.in_ok-watch.ensures.covers c.in_ok-watch.ensures.hits
-    _ (rw c.cut_back.ensures.same c.begin-begun.ensures.left)
+    c.cut_back.result _ (rw c.cut_back.ensures.same c.begin-begun.ensures.left)

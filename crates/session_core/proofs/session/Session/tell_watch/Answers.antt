@@ -12,8 +12,8 @@ returns-clause-ok g c =
     let watches = c.advance_at.new.watches in
     let on = subst (λ (s : SessionState). IsAdvancedAt view.games c.args.at s.watches watches c.in_ok-first.first) c.self.view_is c.in_ok-first.ensures.ok in
     let there = now-there view.games c.args.at c.in_ok-first.first c.args.self.now.watches watches c.requires.at.within on in
-    watch-told c.cut_back.result c.args.line view c.args.name.now c.args.self.now watches c.args.at c.in_ok-first.first c.requires.at on
-    _ _ c.in_ok-table.table c.args.out.now.items _ c.number.result c.game_count.result
+    watch-told c.args.line view c.args.name.now c.args.self.now watches c.args.at c.in_ok-first.first c.requires.at on
+    c.cut_back.result _ _ c.in_ok-table.table c.args.out.now.items _ c.number.result c.game_count.result
     _ c.in_ok-table.ensures c.number.ensures c.game_count.ensures.value
     (rw c.in_ok-print_watched.ensures.ok at c.cut_back.ensures.ok)
     (rw c.cut_back.ensures.same
