@@ -33,7 +33,7 @@ impl<'a> Model for QueryFinder<'a> {
 }
 
 impl<'a> Finder for QueryFinder<'a> {
-    ghost use Rattle.std.proofs.Common.{refl};
+    ghost use Rattle.std.specs.Prelude.{refl};
     ghost use Rattle.search_engine.specs.Hits.{AreHitsFrom};
     ghost use Rattle.search_engine.proofs.HitParts.{AreHitsFrom-append};
     ghost use Rattle.search_engine.proofs.HitsExist.{hits-found};
