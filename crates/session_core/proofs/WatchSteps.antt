@@ -19,6 +19,11 @@ use Rattle.session_core.specs.SessionState.{SessionState, Watched, fed_with, ses
 use Rattle.session_core.specs.Watches.{IsFree, IsWatch, IsWatchAdded, IsWatchAdvanced, covering, watch_over}
 use Rattle.session_core.specs.Watching.{IsAdvanced, IsAdvancedAt, IsWatchAt}
 
+-- what holds anyway holds after an error
+pub after_error : {T E : Type 0} (result : Result T E) (P : Type 0) → P → OnErr result P
+after_error (Ok x) P p = tt
+after_error (Err e) P p = p
+
 -- ---- one watched search goes on
 
 pub is-advanced : {E : Type 0} (result : Result ℕ E) (name : List ℕ) (query : Query) (filter : Filter) (games : List Game) (covered now : ℕ) (old hits : List Hit) →

@@ -7,7 +7,7 @@ use Rattle.session_core.specs.SessionState.{SessionState, session_of}
 use Rattle.session_core.specs.Stores.{view_of}
 use Rattle.session_core.specs.Watches.{IsWatchOf}
 use Rattle.session_core.specs.Watching.{IsAdvancedAt, IsWatchAt}
-use Rattle.session_core.proofs.WatchSteps.{fed-new, now-there, told-left, watch-told}
+use Rattle.session_core.proofs.WatchSteps.{after_error, fed-new, now-there, told-left, watch-told}
 use Rattle.session_core.proofs.session.Session.tell_watch.Goals as goal
 
 pub returns-clause-ok : goal.returns-clause-ok
