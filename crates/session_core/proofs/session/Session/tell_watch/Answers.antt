@@ -1,4 +1,5 @@
 use Rattle.std.proofs.Common.{All, ap, map, subst, sym}
+use Rattle.std.proofs.lemmas.Result.{on_err_weaker}
 use Rattle.indexmap.proofs.MapLemmas.{OnOk-map}
 use Rattle.query_script.specs.declared.statement.Statement.TheVariants as statement
 use Rattle.version_publisher.specs.Contents.{items_in}
@@ -7,7 +8,7 @@ use Rattle.session_core.specs.SessionState.{SessionState, session_of}
 use Rattle.session_core.specs.Stores.{view_of}
 use Rattle.session_core.specs.Watches.{IsWatchOf}
 use Rattle.session_core.specs.Watching.{IsAdvancedAt, IsWatchAt}
-use Rattle.session_core.proofs.WatchSteps.{after_error, fed-new, now-there, told-left, watch-told}
+use Rattle.session_core.proofs.WatchSteps.{after_error, fed-new, now-there, told-left, told-left-fed, watch-told}
 use Rattle.session_core.proofs.session.Session.tell_watch.Goals as goal
 
 pub returns-clause-ok : goal.returns-clause-ok
@@ -45,3 +46,20 @@ returns-in_err-table-clause-left g c =
     let watches = c.advance_at.new.watches in
     let on = subst (λ (s : SessionState). IsAdvancedAt view.games c.args.at s.watches watches c.in_ok-first.first) c.self.view_is c.in_ok-first.ensures.ok in
     after_error _ _ (subst (λ (s : SessionState). IsLeftBehind view (statement.Watched c.args.name.now) c.args.self.now (session_of s.boxes watches)) (sym c.self.view_is) (told-left c.args.line view c.args.name.now c.args.self.now watches c.args.at c.in_ok-first.first c.requires.at on))
+
+pub returns-in_err-print_watched-clause-left : goal.returns-in_err-print_watched-clause-left
+returns-in_err-print_watched-clause-left g c =
+    let view = view_of c.args.version.now in
+    let watches = c.advance_at.new.watches in
+    let on = subst (λ (s : SessionState). IsAdvancedAt view.games c.args.at s.watches watches c.in_ok-first.first) c.self.view_is c.in_ok-first.ensures.ok in
+    after_error _ _ (subst (λ (s : SessionState). IsLeftBehind view (statement.Watched c.args.name.now) c.args.self.now (session_of s.boxes watches)) (sym c.self.view_is) (told-left c.args.line view c.args.name.now c.args.self.now watches c.args.at c.in_ok-first.first c.requires.at on))
+
+pub returns-clause-left : goal.returns-clause-left
+returns-clause-left g c =
+    let view = view_of c.args.version.now in
+    let watches = c.advance_at.new.watches in
+    let on = subst (λ (s : SessionState). IsAdvancedAt view.games c.args.at s.watches watches c.in_ok-first.first) c.self.view_is c.in_ok-first.ensures.ok in
+    let there = now-there view.games c.args.at c.in_ok-first.first c.args.self.now.watches watches c.requires.at.within on in
+    told-left-fed c.args.line view c.args.name.now c.args.self.now watches c.args.at c.in_ok-first.first c.requires.at on c.cut_back.result (map (λ b. g.C.Collector.tally b) c.feed_from-fed.new.boxes.items)
+    (rw c.cut_back.ensures.same
+    (on_err_weaker c.feed_from-fed.result (λ fed. rw (← ap (λ (s : SessionState). s.boxes) c.self.view_is) (fed on.now there)) c.feed_from-fed.ensures.refused))
