@@ -71,6 +71,7 @@ watch-at name watches at w is there =
     }
 
 pub advanced-is : (name : List ℕ) (games : List Game) (at first : ℕ) (before after : List Watched) → IsWatchAt name before at → (on : IsAdvancedAt games at before after first) → IsWatchAdvanced name games before after on.now.hits (drop first on.now.hits)
+unfolding watch-at
 advanced-is name games at first before after is on = record {
   found = watch-at name before at on.watch is on.there;
   are_hits = on.advanced.are_hits;

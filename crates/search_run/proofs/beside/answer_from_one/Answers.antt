@@ -70,8 +70,8 @@ returns-in_err-write_all-clause-stopped g c = λ before written.
     (subst (Reaches c.args.placed.now.statement) of.number reaches) c.in_ok-text.ensures.text) part.1 part.2 in
     after_error _ _ stops
 
-pub version_text-requires-fit-after_bounds : goal.version_text-requires-fit-after_bounds
-version_text-requires-fit-after_bounds g c = λ lifetimes bounds.
+pub version_text-requires-clause-fit : goal.version_text-requires-clause-fit
+version_text-requires-clause-fit g c =
     let before = c.args.searchers.now.own.seen in
     let now = c.version_for.new.searchers.own.seen in
     let of = rw c.in-Some.is at c.in_ok-version.ensures.version in

@@ -12,7 +12,7 @@ returns-clause-ok g c =
     let old = map (λ b. g.C.Collector.tally b) c.args.boxes.now.items in
     OnOk-map c.feed_boxes.result _ _
     (λ fed. λ watch there.
-    let hits : c.hits.result.now ≡ watch.hits = c.hits.ensures ∙ ap (λ (w : Watched). w.hits) (there c.index-watches-at.result) in
+    let hits : c.hits.result.now ≡ watch.hits = c.hits.ensures ∙ ap (λ (w : Watched). w.hits) (c.index-watches-at.is ∙ there c.index-watches-at.result) in
     fed ∙ ap (λ (hs : List Hit). all_with_hits hs old) (take_rest c.hits.result.now c.args.first ∙ ap (drop c.args.first) hits))
     c.feed_boxes.ensures.ok
 
@@ -22,6 +22,6 @@ returns-clause-refused g c =
     let new = map (λ b. g.C.Collector.tally b) c.feed_boxes.new.boxes.items in
     on_err_weaker c.feed_boxes.result
     (λ fed. λ watch there.
-    let hits : c.hits.result.now ≡ watch.hits = c.hits.ensures ∙ ap (λ (w : Watched). w.hits) (there c.index-watches-at.result) in
+    let hits : c.hits.result.now ≡ watch.hits = c.hits.ensures ∙ ap (λ (w : Watched). w.hits) (c.index-watches-at.is ∙ there c.index-watches-at.result) in
     subst (λ (hs : List Hit). IsFedInPart hs old new) (take_rest c.hits.result.now c.args.first ∙ ap (drop c.args.first) hits) fed)
     c.feed_boxes.ensures.refused

@@ -7,8 +7,8 @@ use Rattle.session_core.specs.Watching.{IsWatchAt}
 use Rattle.session_core.proofs.WatchSteps.{watch-missing}
 use Rattle.session_core.proofs.session.Session.answer_watched.Goals as goal
 
-pub tell_watch-requires-at : goal.tell_watch-requires-at
-tell_watch-requires-at g c = subst (λ (s : SessionState). IsWatchAt c.args.name.now s.watches c.in-Some.at) c.self.view_is c.in-Some.ensures.some
+pub tell_watch-requires-clause-at : goal.tell_watch-requires-clause-at
+tell_watch-requires-clause-at g c = subst (λ (s : SessionState). IsWatchAt c.args.name.now s.watches c.in-Some.at) c.self.view_is c.in-Some.ensures.some
 
 pub returns-in-Some-clause-ok : goal.returns-in-Some-clause-ok
 returns-in-Some-clause-ok g c = OnOk-map c.tell_watch.result _ _ (λ (text, told, appended). (text, inl told, appended)) c.tell_watch.ensures.ok

@@ -26,14 +26,14 @@ returns-clause-ok g c =
     (λ fed. fed-new c.args.self.now (map (λ b. g.C.Collector.tally b) c.feed_from-fed.new.boxes.items) watches _ (rw (← ap (λ (s : SessionState). s.boxes) c.self.view_is) (fed on.now there)))
     c.feed_from-fed.ensures.ok))
 
-pub advance_at-requires-within : goal.advance_at-requires-within
-advance_at-requires-within g c = (subst (λ (s : SessionState). IsWatchAt c.args.name.now s.watches c.args.at) (sym c.self.view_is) c.requires.at).within
+pub advance_at-requires-clause-within : goal.advance_at-requires-clause-within
+advance_at-requires-clause-within g c = (subst (λ (s : SessionState). IsWatchAt c.args.name.now s.watches c.args.at) (sym c.self.view_is) c.requires.at).within
 
-pub advance_at-requires-fit : goal.advance_at-requires-fit
-advance_at-requires-fit g c = subst (λ (s : SessionState). All (IsWatchOf (items_in c.args.version.now.parts)) s.watches) (sym c.self.view_is) c.requires.fit
+pub advance_at-requires-clause-fit : goal.advance_at-requires-clause-fit
+advance_at-requires-clause-fit g c = subst (λ (s : SessionState). All (IsWatchOf (items_in c.args.version.now.parts)) s.watches) (sym c.self.view_is) c.requires.fit
 
-pub feed_from-requires-few : goal.feed_from-requires-few
-feed_from-requires-few g c =
+pub feed_from-requires-clause-few : goal.feed_from-requires-clause-few
+feed_from-requires-clause-few g c =
     let view = view_of c.args.version.now in
     let watches = c.advance_at.new.watches in
     let on = subst (λ (s : SessionState). IsAdvancedAt view.games c.args.at s.watches watches c.in_ok-first.first) c.self.view_is c.in_ok-first.ensures.ok in

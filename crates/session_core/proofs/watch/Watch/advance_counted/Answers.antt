@@ -5,12 +5,12 @@ use Rattle.session_core.specs.Watches.{IsWatchOf}
 use Rattle.session_core.proofs.WatchSteps.{is-advanced}
 use Rattle.session_core.proofs.watch.Watch.advance_counted.Goals as goal
 
-pub advance-requires-games-after_bounds : goal.advance-requires-games-after_bounds
-advance-requires-games-after_bounds g c = λ lifetimes bounds.
+pub advance-requires-clause-games : goal.advance-requires-clause-games
+advance-requires-clause-games g c =
     (subst (IsWatchOf (items_in c.args.version.now.parts)) (sym c.self.view_is) c.requires.fits).covered
 
-pub advance-requires-hits-after_bounds : goal.advance-requires-hits-after_bounds
-advance-requires-hits-after_bounds g c = λ lifetimes bounds.
+pub advance-requires-clause-hits : goal.advance-requires-clause-hits
+advance-requires-clause-hits g c =
     (subst (IsWatchOf (items_in c.args.version.now.parts)) (sym c.self.view_is) c.requires.fits).are_hits
 
 pub returns-clause-ok : goal.returns-clause-ok
