@@ -99,6 +99,11 @@ pub fed-added : (session : SessionState) (boxes : List BoxTally) (watches : List
     session_of boxes watches ≡ fed_with w.hits (with_watches session (session.watches ++ w ∷ []))
 fed-added session boxes watches w added fed = λ i. session_of (fed i) (added i)
 
+-- one whose boxes alone were given hits
+pub fed-alone : {T E : Type 0} (result : Result T E) (hits : List Hit) (session after : SessionState) (boxes : List BoxTally) → after ≡ with_boxes session boxes → OnOk result (boxes ≡ all_with_hits hits session.boxes) → OnOk result (after ≡ fed_with hits session)
+fed-alone (Err e) hits session after boxes same fed = tt
+fed-alone (Ok x) hits session after boxes same fed = same ∙ ap (with_boxes session) fed
+
 -- a session whose boxes were given the new hits of one that went on
 pub fed-new : (session : SessionState) (boxes : List BoxTally) (watches : List Watched) (hits : List Hit) → boxes ≡ all_with_hits hits session.boxes → session_of boxes watches ≡ fed_with hits (with_watches session watches)
 fed-new session boxes watches hits fed = λ i. session_of (fed i) watches

@@ -308,14 +308,15 @@ impl<C: Collector> Session<C> {
             (statement.Watched name.now) self.old self.new) }
     {
         let first = advance_at(alloc, &mut self.watches, at, version)?;
-        let table = Table::of(alloc, self.watches[at].hits())?;
+        let hits = self.watches[at].hits();
+        let table = Table::of(alloc, hits)?;
         let len = out.len();
         print_watched(
             line,
             name,
             version.number(),
             game_count(version),
-            self.watches[at].hits(),
+            hits,
             &table,
             out,
         )?;

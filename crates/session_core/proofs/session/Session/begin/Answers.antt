@@ -9,7 +9,7 @@ pub returns-clause-ok : goal.returns-clause-ok
 returns-clause-ok g c =
     let before = c.self.inside.watches.items in
     let watch = c.args.watch in
-    let there = last-there before c.push.new.self.items watch c.len-at.result c.in_ok-push.ensures.items c.len-at.ensures in
+    let there = last-there before c.deref.result.now watch c.len-at.result (c.deref.ensures.value ∙ c.in_ok-push.ensures.items) (c.len-at.ensures ∙ c.self.inside.watches.ok.0) in
     let added = c.in_ok-push.ensures.items ∙ ap (λ (s : SessionState). s.watches ++ watch ∷ []) c.self.view_is in
     OnOk-map c.feed_from.result _ _
     (λ fed. fed-added c.args.self.now (map (λ b. g.C.Collector.tally b) c.feed_from.new.boxes.items) c.push.new.self.items watch added
@@ -20,7 +20,7 @@ pub returns-clause-left : goal.returns-clause-left
 returns-clause-left g c =
     let before = c.self.inside.watches.items in
     let watch = c.args.watch in
-    let there = last-there before c.push.new.self.items watch c.len-at.result c.in_ok-push.ensures.items c.len-at.ensures in
+    let there = last-there before c.deref.result.now watch c.len-at.result (c.deref.ensures.value ∙ c.in_ok-push.ensures.items) (c.len-at.ensures ∙ c.self.inside.watches.ok.0) in
     let added = c.in_ok-push.ensures.items ∙ ap (λ (s : SessionState). s.watches ++ watch ∷ []) c.self.view_is in
     let boxes = map (λ b. g.C.Collector.tally b) c.feed_from.new.boxes.items in
     on_err_weaker c.feed_from.result

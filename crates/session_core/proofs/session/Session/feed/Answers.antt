@@ -1,14 +1,15 @@
 use Rattle.std.proofs.Common.{◌≡◌, List, ap, map, refl}
-use Rattle.indexmap.proofs.MapLemmas.{OnOk-map}
 use Rattle.pattern_images.specs.declared.hit.Hit.{Hit}
 use Rattle.session_core.specs.SessionState.{SessionState, Watched, session_of}
 use Rattle.session_core.proofs.AnswerTexts.{IsLeft-fed}
+use Rattle.session_core.proofs.WatchSteps.{fed-alone}
 use Rattle.session_core.proofs.session.Session.feed.Goals as goal
 
 pub returns-clause-fed : goal.returns-clause-fed
 returns-clause-fed g c =
-    let watches = ap (λ (s : SessionState). s.watches) c.self.view_is in
-    OnOk-map c.feed_boxes.result _ _ (λ fed. λ i. session_of (fed i) (watches i))
+    let boxes = map (λ b. g.C.Collector.tally b) c.feed_boxes.new.boxes.items in
+    fed-alone c.feed_boxes.result c.args.answer.now.hits.items c.args.self.now _ boxes
+    (ap (λ (watches : List Watched). session_of boxes watches) (ap (λ (s : SessionState). s.watches) c.self.view_is))
     (rw (← ap (λ (s : SessionState). s.boxes) c.self.view_is) (rw c.deref.ensures.value at c.feed_boxes.ensures.ok))
 
 pub returns-clause-left : goal.returns-clause-left
