@@ -1,6 +1,7 @@
 -- The statements of watched searches have a text, and one only; and what they leave fits the games of the version.
 use Rattle.std.proofs.Common.{◌≡◌, ◌⊎◌, inl, inr, ℕ, List, [], ◌∷◌, ◌++◌, drop, length, refl, sym, ap, ◌∙◌, subst}
 use Rattle.std.specs.Prelude.{All}
+use Rattle.std.proofs.lemmas.List.Elements.{All-nil}
 use Rattle.game_tree.specs.Tree.{IsTree}
 use Rattle.node_position.specs.Games.{Game}
 use Rattle.pattern_images.specs.declared.hit.Hit.{Hit}
@@ -15,9 +16,9 @@ use Rattle.query_script.specs.Texts.{no_watch_text, taken_text, watch_text, watc
 use Rattle.search_engine.specs.Hits.{AreHits}
 use Rattle.search_engine.proofs.HitsExist.{hits-found}
 use Rattle.search_engine.proofs.OneListOfHits.{hits-unique}
-use Rattle.session_core.specs.Answers.{IsAnswer, IsRetiredBy, IsWatchBegun, IsWatchMissing, IsWatchTaken, IsWatchTold, View}
+use Rattle.session_core.specs.Answers.{IsAnswer, IsLeft, IsRetiredBy, IsWatchBegun, IsWatchMissing, IsWatchTaken, IsWatchTold, View}
 use Rattle.session_core.specs.SessionState.{SessionState, Watched, fed_with, with_watches}
-use Rattle.session_core.specs.Watches.{AreNewHits, WatchesFit, covering, watch_over}
+use Rattle.session_core.specs.Watches.{AreNewHits, IsWatchOf, WatchesFit, covering, watch_over}
 use Rattle.session_core.proofs.WatchLemmas.{Parted, fit-added, fit-advanced, free-none, one_watch, told_watch, trees-behind}
 
 -- ---- texts that name no version
@@ -136,3 +137,12 @@ answer-fits line view session after (statement.Make games start) text fit of = a
 answer-fits line view session after statement.Wait text fit of = absurd of
 answer-fits line view session after (statement.Until number) text fit of = absurd of
 answer-fits line view session after (statement.Together searches) text fit of = absurd of
+
+-- a session that watches nothing fits all games
+pub fit-unwatched : (games : List Game) (session : SessionState) → session.watches ≡ [] → WatchesFit games session
+fit-unwatched games session none = subst (All (IsWatchOf games)) (sym none) (All-nil (IsWatchOf games))
+
+-- where boxes were fed in part what is watched stays
+pub left-watches : (AreThese : List Hit → Type 0) (session after : SessionState) → IsLeft AreThese session after → after.watches ≡ session.watches
+left-watches AreThese session after (inl same) = ap (λ (s : SessionState). s.watches) same
+left-watches AreThese session after (inr (hits, boxes, these, fed, same)) = ap (λ (s : SessionState). s.watches) same
