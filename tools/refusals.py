@@ -96,6 +96,8 @@ search same fixed O
 search main XO
 end
 kept X
+watch x same X where player "Ann"
+watch x O
 signature ************
 players
 doubles
@@ -106,6 +108,8 @@ retire labels
 wait
 make 3 1
 wait
+watched x
+watched y
 kept same fixed X
 import e
 search X where player "Ann"

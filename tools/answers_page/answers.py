@@ -283,6 +283,15 @@ class Retire(Answer):
 
 
 @dataclass
+class Watch(Answer):
+    """That a search is watched from now on, or why it isn't. `found` is the number of its hits."""
+
+    name: str = ""
+    found: int | None = None
+    taken: bool = False
+
+
+@dataclass
 class Import(Answer):
     path: str = ""
 

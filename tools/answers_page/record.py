@@ -74,6 +74,12 @@ FORMS: list[tuple[str, re.Pattern[str], Maker]] = [
         ("report", f" collectors {NUMBER}", numbers_into(kinds.Report, "expected")),
         ("retire", r" ([^ ]+)( none)?",
          lambda s, line, m: kinds.Retire(s, line, name=m[1], gone=m[2] is None)),
+        ("watch", rf" ([^ ]+) version {NUMBER} hits {NUMBER}",
+         lambda s, line, m: kinds.Watch(s, line, name=m[1], found=int(m[3]))),
+        ("watch", r" ([^ ]+) taken", lambda s, line, m: kinds.Watch(s, line, name=m[1], taken=True)),
+        ("watched", rf" [^ ]+{OF_VERSION} hits {NUMBER}",
+         numbers_into(kinds.Search, "version", "games", "expected")),
+        ("watched", r" ([^ ]+) none", lambda s, line, m: kinds.Watch(s, line, name=m[1])),
     ]
 ]
 

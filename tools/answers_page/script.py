@@ -128,6 +128,18 @@ def read_conditions(words: list[str]) -> tuple[Condition, ...]:
     return tuple(Condition(words[i + 1], words[i + 2]) for i in range(0, len(words), 3))
 
 
+def question_of(words: tuple[str, ...], watched: dict[str, Question | None]) -> Question | None:
+    """What a statement asks, if it asks something. `watched` has the questions by their names: a name stays with the
+    first one."""
+    if words[0] in ("search", "kept"):
+        return read_question(words)
+    if words[0] == "watch" and len(words) > 1:
+        return watched.setdefault(words[1], read_question(words[1:]))
+    if words[0] == "watched" and len(words) == 2:
+        return watched.get(words[1])
+    return None
+
+
 def comment_text(lines: list[str]) -> str:
     """The comment of some lines: one paragraph for each stretch between empty comment lines."""
     paragraphs = "\n".join(lines).split("\n\n")
@@ -138,6 +150,7 @@ def read_script(text: str) -> Script:
     statements: list[Statement] = []
     comment: list[str] = []
     heading, in_block = "", False
+    watched: dict[str, Question | None] = {}
     for number, line in enumerate(text.split("\n"), start=1):
         line = line.removesuffix("\r")
         bare = line.strip(" \t")
@@ -154,9 +167,7 @@ def read_script(text: str) -> Script:
         # The comment at the top tells what the whole script is about.
         if not statements:
             heading, lead, comment = lead, "", []
-        asks = words[0] in ("search", "kept")
-        statements.append(Statement(
-            number, bare, words, lead, in_block, read_question(words) if asks else None))
+        statements.append(Statement(number, bare, words, lead, in_block, question_of(words, watched)))
         if words[0] in ("together", "end"):
             in_block = words[0] == "together"
     return Script(tuple(statements), heading, text)

@@ -392,6 +392,15 @@ def retire(answer: kinds.Retire, context: Context) -> str:
     return f"<p>There is no collector {name}.</p>"
 
 
+def watch(answer: kinds.Watch, context: Context) -> str:
+    name = isolated(answer.name)
+    if answer.found is not None:
+        return f"<p>A search is watched as {name}, with {times(answer.found, 'hit')} so far.</p>"
+    if answer.taken:
+        return f"<p>A search is watched as {name} already, and stays.</p>"
+    return f"<p>No search is watched as {name}.</p>"
+
+
 def plain(answer: Answer, context: Context) -> str:
     return lines_as_they_are([answer.first, *answer.extra])
 
@@ -414,6 +423,7 @@ SECTIONS: dict[type[Answer], tuple[str, Callable[..., str]]] = {
     kinds.Game: ("", game),
     kinds.Report: ("All searches together", report),
     kinds.Retire: ("", retire),
+    kinds.Watch: ("", watch),
     kinds.Import: ("", begun_import),
     kinds.Imported: ("", imported),
     kinds.Make: ("", begun_make),
@@ -424,7 +434,8 @@ SECTIONS: dict[type[Answer], tuple[str, Callable[..., str]]] = {
 }
 
 # Answers of a line, which stand on the page without a heading of their own.
-QUIET = (kinds.Retire, kinds.Import, kinds.Imported, kinds.Make, kinds.Made, kinds.Wait, kinds.Until)
+QUIET = (kinds.Retire, kinds.Watch, kinds.Import, kinds.Imported, kinds.Make, kinds.Made, kinds.Wait,
+         kinds.Until)
 
 
 def is_told(answer: Answer, record: Record) -> bool:

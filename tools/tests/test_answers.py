@@ -152,6 +152,21 @@ collector nexts nexts 0 0 2
                                              kinds.Collector("nexts", "nexts", (0, 0, 2))])
         self.assertEqual((gone.gone, none.gone), (True, False))
 
+    def test_watched_searches(self) -> None:
+        record = read("watch w same XO\nwatched w\nwatch w X\nwatched v\n", """1 watch w version 1 hits 1
+2 watched w version 2 games 7 hits 1
+hit 3 5 1 2 0 -
+total 1 0 0 0 0 1
+3 watch w taken
+4 watched v none
+""")
+        begun, told, taken, none = record.answers
+        self.assertEqual((begun.name, begun.found, begun.taken), ("w", 1, False))
+        self.assertEqual((told.version, told.games, len(told.hits)), (2, 7, 1))
+        self.assertEqual([answer.statement.question.rows for answer in (begun, told, taken)], [("XO",)] * 3)
+        self.assertEqual((taken.found, taken.taken), (None, True))
+        self.assertEqual((none.found, none.taken, none.statement.question), (None, False, None))
+
     def test_reports_of_imports(self) -> None:
         record = read("import damaged\nimport none\nimport many\nwait", """1 import damaged
 1 imported files 5 accepted 2 refused 1 full 1 unread 1 games 3 version 1

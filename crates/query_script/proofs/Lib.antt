@@ -18,6 +18,7 @@ pub mod ToldConditions
 pub mod FilteredBodies
 pub mod KeptBodies
 pub mod OpeningWords
+pub mod NamedBodies
 pub mod ToldStatements
 pub mod SomeStatements
 pub mod OneList

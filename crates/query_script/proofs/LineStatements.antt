@@ -9,7 +9,7 @@ use Rattle.query_script.specs.declared.line.Line.TheVariants as line
 use Rattle.query_script.specs.declared.statement.Statement.{Statement}
 use Rattle.query_script.specs.declared.statement.Statement.TheVariants as statement
 use Rattle.query_script.specs.declared.word.Word.{Word}
-use Rattle.query_script.specs.Conditions.{IsFilteredBody}
+use Rattle.query_script.specs.Conditions.{IsFilteredBody, IsNamedBody}
 use Rattle.query_script.specs.Lines.{IsLine}
 use Rattle.query_script.specs.Reading.{BeginsWithNoBlank}
 use Rattle.query_script.specs.Script.{IsSearch}
@@ -38,6 +38,15 @@ kept-none (Ok None) words rest is none = λ query (body, name, spelled).
     none query (subst (λ l. IsKeptBody l query) same spelled)
 kept-none (Err e) words rest is none = tt
 
+-- no watched search where the words behind its name spell none
+pub watch-none : {E T : Type 0} (result : Result (Option T) E) (words rest : List Word) → words ≡ bare (codes "watch") ∷ rest → IfOk result (λ found. IfNone found ((name : List ℕ) (query : Query) (filter : Filter) → ¬ IsNamedBody rest name query filter)) → IfOk result (λ found. IfNone found ((name : List ℕ) (query : Query) (filter : Filter) → ¬ IsStatement words (statement.Watch name query filter)))
+watch-none (Ok (Some found)) words rest is none = tt
+watch-none (Ok None) words rest is none = λ name query filter (body, begins, spelled).
+    let both : bare (codes "watch") ∷ rest ≡ bare (codes "watch") ∷ body = sym is ∙ begins in
+    let same : body ≡ rest = cc in
+    none name query filter (subst (λ l. IsNamedBody l name query filter) same spelled)
+watch-none (Err e) words rest is none = tt
+
 -- no statement of any kind
 pub no_statement : (words : List Word) →
     ((query : Query) (filter : Filter) → ¬ IsStatement words (statement.Search query filter)) → ((path : List ℕ) → ¬ IsStatement words (statement.Import path)) →
@@ -46,21 +55,24 @@ pub no_statement : (words : List Word) →
     words ≢ bare (codes "players") ∷ [] → words ≢ bare (codes "doubles") ∷ [] → ((number : ℕ) → ¬ IsStatement words (statement.Game number)) →
     ((shape : Shape) (depth least : ℕ) → ¬ IsStatement words (statement.Opening shape depth least)) →
     words ≢ bare (codes "report") ∷ [] → ((name : List ℕ) → ¬ IsStatement words (statement.Retire name)) →
+    ((name : List ℕ) (query : Query) (filter : Filter) → ¬ IsStatement words (statement.Watch name query filter)) → ((name : List ℕ) → ¬ IsStatement words (statement.Watched name)) →
     (s : Statement) → ¬ IsStatement words s
-no_statement words searched import_ make wait until kept signature players doubles game opening report retire (statement.Import path) is = import_ path is
-no_statement words searched import_ make wait until kept signature players doubles game opening report retire (statement.Make games start) is = make games start is
-no_statement words searched import_ make wait until kept signature players doubles game opening report retire statement.Wait is = wait is
-no_statement words searched import_ make wait until kept signature players doubles game opening report retire (statement.Until number) is = until number is
-no_statement words searched import_ make wait until kept signature players doubles game opening report retire (statement.Search query filter) is = searched query filter is
-no_statement words searched import_ make wait until kept signature players doubles game opening report retire (statement.Together searches) is = is
-no_statement words searched import_ make wait until kept signature players doubles game opening report retire (statement.Kept query) is = kept query is
-no_statement words searched import_ make wait until kept signature players doubles game opening report retire (statement.Signature pattern) is = signature pattern is
-no_statement words searched import_ make wait until kept signature players doubles game opening report retire statement.Players is = players is
-no_statement words searched import_ make wait until kept signature players doubles game opening report retire statement.Doubles is = doubles is
-no_statement words searched import_ make wait until kept signature players doubles game opening report retire (statement.Game number) is = game number is
-no_statement words searched import_ make wait until kept signature players doubles game opening report retire (statement.Opening shape depth least) is = opening shape depth least is
-no_statement words searched import_ make wait until kept signature players doubles game opening report retire statement.Report is = report is
-no_statement words searched import_ make wait until kept signature players doubles game opening report retire (statement.Retire name) is = retire name is
+no_statement words searched import_ make wait until kept signature players doubles game opening report retire watch watched (statement.Import path) is = import_ path is
+no_statement words searched import_ make wait until kept signature players doubles game opening report retire watch watched (statement.Make games start) is = make games start is
+no_statement words searched import_ make wait until kept signature players doubles game opening report retire watch watched statement.Wait is = wait is
+no_statement words searched import_ make wait until kept signature players doubles game opening report retire watch watched (statement.Until number) is = until number is
+no_statement words searched import_ make wait until kept signature players doubles game opening report retire watch watched (statement.Search query filter) is = searched query filter is
+no_statement words searched import_ make wait until kept signature players doubles game opening report retire watch watched (statement.Together searches) is = is
+no_statement words searched import_ make wait until kept signature players doubles game opening report retire watch watched (statement.Kept query) is = kept query is
+no_statement words searched import_ make wait until kept signature players doubles game opening report retire watch watched (statement.Signature pattern) is = signature pattern is
+no_statement words searched import_ make wait until kept signature players doubles game opening report retire watch watched statement.Players is = players is
+no_statement words searched import_ make wait until kept signature players doubles game opening report retire watch watched statement.Doubles is = doubles is
+no_statement words searched import_ make wait until kept signature players doubles game opening report retire watch watched (statement.Game number) is = game number is
+no_statement words searched import_ make wait until kept signature players doubles game opening report retire watch watched (statement.Opening shape depth least) is = opening shape depth least is
+no_statement words searched import_ make wait until kept signature players doubles game opening report retire watch watched statement.Report is = report is
+no_statement words searched import_ make wait until kept signature players doubles game opening report retire watch watched (statement.Retire name) is = retire name is
+no_statement words searched import_ make wait until kept signature players doubles game opening report retire watch watched (statement.Watch name query filter) is = watch name query filter is
+no_statement words searched import_ make wait until kept signature players doubles game opening report retire watch watched (statement.Watched name) is = watched name is
 
 -- ---- the kinds of statements, by the words with which they begin
 
@@ -79,6 +91,8 @@ pub data Kind : Type 0 where
   opens : Kind
   reports : Kind
   retires : Kind
+  watches : Kind
+  tells : Kind
 
 -- the kind of a statement; a block has none
 abbrev pub kind_of : Statement → Option Kind
@@ -96,6 +110,8 @@ kind_of (statement.Game number) = Some shows
 kind_of (statement.Opening shape depth least) = Some opens
 kind_of statement.Report = Some reports
 kind_of (statement.Retire name) = Some retires
+kind_of (statement.Watch name query filter) = Some watches
+kind_of (statement.Watched name) = Some tells
 
 -- the kind of the statements that begin with this bare word
 abbrev pub kind_named : List ℕ → Option Kind
@@ -113,7 +129,9 @@ kind_named name =
     else (if bytes_eq name (codes "opening") then Some opens
     else (if bytes_eq name (codes "report") then Some reports
     else (if bytes_eq name (codes "retire") then Some retires
-    else None))))))))))))
+    else (if bytes_eq name (codes "watch") then Some watches
+    else (if bytes_eq name (codes "watched") then Some tells
+    else None))))))))))))))
 
 -- the statement is of this kind
 abbrev pub IsOfKind : Option Kind → Statement → Type 0
@@ -130,6 +148,8 @@ IsOfKind (Some shows) s = (number : ℕ) × (s ≡ statement.Game number)
 IsOfKind (Some opens) s = (shape : Shape) × (depth : ℕ) × (least : ℕ) × (s ≡ statement.Opening shape depth least)
 IsOfKind (Some reports) s = s ≡ statement.Report
 IsOfKind (Some retires) s = (name : List ℕ) × (s ≡ statement.Retire name)
+IsOfKind (Some watches) s = (name : List ℕ) × (query : Query) × (filter : Filter) × (s ≡ statement.Watch name query filter)
+IsOfKind (Some tells) s = (name : List ℕ) × (s ≡ statement.Watched name)
 IsOfKind None s = Unit {0}
 
 of_kind : (s : Statement) → IsOfKind (kind_of s) s
@@ -147,6 +167,8 @@ of_kind (statement.Game number) = (number, refl)
 of_kind (statement.Opening shape depth least) = (shape, depth, least, refl)
 of_kind statement.Report = refl
 of_kind (statement.Retire name) = (name, refl)
+of_kind (statement.Watch name query filter) = (name, query, filter, refl)
+of_kind (statement.Watched name) = (name, refl)
 
 -- the words begin with a bare word that names the kind of the statement
 record IsNamed (words : List Word) (s : Statement) : Type 0 where
@@ -172,6 +194,8 @@ name_of words (statement.Game number) (w, is, number_is, bound) = record { name 
 name_of words (statement.Opening shape depth least) (c, r, d, m, is, numbers) = record { name = codes "opening"; rest = c ∷ r ∷ d ∷ m ∷ []; kind = opens; begins = is; names = refl; is_kind = refl }
 name_of words statement.Report is = record { name = codes "report"; rest = []; kind = reports; begins = is; names = refl; is_kind = refl }
 name_of words (statement.Retire name) (is, utf8) = record { name = codes "retire"; rest = bare name ∷ []; kind = retires; begins = is; names = refl; is_kind = refl }
+name_of words (statement.Watch name query filter) (body, is, spelled) = record { name = codes "watch"; rest = body; kind = watches; begins = is; names = refl; is_kind = refl }
+name_of words (statement.Watched name) (is, utf8) = record { name = codes "watched"; rest = bare name ∷ []; kind = tells; begins = is; names = refl; is_kind = refl }
 
 -- words that begin with a name spell a statement of its kind
 pub of_name : (words rest : List Word) (name : List ℕ) (s : Statement) → words ≡ bare name ∷ rest → IsStatement words s → IsOfKind (kind_named name) s

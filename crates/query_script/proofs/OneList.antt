@@ -105,6 +105,8 @@ module _ (lines : List (List ℕ)) where
   alone_once k s (statement.Opening shape depth least) one other = spells_once (line_at lines k) s (statement.Opening shape depth least) one.spelled other.spelled
   alone_once k s statement.Report one other = spells_once (line_at lines k) s statement.Report one.spelled other.spelled
   alone_once k s (statement.Retire name) one other = spells_once (line_at lines k) s (statement.Retire name) one.spelled other.spelled
+  alone_once k s (statement.Watch name query filter) one other = spells_once (line_at lines k) s (statement.Watch name query filter) one.spelled other.spelled
+  alone_once k s (statement.Watched name) one other = spells_once (line_at lines k) s (statement.Watched name) one.spelled other.spelled
 
   block_once : (k : ℕ) (searches : List PlacedSearch) (t : Statement) → IsStatementAt lines k (statement.Together searches) → IsStatementAt lines k t →
       statement.Together searches ≡ t
@@ -122,6 +124,8 @@ module _ (lines : List (List ℕ)) where
   block_once k searches (statement.Opening shape depth least) one other = absurd (not_both (line_at lines k) (statement.Opening shape depth least) one.0 other.spelled)
   block_once k searches statement.Report one other = absurd (not_both (line_at lines k) statement.Report one.0 other.spelled)
   block_once k searches (statement.Retire name) one other = absurd (not_both (line_at lines k) (statement.Retire name) one.0 other.spelled)
+  block_once k searches (statement.Watch name query filter) one other = absurd (not_both (line_at lines k) (statement.Watch name query filter) one.0 other.spelled)
+  block_once k searches (statement.Watched name) one other = absurd (not_both (line_at lines k) (statement.Watched name) one.0 other.spelled)
 
   stands_once : (k : ℕ) (s t : Statement) → IsStatementAt lines k s → IsStatementAt lines k t → s ≡ t
   stands_once k (statement.Import path) t one other = alone_once k (statement.Import path) t one other
@@ -138,6 +142,8 @@ module _ (lines : List (List ℕ)) where
   stands_once k (statement.Opening shape depth least) t one other = alone_once k (statement.Opening shape depth least) t one other
   stands_once k statement.Report t one other = alone_once k statement.Report t one other
   stands_once k (statement.Retire name) t one other = alone_once k (statement.Retire name) t one other
+  stands_once k (statement.Watch name query filter) t one other = alone_once k (statement.Watch name query filter) t one other
+  stands_once k (statement.Watched name) t one other = alone_once k (statement.Watched name) t one other
 
   same_placed : (p q : Placed) → p.line ≡ q.line → p.statement ≡ q.statement → p ≡ q
   same_placed p q line statement =

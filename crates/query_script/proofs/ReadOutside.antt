@@ -29,6 +29,8 @@ stands_cases (statement.Game number) h = inl h
 stands_cases (statement.Opening shape depth least) h = inl h
 stands_cases statement.Report h = inl h
 stands_cases (statement.Retire name) h = inl h
+stands_cases (statement.Watch name query filter) h = inl h
+stands_cases (statement.Watched name) h = inl h
 
 -- what a line outside blocks spells stands there alone
 stands_there : {lines : List (List ℕ)} {k : ℕ} (s : Statement) → SpellsStatement (line_at lines k) s → ((j : ℕ) → ¬ IsInBlock lines j k) → IsStatementAt lines k s
@@ -46,6 +48,8 @@ stands_there (statement.Game number) h outside = record { spelled = h; outside =
 stands_there (statement.Opening shape depth least) h outside = record { spelled = h; outside = outside }
 stands_there statement.Report h outside = record { spelled = h; outside = outside }
 stands_there (statement.Retire name) h outside = record { spelled = h; outside = outside }
+stands_there (statement.Watch name query filter) h outside = record { spelled = h; outside = outside }
+stands_there (statement.Watched name) h outside = record { spelled = h; outside = outside }
 
 module _ (lines : List (List ℕ)) where
   -- nothing is read yet

@@ -124,6 +124,10 @@ module _ (lines : List (List ℕ)) where
       inl (broken placed first k (other_statement lines k placed first searches h statement.Report (λ is. absurd (cc is.2)) at))
   step_statement k placed first searches h (statement.Retire name) at =
       inl (broken placed first k (other_statement lines k placed first searches h (statement.Retire name) (λ is. absurd (cc is.2)) at))
+  step_statement k placed first searches h (statement.Watch name query filter) at =
+      inl (broken placed first k (other_statement lines k placed first searches h (statement.Watch name query filter) (λ is. absurd (cc is.2)) at))
+  step_statement k placed first searches h (statement.Watched name) at =
+      inl (broken placed first k (other_statement lines k placed first searches h (statement.Watched name) (λ is. absurd (cc is.2)) at))
 
   step_end : (k : ℕ) (placed : List Placed) (first : ℕ) (searches : List PlacedSearch) → IsReadInside lines k placed first searches →
       IsLineAt lines k line.End → Step k

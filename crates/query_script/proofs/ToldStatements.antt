@@ -1,9 +1,8 @@
 -- Whether words spell a statement can be told, and they spell one at most.
-use Rattle.std.proofs.Common.{◌≡◌, ◌≢◌, ◌⊎◌, ◌≤◌, ◌∙◌, ℕ, All, Bool, true, false, List, [], ◌∷◌, codes, length, refl, sym, ap, subst, inl, inr, arith}
+use Rattle.std.proofs.Common.{◌≡◌, ◌≢◌, ◌⊎◌, ◌≤◌, ◌∙◌, ℕ, All, List, [], ◌∷◌, codes, length, refl, sym, ap, subst, inl, inr, arith}
 use Rattle.std.proofs.lemmas.Bool.{cases_eq, cases_lt}
 use Rattle.std.proofs.lemmas.List.Elements.{All-cons, All-head, All-nil, All-tail}
-use Rattle.std.proofs.lemmas.Str.{IsUtf8-from_is_utf8, is_utf8-from_IsUtf8}
-use Rattle.std.specs.Str.{IsUtf8, is_utf8}
+use Rattle.std.specs.Str.{IsUtf8}
 use Rattle.dyer_signature.specs.declared.bytes.SigPattern.{SigPattern}
 use Rattle.dyer_signature.specs.Patterns.{IsSignaturePatternByte, star}
 use Rattle.dyer_signature.specs.Signatures.{question_mark}
@@ -14,7 +13,7 @@ use Rattle.query_script.specs.declared.statement.Statement.{Statement}
 use Rattle.query_script.specs.declared.statement.Statement.TheVariants as statement
 use Rattle.query_script.specs.declared.word.Word.{Word}
 use Rattle.query_script.specs.declared.word.Word.TheVariants as word
-use Rattle.query_script.specs.Conditions.{IsFilteredBody}
+use Rattle.query_script.specs.Conditions.{IsFilteredBody, IsNamedBody}
 use Rattle.query_script.specs.Reading.{BeginsOtherwise}
 use Rattle.query_script.specs.Search.{IsKeptBody}
 use Rattle.query_script.specs.Statements.{IsPath, IsSignaturePattern, IsStatement, AreMakeNumbers, greatest_start, most_games_made, most_number}
@@ -24,6 +23,7 @@ use Rattle.query_script.proofs.Numbers.{IsNumber-once}
 use Rattle.query_script.proofs.FilteredBodies.{told_filtered_body}
 use Rattle.query_script.proofs.KeptBodies.{told_kept_body}
 use Rattle.query_script.proofs.OpeningWords.{opening_once, told_opening}
+use Rattle.query_script.proofs.NamedBodies.{told_named_body, told_utf8}
 use Rattle.query_script.proofs.ToldSearches.{behind_name, same_bare, same_first, same_rest, told_name, told_up_to}
 
 -- the statement that words spell, and no other
@@ -46,13 +46,6 @@ told_single (w ∷ v ∷ rest) = inr (λ u e. absurd (cc e))
 
 single_once : (words : List Word) (w v : Word) → words ≡ w ∷ [] → words ≡ v ∷ [] → w ≡ v
 single_once words w v one other = same_first w v [] [] (sym one ∙ other)
-
-told_test : (b : Bool) (P : Type 0) → (b ≡ true → P) → (P → b ≡ true) → Told P
-told_test true P there back = inl (there refl)
-told_test false P there back = inr (λ p. let apart : false ≡ true = back p in cc)
-
-told_utf8 : (bytes : List ℕ) → Told (IsUtf8 bytes)
-told_utf8 bytes = told_test (is_utf8 bytes) (IsUtf8 bytes) (IsUtf8-from_is_utf8 bytes) (is_utf8-from_IsUtf8 bytes)
 
 -- one bare word, or not
 told_single_bare : (words : List Word) → ((bytes : List ℕ) × (words ≡ bare bytes ∷ [])) ⊎ ((bytes : List ℕ) → words ≢ bare bytes ∷ [])
@@ -312,6 +305,46 @@ retire_there words rest begins = elim (told_single_bare rest) [
   ]
 ]
 
+watch_there : (words rest : List Word) → words ≡ bare (codes "watch") ∷ rest → ToldStatement words
+watch_there words rest begins = elim (told_named_body rest) [
+  | inr never ↦ inr (λ s is.
+      let (name, query, filter, same) = of_name words rest (codes "watch") s begins is in
+      let (body, both, spelled) = subst (IsStatement words) same is in
+      never name query filter (subst (λ l. IsNamedBody l name query filter) (sym (behind_name (codes "watch") words rest body begins both)) spelled))
+  | inl (name, query, filter, spelled, only) ↦ inl (
+    statement.Watch name query filter,
+    (rest, begins, spelled),
+    λ s is.
+        let (other, another, others, same) = of_name words rest (codes "watch") s begins is in
+        let (body, both, spelled_too) = subst (IsStatement words) same is in
+        let here : IsNamedBody rest other another others = subst (λ l. IsNamedBody l other another others) (sym (behind_name (codes "watch") words rest body begins both)) spelled_too in
+        let (names, queries, filters) = only other another others here in
+        same ∙ ap (λ n. statement.Watch n another others) names ∙ ap (λ q. statement.Watch name q others) queries ∙ ap (λ f. statement.Watch name query f) filters,
+  )
+]
+
+watched_there : (words rest : List Word) → words ≡ bare (codes "watched") ∷ rest → ToldStatement words
+watched_there words rest begins = elim (told_single_bare rest) [
+  | inr never ↦ inr (λ s is.
+      let (name, same) = of_name words rest (codes "watched") s begins is in
+      let (both, utf8) = subst (IsStatement words) same is in
+      never name (behind_name (codes "watched") words rest (bare name ∷ []) begins both))
+  | inl (bytes, single) ↦ elim (told_utf8 bytes) [
+    | inr never ↦ inr (λ s is.
+        let (name, same) = of_name words rest (codes "watched") s begins is in
+        let (both, utf8) = subst (IsStatement words) same is in
+        never (subst IsUtf8 (single_bare_once rest name bytes (behind_name (codes "watched") words rest (bare name ∷ []) begins both) single) utf8))
+    | inl utf8 ↦ inl (
+      statement.Watched bytes,
+      (begins ∙ ap (λ l. bare (codes "watched") ∷ l) single, utf8),
+      λ s is.
+          let (name, same) = of_name words rest (codes "watched") s begins is in
+          let (both, _) = subst (IsStatement words) same is in
+          same ∙ ap (λ n. statement.Watched n) (single_bare_once rest name bytes (behind_name (codes "watched") words rest (bare name ∷ []) begins both) single),
+    )
+  ]
+]
+
 until_there : (words rest : List Word) → words ≡ bare (codes "until") ∷ rest → ToldStatement words
 until_there words rest name = elim (told_single rest) [
   | inr never ↦ inr (λ s is.
@@ -383,21 +416,23 @@ opening_there words rest name = elim (told_opening rest) [
 none_there : (words : List Word) → BeginsOtherwise (codes "import") words → BeginsOtherwise (codes "make") words → BeginsOtherwise (codes "wait") words →
     BeginsOtherwise (codes "until") words → BeginsOtherwise (codes "search") words → BeginsOtherwise (codes "kept") words → BeginsOtherwise (codes "signature") words →
     BeginsOtherwise (codes "players") words → BeginsOtherwise (codes "doubles") words → BeginsOtherwise (codes "game") words → BeginsOtherwise (codes "opening") words →
-    BeginsOtherwise (codes "report") words → BeginsOtherwise (codes "retire") words → NoStatement words
-none_there words import_ make wait until searched kept signature players doubles game opening report retire (statement.Import path) (w, is, _) = import_ (w ∷ []) is
-none_there words import_ make wait until searched kept signature players doubles game opening report retire (statement.Make games start) (w, v, is, _) = make (w ∷ v ∷ []) is
-none_there words import_ make wait until searched kept signature players doubles game opening report retire statement.Wait is = wait [] is
-none_there words import_ make wait until searched kept signature players doubles game opening report retire (statement.Until number) (w, is, _, _) = until (w ∷ []) is
-none_there words import_ make wait until searched kept signature players doubles game opening report retire (statement.Search query filter) (body, is, _) = searched body is
-none_there words import_ make wait until searched kept signature players doubles game opening report retire (statement.Kept query) (body, is, _) = kept body is
-none_there words import_ make wait until searched kept signature players doubles game opening report retire (statement.Signature pattern) (is, _) = signature (bare pattern.bytes ∷ []) is
-none_there words import_ make wait until searched kept signature players doubles game opening report retire statement.Players is = players [] is
-none_there words import_ make wait until searched kept signature players doubles game opening report retire statement.Doubles is = doubles [] is
-none_there words import_ make wait until searched kept signature players doubles game opening report retire (statement.Game number) (w, is, _, _) = game (w ∷ []) is
-none_there words import_ make wait until searched kept signature players doubles game opening report retire (statement.Together searches) is = is
-none_there words import_ make wait until searched kept signature players doubles game opening report retire (statement.Opening shape depth least) (c, r, d, m, is, _) = opening (c ∷ r ∷ d ∷ m ∷ []) is
-none_there words import_ make wait until searched kept signature players doubles game opening report retire statement.Report is = report [] is
-none_there words import_ make wait until searched kept signature players doubles game opening report retire (statement.Retire name) (is, _) = retire (bare name ∷ []) is
+    BeginsOtherwise (codes "report") words → BeginsOtherwise (codes "retire") words → BeginsOtherwise (codes "watch") words → BeginsOtherwise (codes "watched") words → NoStatement words
+none_there words import_ make wait until searched kept signature players doubles game opening report retire watch watched (statement.Import path) (w, is, _) = import_ (w ∷ []) is
+none_there words import_ make wait until searched kept signature players doubles game opening report retire watch watched (statement.Make games start) (w, v, is, _) = make (w ∷ v ∷ []) is
+none_there words import_ make wait until searched kept signature players doubles game opening report retire watch watched statement.Wait is = wait [] is
+none_there words import_ make wait until searched kept signature players doubles game opening report retire watch watched (statement.Until number) (w, is, _, _) = until (w ∷ []) is
+none_there words import_ make wait until searched kept signature players doubles game opening report retire watch watched (statement.Search query filter) (body, is, _) = searched body is
+none_there words import_ make wait until searched kept signature players doubles game opening report retire watch watched (statement.Kept query) (body, is, _) = kept body is
+none_there words import_ make wait until searched kept signature players doubles game opening report retire watch watched (statement.Signature pattern) (is, _) = signature (bare pattern.bytes ∷ []) is
+none_there words import_ make wait until searched kept signature players doubles game opening report retire watch watched statement.Players is = players [] is
+none_there words import_ make wait until searched kept signature players doubles game opening report retire watch watched statement.Doubles is = doubles [] is
+none_there words import_ make wait until searched kept signature players doubles game opening report retire watch watched (statement.Game number) (w, is, _, _) = game (w ∷ []) is
+none_there words import_ make wait until searched kept signature players doubles game opening report retire watch watched (statement.Together searches) is = is
+none_there words import_ make wait until searched kept signature players doubles game opening report retire watch watched (statement.Opening shape depth least) (c, r, d, m, is, _) = opening (c ∷ r ∷ d ∷ m ∷ []) is
+none_there words import_ make wait until searched kept signature players doubles game opening report retire watch watched statement.Report is = report [] is
+none_there words import_ make wait until searched kept signature players doubles game opening report retire watch watched (statement.Retire name) (is, _) = retire (bare name ∷ []) is
+none_there words import_ make wait until searched kept signature players doubles game opening report retire watch watched (statement.Watch name query filter) (body, is, _) = watch body is
+none_there words import_ make wait until searched kept signature players doubles game opening report retire watch watched (statement.Watched name) (is, _) = watched (bare name ∷ []) is
 
 -- of words that begin with the name of none of the first seven kinds it can be told
 told_later : (words : List Word) → BeginsOtherwise (codes "import") words → BeginsOtherwise (codes "make") words → BeginsOtherwise (codes "wait") words →
@@ -415,7 +450,13 @@ told_later words import_ make wait until searched kept signature = elim (told_na
           | inl (rest, is) ↦ report_there words rest is
           | inr report ↦ elim (told_name (codes "retire") words) [
             | inl (rest, is) ↦ retire_there words rest is
-            | inr retire ↦ inr (none_there words import_ make wait until searched kept signature players doubles game opening report retire)
+            | inr retire ↦ elim (told_name (codes "watch") words) [
+              | inl (rest, is) ↦ watch_there words rest is
+              | inr watch ↦ elim (told_name (codes "watched") words) [
+                | inl (rest, is) ↦ watched_there words rest is
+                | inr watched ↦ inr (none_there words import_ make wait until searched kept signature players doubles game opening report retire watch watched)
+              ]
+            ]
           ]
         ]
       ]

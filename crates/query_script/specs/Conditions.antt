@@ -1,6 +1,6 @@
 -- The words of a search with its conditions: the body, and behind it perhaps `where COND` and any
--- number of `and COND`.
-use Rattle.std.specs.Prelude.{◌≡◌, ℕ, ℤ, List, [], ◌∷◌, ◌++◌, codes}
+-- number of `and COND`. In front of it may stand the name under which it is watched.
+use Rattle.std.specs.Prelude.{◌≡◌, ℕ, ℤ, List, [], ◌∷◌, ◌++◌, codes, IsUtf8}
 use Rattle.kb_geometry.specs.declared.stone.Outcome.{Outcome}
 use Rattle.kb_geometry.specs.declared.stone.Outcome.TheVariants as outcome
 use Rattle.info_filter.specs.declared.condition.Condition.{Condition}
@@ -61,3 +61,11 @@ pub record IsFilteredBody (words : List Word) (query : Query) (filter : Filter) 
   pub split : words ≡ body ++ asked
   pub body_is : IsBody body query
   pub asked_is : AreConditions (codes "where") filter.conditions asked
+
+-- The words behind `watch` spell the name, a bare word in UTF-8, and then what stands behind `search`.
+pub record IsNamedBody (words : List Word) (name : List ℕ) (query : Query) (filter : Filter)
+    : Type 0 where
+  pub body : List Word
+  pub split : words ≡ bare name ∷ body
+  pub utf8 : IsUtf8 name
+  pub body_is : IsFilteredBody body query filter

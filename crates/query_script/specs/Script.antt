@@ -156,6 +156,9 @@ IsStatementAt lines k (statement.Opening shape depth least) =
     StandsAlone lines k (statement.Opening shape depth least)
 IsStatementAt lines k statement.Report = StandsAlone lines k statement.Report
 IsStatementAt lines k (statement.Retire name) = StandsAlone lines k (statement.Retire name)
+IsStatementAt lines k (statement.Watch name query filter) =
+    StandsAlone lines k (statement.Watch name query filter)
+IsStatementAt lines k (statement.Watched name) = StandsAlone lines k (statement.Watched name)
 
 -- a statement stands at this line
 pub record IsPlacedAt (lines : List (List ℕ)) (p : Placed) : Type 0 where

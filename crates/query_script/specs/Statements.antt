@@ -9,7 +9,7 @@ use Rattle.query_script.specs.declared.statement.Statement.{Statement}
 use Rattle.query_script.specs.declared.statement.Statement.TheVariants as statement
 use Rattle.query_script.specs.declared.word.Word.{Word}
 use Rattle.query_script.specs.Bytes.{number_sign}
-use Rattle.query_script.specs.Conditions.{IsFilteredBody}
+use Rattle.query_script.specs.Conditions.{IsFilteredBody, IsNamedBody}
 use Rattle.query_script.specs.Search.{IsKeptBody, IsSideNumber, most_moves}
 use Rattle.query_script.specs.Words.{AreBlanks, AreWords, IsNumber, bare, bytes_of}
 
@@ -84,6 +84,10 @@ IsStatement words (statement.Opening shape depth least) =
 IsStatement words statement.Report = words ≡ bare (codes "report") ∷ []
 IsStatement words (statement.Retire name) =
     (words ≡ bare (codes "retire") ∷ bare name ∷ []) × IsUtf8 name
+IsStatement words (statement.Watch name query filter) = (body : List Word)
+    × (words ≡ bare (codes "watch") ∷ body) × IsNamedBody body name query filter
+IsStatement words (statement.Watched name) =
+    (words ≡ bare (codes "watched") ∷ bare name ∷ []) × IsUtf8 name
 
 -- the line spells the statement
 abbrev pub SpellsStatement : List ℕ → Statement → Type 0

@@ -130,6 +130,32 @@ abbrev pub no_retire_text : ℕ → List ℕ → List ℕ
 no_retire_text line name =
     line_text (decimal line ∷ codes " retire " ∷ name ∷ codes " none" ∷ [])
 
+-- `LINE watch NAME version V hits H`
+abbrev pub watch_text : ℕ → List ℕ → ℕ → ℕ → List ℕ
+watch_text line name version hits = line_text (decimal line ∷ codes " watch " ∷ name
+    ∷ codes " version " ∷ decimal version ∷ codes " hits " ∷ decimal hits ∷ [])
+
+-- `LINE watch NAME taken`
+abbrev pub taken_text : ℕ → List ℕ → List ℕ
+taken_text line name = line_text (decimal line ∷ codes " watch " ∷ name ∷ codes " taken" ∷ [])
+
+-- `LINE watched NAME version V games G hits H`
+abbrev pub watched_head : ℕ → List ℕ → ℕ → ℕ → ℕ → List ℕ
+watched_head line name version games hits = line_text (decimal line ∷ codes " watched " ∷ name
+    ∷ codes " version " ∷ decimal version ∷ codes " games " ∷ decimal games ∷ codes " hits "
+    ∷ decimal hits ∷ [])
+
+-- the head of a watched search, its hits, the rows and the totals of their table
+abbrev pub watched_text : ℕ → List ℕ → ℕ → ℕ → List Hit → TableView → List ℕ
+watched_text line name version games hits table =
+    watched_head line name version games (length hits)
+    ++ (flat_map hit_text hits ++ (flat_map row_text table.rows ++ total_text table.totals))
+
+-- `LINE watched NAME none`
+abbrev pub no_watch_text : ℕ → List ℕ → List ℕ
+no_watch_text line name =
+    line_text (decimal line ∷ codes " watched " ∷ name ∷ codes " none" ∷ [])
+
 -- `LINE kept version V games G kept K`
 abbrev pub kept_text : ℕ → ℕ → ℕ → ℕ → List ℕ
 kept_text line version games kept =

@@ -97,7 +97,7 @@ fn append_hit(out: &mut Vec<u8>, hit: &Hit) -> Result<(), NoMemory>
 }
 
 // Appends the lines of hits, in order.
-fn append_hits(out: &mut Vec<u8>, hits: &[Hit]) -> Result<(), NoMemory>
+pub(crate) fn append_hits(out: &mut Vec<u8>, hits: &[Hit]) -> Result<(), NoMemory>
     ensures ok { OnOk result (out.new.items ≡ out.old.items ++ flat_map hit_text hits.now) }
     ensures refused { OnErr result (IsPrefix out.old.items out.new.items) }
 {
@@ -145,7 +145,7 @@ fn append_row(out: &mut Vec<u8>, row: &Row) -> Result<(), NoMemory>
 }
 
 // Appends rows, in order.
-fn append_rows(out: &mut Vec<u8>, rows: &[Row]) -> Result<(), NoMemory>
+pub(crate) fn append_rows(out: &mut Vec<u8>, rows: &[Row]) -> Result<(), NoMemory>
     ensures ok { OnOk result (out.new.items ≡ out.old.items ++ flat_map row_text rows.now) }
     ensures refused { OnErr result (IsPrefix out.old.items out.new.items) }
 {
@@ -156,7 +156,7 @@ fn append_rows(out: &mut Vec<u8>, rows: &[Row]) -> Result<(), NoMemory>
 }
 
 // Appends the totals.
-fn append_totals(out: &mut Vec<u8>, totals: Tally) -> Result<(), NoMemory>
+pub(crate) fn append_totals(out: &mut Vec<u8>, totals: Tally) -> Result<(), NoMemory>
     ensures ok { OnOk result (out.new.items ≡ out.old.items ++ total_text totals) }
     ensures refused { OnErr result (IsPrefix out.old.items out.new.items) }
 {

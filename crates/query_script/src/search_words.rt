@@ -288,3 +288,15 @@ pub(crate) fn only_bare(words: &[Word]) -> Option<&[u8]>
         _ => None,
     }
 }
+
+// The bytes of the first word, if there is one and it is bare, and the words behind it.
+pub(crate) fn first_bare(words: &[Word]) -> Option<(&[u8], &[Word])>
+    ensures some { IfSome result (λ r. words.now ≡ bare r.0.now ∷ r.1.now) }
+    ensures none { result ≡ None → (bytes : List ℕ) (rest : List Word) →
+        words.now ≢ bare bytes ∷ rest }
+{
+    match words {
+        [Word::Bare(bytes), rest @ ..] => Some((bytes.as_slice(), rest)),
+        _ => None,
+    }
+}

@@ -73,6 +73,17 @@ pub enum Statement {
     Retire {
         name: Text,
     },
+    /// `watch NAME ..`: a search under a name, whose hits are kept up by [`Statement::Watched`].
+    /// Without `where` the filter has no condition.
+    Watch {
+        name: Text,
+        query: Query,
+        filter: Filter,
+    },
+    /// `watched NAME`: the hits of the watched search of this name.
+    Watched {
+        name: Text,
+    },
 }
 
 /// A statement and its line, from 1. A block of searches has the line of its `together`.

@@ -26,7 +26,7 @@ ghost use Rattle.info_filter.specs.declared.filter.Filter.{Filter};
 ghost use Rattle.query_script.specs.declared.statement.Statement.{Statement};
 ghost use Rattle.query_script.specs.declared.statement.Statement.TheVariants as statement;
 ghost use Rattle.query_script.specs.declared.word.Word.{Word};
-ghost use Rattle.query_script.specs.Conditions.{IsFilteredBody};
+ghost use Rattle.query_script.specs.Conditions.{IsFilteredBody, IsNamedBody};
 ghost use Rattle.query_script.specs.Statements.{
   AreMakeNumbers,
   AreOpeningNumbers,
@@ -39,7 +39,7 @@ ghost use Rattle.query_script.specs.Words.{IsNumber, bare};
 use crate::conditions::{filter_of, parted_at_where};
 use crate::kept_words::kept_query_of;
 use crate::number::number_up_to;
-use crate::search_words::{MAX_MOVES, behind_name, only_bare, query_of, shape_of};
+use crate::search_words::{MAX_MOVES, behind_name, first_bare, only_bare, query_of, shape_of};
 use crate::statement::Statement;
 use crate::word::Word;
 use dyer_signature::SigPattern;
@@ -81,6 +81,16 @@ pub(crate) fn statement_of(alloc: Global, words: &[Word]) -> Result<Option<State
     }
     if let Some(name) = retire_of(alloc, words)? {
         return Ok(Some(Statement::Retire { name }));
+    }
+    if let Some((name, query, filter)) = watch_of(alloc, words)? {
+        return Ok(Some(Statement::Watch {
+            name,
+            query,
+            filter,
+        }));
+    }
+    if let Some(name) = watched_of(alloc, words)? {
+        return Ok(Some(Statement::Watched { name }));
     }
     Ok(None)
 }
@@ -346,6 +356,57 @@ fn retire_of(alloc: Global, words: &[Word]) -> Result<Option<Text>, NoMemory>
         ¬ IsStatement words.now (statement.Retire name))) }
 {
     let Some(rest) = behind_name(words, b"retire") else {
+        return Ok(None);
+    };
+    let Some(name) = only_bare(rest) else {
+        return Ok(None);
+    };
+    text_of(alloc, name)
+}
+
+// The name, the query and the filter of `watch NAME ..`. The only error is `NoMemory`.
+fn watch_of(alloc: Global, words: &[Word]) -> Result<Option<(Text, Query, Filter)>, NoMemory>
+    ensures some { IfOk result
+        (λ found. IfSome found (λ r. IsStatement words.now (statement.Watch r.0 r.1 r.2))) }
+    ensures none { IfOk result
+        (λ found. IfNone found ((name : List ℕ) (query : Query) (filter : Filter) →
+        ¬ IsStatement words.now (statement.Watch name query filter))) }
+{
+    let Some(rest) = behind_name(words, b"watch") else {
+        return Ok(None);
+    };
+    named_query(alloc, rest)
+}
+
+// The name, the query and the filter that the words behind `watch` spell, if they spell these. The
+// only error is `NoMemory`.
+fn named_query(alloc: Global, words: &[Word]) -> Result<Option<(Text, Query, Filter)>, NoMemory>
+    ensures some { IfOk result
+        (λ found. IfSome found (λ r. IsNamedBody words.now r.0 r.1 r.2)) }
+    ensures none { IfOk result
+        (λ found. IfNone found ((name : List ℕ) (query : Query) (filter : Filter) →
+        ¬ IsNamedBody words.now name query filter)) }
+{
+    let Some((name, body)) = first_bare(words) else {
+        return Ok(None);
+    };
+    let Some(name) = text_of(alloc, name)? else {
+        return Ok(None);
+    };
+    let Some((query, filter)) = filtered_query(alloc, body)? else {
+        return Ok(None);
+    };
+    Ok(Some((name, query, filter)))
+}
+
+// The name of `watched NAME`. The only error is `NoMemory`.
+fn watched_of(alloc: Global, words: &[Word]) -> Result<Option<Text>, NoMemory>
+    ensures some { IfOk result
+        (λ found. IfSome found (λ name. IsStatement words.now (statement.Watched name))) }
+    ensures none { IfOk result (λ found. IfNone found ((name : List ℕ) →
+        ¬ IsStatement words.now (statement.Watched name))) }
+{
+    let Some(rest) = behind_name(words, b"watched") else {
         return Ok(None);
     };
     let Some(name) = only_bare(rest) else {

@@ -3,7 +3,7 @@ ghost use Rattle.std.specs.Prelude.{Some};
 ghost use Rattle.kb_edges.specs.Memory.{sink_faults, sink_written};
 
 use crate::files::{folder_of, words_in};
-use hit_collectors::Collector;
+use hit_collectors::{Collector, Counter, Kind};
 use kb_edges::{Gate, MemorySink, MemorySource, Sink, SinkError};
 use search_run::{Base, Status, run};
 use std::alloc::Global;
@@ -46,15 +46,16 @@ impl Sink for WatchedSink {
     }
 }
 
-// Holds the second version until the line was taken.
+// Holds the version with this number until the line was taken.
 #[derive(Drop)]
-struct HoldsTheSecond {
+struct HoldsOne {
+    number: u64,
     signals: Arc<Signals>,
 }
 
-impl Gate for HoldsTheSecond {
+impl Gate for HoldsOne {
     fn hold(&self, number: u64) {
-        if number != 2 {
+        if number != self.number {
             return;
         }
         for _ in 0..TURNS {
@@ -67,13 +68,22 @@ impl Gate for HoldsTheSecond {
     }
 }
 
-// Runs a script over two files, whose second version is published once the line was taken.
+// A script over so many files that make one version each, of which the one with number `held` is
+// published once the line was taken; and what it writes.
+struct Beside<'a> {
+    files: u32,
+    held: u64,
+    script: &'a str,
+    line: &'static [u8],
+    written: &'a str,
+}
+
+// Runs the script with these boxes.
 fn search_beside<R: Threads + Wait + Abort + Clone + Drop + Send + Sync + 'static>(
     rt: &R,
     alloc: Global,
-    script: &str,
-    line: &'static [u8],
-    written: &str,
+    boxes: Vec<Box<dyn Collector>>,
+    beside: &Beside<'_>,
 ) -> Result<(), Fail> {
     let signals = Arc::new(
         alloc,
@@ -82,18 +92,19 @@ fn search_beside<R: Threads + Wait + Abort + Clone + Drop + Send + Sync + 'stati
             given_up: AtomicBool::new(false),
         },
     )?;
-    let folder = folder_of(alloc, 2)?;
-    let mut source = MemorySource::new(script.as_bytes().to_vec(alloc)?, Vec::new(alloc));
+    let folder = folder_of(alloc, beside.files)?;
+    let script = beside.script.as_bytes().to_vec(alloc)?;
+    let mut source = MemorySource::new(script, Vec::new(alloc));
     let mut sink = WatchedSink {
         inner: MemorySink::new(Vec::new(alloc), Vec::new(alloc)),
-        line,
+        line: beside.line,
         signals: Arc::try_clone(&signals)?,
     };
-    let gate = HoldsTheSecond {
+    let gate = HoldsOne {
+        number: beside.held,
         signals: Arc::try_clone(&signals)?,
     };
     let words = words_in(alloc, "--batch 1")?;
-    let boxes: Vec<Box<dyn Collector>> = Vec::new(alloc);
     let base = Base::open(rt, alloc)?;
     let (status, _folder, publisher) = run(
         rt,
@@ -114,42 +125,110 @@ fn search_beside<R: Threads + Wait + Abort + Clone + Drop + Send + Sync + 'stati
         !signals.given_up.load(Ordering::SeqCst),
         "the gate gave up"
     );
-    assert_eq!(rt; sink.inner.written(), written.as_bytes());
+    assert_eq!(rt; sink.inner.written(), beside.written.as_bytes());
     Ok(())
 }
 
 // A search, and a block, each of whose searches has a searcher of its own.
 #[test]
 fn statements_between_publishings(rt: HostRuntime) -> Result<(), Fail> {
-    search_beside(
-        &rt,
-        rt.alloc(),
-        "import d\nuntil 1\nsearch same X\nwait\n",
-        b"3 search version 1 games 1 hits 2\n",
+    let alloc = rt.alloc();
+    let search = Beside {
+        files: 2,
+        held: 2,
+        script: "import d\nuntil 1\nsearch same X\nwait\n",
+        line: b"3 search version 1 games 1 hits 2\n",
+        written: "1 import d\n\
+             2 until 1 version 1\n\
+             3 search version 1 games 1 hits 2\n\
+             hit 0 1 2 2 0 -\n\
+             hit 0 3 2 1 0 -\n\
+             total 2 0 0 0 0 2\n\
+             1 imported files 2 accepted 2 refused 0 full 0 unread 0 games 2 version 2\n\
+             4 wait version 2\n",
+    };
+    search_beside(&rt, alloc, Vec::new(alloc), &search)?;
+    let block = Beside {
+        files: 2,
+        held: 2,
+        script: "import d\nuntil 1\ntogether\nsearch same X\nsearch same O\nend\nwait\n",
+        line: b"4 search version 1 games 1 hits 2\n",
+        written: "1 import d\n\
+             2 until 1 version 1\n\
+             4 search version 1 games 1 hits 2\n\
+             hit 0 1 2 2 0 -\n\
+             hit 0 3 2 1 0 -\n\
+             total 2 0 0 0 0 2\n\
+             5 search version 1 games 1 hits 1\n\
+             hit 0 2 1 2 0 -\n\
+             total 1 0 0 0 0 1\n\
+             1 imported files 2 accepted 2 refused 0 full 0 unread 0 games 2 version 2\n\
+             7 wait version 2\n",
+    };
+    search_beside(&rt, alloc, Vec::new(alloc), &block)
+}
+
+// Appends the hits of a game, by the node, the place and the label of each.
+fn append_hits(alloc: Global, text: &mut String, game: u32, hits: &[&str]) -> Result<(), Fail> {
+    for hit in hits {
+        text.push_str(&format!(in alloc; "hit {game} {hit} -\n")?)?;
+    }
+    Ok(())
+}
+
+// Appends the text of a watched search in a version of 200 games that all have these hits: what its
+// head begins with, how many hits there are, and the hits.
+fn append_watched(
+    alloc: Global,
+    text: &mut String,
+    head: &str,
+    count: u32,
+    hits: &[&str],
+) -> Result<(), Fail> {
+    text.push_str(&format!(in alloc; "{head} version 200 games 200 hits {count}\n")?)?;
+    for game in 0..200 {
+        append_hits(alloc, text, game, hits)?;
+    }
+    text.push_str(&format!(in alloc; "total {count} 0 0 0 0 {count}\n")?)?;
+    Ok(())
+}
+
+// Three searches are watched between two of the 200 versions of an import, and told at its end: each
+// has all its hits, and each hit was counted once.
+#[test]
+fn watched_searches_beside_an_import(rt: HostRuntime) -> Result<(), Fail> {
+    let alloc = rt.alloc();
+    let counter = Counter::new(String::from_str(alloc, "all")?, Kind::Total)?;
+    let mut boxes: Vec<Box<dyn Collector>> = Vec::new(alloc);
+    boxes.push(Box::new(alloc, counter)?)?;
+    let mut written = String::from_str(
+        alloc,
         "1 import d\n\
-         2 until 1 version 1\n\
-         3 search version 1 games 1 hits 2\n\
-         hit 0 1 2 2 0 -\n\
-         hit 0 3 2 1 0 -\n\
-         total 2 0 0 0 0 2\n\
-         1 imported files 2 accepted 2 refused 0 full 0 unread 0 games 2 version 2\n\
-         4 wait version 2\n",
+         2 until 100 version 100\n\
+         3 watch black version 100 hits 200\n\
+         4 watch white version 100 hits 100\n\
+         5 watch pair version 100 hits 100\n\
+         1 imported files 200 accepted 200 refused 0 full 0 unread 0 games 200 version 200\n\
+         6 wait version 200\n",
     )?;
-    search_beside(
-        &rt,
-        rt.alloc(),
-        "import d\nuntil 1\ntogether\nsearch same X\nsearch same O\nend\nwait\n",
-        b"4 search version 1 games 1 hits 2\n",
-        "1 import d\n\
-         2 until 1 version 1\n\
-         4 search version 1 games 1 hits 2\n\
-         hit 0 1 2 2 0 -\n\
-         hit 0 3 2 1 0 -\n\
-         total 2 0 0 0 0 2\n\
-         5 search version 1 games 1 hits 1\n\
-         hit 0 2 1 2 0 -\n\
-         total 1 0 0 0 0 1\n\
-         1 imported files 2 accepted 2 refused 0 full 0 unread 0 games 2 version 2\n\
-         7 wait version 2\n",
-    )
+    append_watched(
+        alloc,
+        &mut written,
+        "7 watched black",
+        400,
+        &["1 2 2 0", "3 2 1 0"],
+    )?;
+    append_watched(alloc, &mut written, "8 watched white", 200, &["2 1 2 0"])?;
+    append_watched(alloc, &mut written, "9 watched pair", 200, &["2 1 2 0"])?;
+    written.push_str("10 report collectors 1\ncollector all total 800\n")?;
+    let watched = Beside {
+        files: 200,
+        held: 101,
+        script: "import d\nuntil 100\n\
+             watch black same X\nwatch white same O\nwatch pair same fixed OX\n\
+             wait\nwatched black\nwatched white\nwatched pair\nreport\n",
+        line: b"5 watch pair version 100 hits 100\n",
+        written: &written,
+    };
+    search_beside(&rt, alloc, boxes, &watched)
 }

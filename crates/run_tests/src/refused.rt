@@ -44,7 +44,7 @@ fn report_after_refusal<R: Threads + Sync + Abort, C: Collector>(
     boxes: Vec<C>,
 ) -> Result<Vec<u8>, Fail> {
     let version = version_of_one_game(rt, alloc)?;
-    let mut session = Session::new(boxes);
+    let mut session = Session::new(alloc, boxes);
     let mut out = Vec::new(alloc);
     let query = Query::new(read_pattern(alloc, "X")?);
     let filter = Filter {

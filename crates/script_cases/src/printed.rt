@@ -4,8 +4,8 @@ use crate::openings::append_opening_line;
 use crate::row::{Row, row_of, text_of};
 use case_files::{Case, CaseError};
 use query_script::{
-    print_game, print_import, print_make, print_no_game, print_no_retire, print_report_head,
-    print_retire, print_until, print_wait,
+    print_game, print_import, print_make, print_no_game, print_no_retire, print_no_watch,
+    print_report_head, print_retire, print_taken, print_until, print_wait, print_watch,
 };
 use std::alloc::Global;
 
@@ -30,6 +30,8 @@ fn append_line(alloc: Global, row: &Row<'_>, out: &mut Vec<u8>) -> Result<(), Ca
         "game" => append_game(line, row, out),
         "report" => Ok(print_report_head(line, row.size(2)?, out)?),
         "retire" => append_retired(line, row, out),
+        "watch" => append_watch(line, row, out),
+        "watched" => Ok(print_no_watch(line, row.text, out)?),
         _ => append_list_line(alloc, row, out),
     }
 }
@@ -48,4 +50,12 @@ fn append_retired(line: u32, row: &Row<'_>, out: &mut Vec<u8>) -> Result<(), Cas
         return Ok(print_no_retire(line, row.text, out)?);
     }
     Ok(print_retire(line, row.text, out)?)
+}
+
+fn append_watch(line: u32, row: &Row<'_>, out: &mut Vec<u8>) -> Result<(), CaseError> {
+    if row.word(2) == "taken" {
+        return Ok(print_taken(line, row.text, out)?);
+    }
+    let (version, hits) = (row.number(2)?, row.size(3)?);
+    Ok(print_watch(line, row.text, version, hits, out)?)
 }

@@ -89,6 +89,16 @@ fn append_statement(
             least,
         } => append_opening(alloc, *shape, *depth, *least, out),
         Statement::Retire { name } => append_named(alloc, "retire", name.as_str(), out),
+        Statement::Watch {
+            name,
+            query,
+            filter,
+        } => {
+            append_named(alloc, "watch", name.as_str(), out)?;
+            append(out, b" ")?;
+            append_search(alloc, query, filter, out)
+        }
+        Statement::Watched { name } => append_named(alloc, "watched", name.as_str(), out),
         Statement::Wait => Ok(append(out, b"wait")?),
         Statement::Players => Ok(append(out, b"players")?),
         Statement::Doubles => Ok(append(out, b"doubles")?),

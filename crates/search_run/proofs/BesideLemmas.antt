@@ -12,7 +12,7 @@ use Rattle.query_script.specs.declared.statement.Statement.{Statement}
 use Rattle.query_script.specs.declared.statement.Statement.TheVariants as statement
 use Rattle.hit_collectors.specs.Tallies.{BoxTally}
 use Rattle.node_position.specs.Games.{Game}
-use Rattle.session_core.specs.Answers.{IsAnswer, IsSearched, View}
+use Rattle.session_core.specs.Answers.{IsAnswer, IsSearched, IsWatchBegun, IsWatchMissing, IsWatchTaken, IsWatchTold, View}
 use Rattle.session_core.specs.Stores.{view_of as seen_in}
 use Rattle.version_publisher.specs.declared.state.SearcherState.{SearcherState}
 use Rattle.version_publisher.specs.declared.state.VersionState.{VersionState}
@@ -20,7 +20,7 @@ use Rattle.import_work.specs.Course.{ImportCourse}
 use Rattle.import_work.specs.Log.{Segment, games_of_segments, segments_of}
 use Rattle.import_work.specs.declared.source.Source.{Source}
 use Rattle.search_run.specs.Beside.{GoesOnBeside, HasAnswered, HasAnsweredAll, PrintsBeside, Reaches, block_at}
-use Rattle.session_core.specs.Lawful.{AreSearched, HasPrinted, IsNamed, IsPassed, Rules, State, after_import, last_of, one_more, view_at, waiting_text, with_session, with_floor}
+use Rattle.session_core.specs.Lawful.{AreSearched, HasPrinted, IsNamed, IsPassed, NamesNone, NamesVersion, Rules, State, after_import, last_of, one_more, view_at, waiting_text, with_session, with_floor}
 use Rattle.session_core.specs.SessionState.{SessionState}
 use Rattle.search_run.specs.Run.{beside_rules}
 use Rattle.search_run.specs.Seen.{HaveSeenOf, IsLookedAt, IsVersionOf}
@@ -87,6 +87,28 @@ module _ (files : List File) (rules : Rules) (beside : ¬ IsTrue rules.serial) (
     session_is = ap (λ (t : State). t.session) (sym same) ∙ tells;
   }
 
+  -- one that names a version, or none
+  either-longer : (line : ℕ) (own : Statement) (text : List ℕ) (told : SessionState) (Leaves : View → SessionState → Type 0) (Tells : SessionState → Type 0) (used : List ImportCourse) (next : State) →
+      ((now : State) → NamesVersion rules s Leaves [] now ⊎ NamesNone s Tells [] now → IsPassed files rules s line own [] text now) →
+      NamesVersion rules (as_seen s seen) Leaves used next ⊎ NamesNone (as_seen s seen) Tells used next → next.session ≡ told → IsPassedOn line own text told
+  either-longer line own text told Leaves Tells used next passes (inl of) tells =
+      let now = with_session (with_floor s of.0) of.1 in record {
+        next = now;
+        passed = passes now (inl (of.0, of.1, named-longer of.0 of.2, subst (λ (v : View). Leaves v of.1) (view-longer of.0 of.2.to) of.3, refl, refl));
+        log_is = refl;
+        waiting_is = refl;
+        floor_at_most = λ le. max-le le of.2.to;
+        session_is = ap (λ (t : State). t.session) (sym of.5) ∙ tells;
+      }
+  either-longer line own text told Leaves Tells used next passes (inr of) tells = record {
+    next = with_session s of.0;
+    passed = passes (with_session s of.0) (inr (of.0, of.1, refl, refl));
+    log_is = refl;
+    waiting_is = refl;
+    floor_at_most = λ le. le;
+    session_is = ap (λ (t : State). t.session) (sym of.3) ∙ tells;
+  }
+
   pub passed-longer : (line : ℕ) (own : Statement) (text : List ℕ) (told : SessionState) → LeavesBase own → Reaches own (length seen) → IsTextTo files rules (as_seen s seen) line own text told → IsPassedOn line own text told
   passed-longer line (statement.Import path) text told leaves reaches of = absurd leaves
   passed-longer line (statement.Make games start) text told leaves reaches of = absurd leaves
@@ -141,6 +163,10 @@ module _ (files : List File) (rules : Rules) (beside : ¬ IsTrue rules.serial) (
     floor_at_most = λ le. le;
     session_is = ap (λ (t : State). t.session) (sym of.3) ∙ tells;
   }
+  passed-longer line (statement.Watch name query filter) text told leaves reaches (used, next, of, tells) =
+      either-longer line (statement.Watch name query filter) text told (λ view after. IsWatchBegun line view name query filter s.session text after) (IsWatchTaken line name s.session text) used next (λ now passed. passed) of tells
+  passed-longer line (statement.Watched name) text told leaves reaches (used, next, of, tells) =
+      either-longer line (statement.Watched name) text told (λ view after. IsWatchTold line view name s.session text after) (IsWatchMissing line name s.session text) used next (λ now passed. passed) of tells
 
 -- ---- beside an import
 

@@ -21,7 +21,7 @@ use Rattle.import_work.proofs.FileLemmas.{RoseBy-then}
 use Rattle.import_work.proofs.Losses.{losses_of-append}
 use Rattle.search_run.specs.Beside.{EndsWith, HasAnsweredAll, HasRunTo, IsImportJoined, IsJobOf, StandsStill}
 use Rattle.session_core.specs.Lawful.{HasPrinted, Rules, waiting_text}
-use Rattle.session_core.specs.SessionState.{SessionState}
+use Rattle.session_core.specs.SessionState.{SessionState, session_of}
 use Rattle.import_segments.specs.Merged.{AreMerged}
 use Rattle.import_segments.specs.Publishing.{IsIdle, IsLogWithinLimits}
 use Rattle.search_run.specs.Run.{WritesPublished, beside_rules}
@@ -136,10 +136,10 @@ stands-first opening publisher own opened idle merged empty seen = record {
 }
 
 -- nothing is run yet
-pub starts-run : (rules : Rules) (files : List File) (session : SessionState) (log : List Segment) (before : List ℕ) (written : Option (List ℕ)) (count : ℕ) → log ≡ [] → written ≡ Some before → HasRunTo rules files session.boxes [] nothing_kept session log before written count count
+pub starts-run : (rules : Rules) (files : List File) (session : SessionState) (log : List Segment) (before : List ℕ) (written : Option (List ℕ)) (count : ℕ) → session.watches ≡ [] → log ≡ [] → written ≡ Some before → HasRunTo rules files session.boxes [] nothing_kept session log before written count count
 unfolding HasRun-start
-starts-run rules files session log before written count empty is = record {
-  run = HasRun-start rules files session.boxes session before written count refl is;
+starts-run rules files session log before written count unwatched empty is = record {
+  run = HasRun-start rules files session.boxes session before written count (ap (session_of session.boxes) unwatched) is;
   log_is = sym empty;
 }
 

@@ -1,5 +1,5 @@
 -- What searchers have seen of a log, and searchers that meet a publisher one after another.
-use Rattle.std.proofs.Common.{◌≡◌, ℕ, ◌+◌, ◌<◌, ◌≤◌, ◌⊎◌, inl, inr, List, [], ◌∷◌, ◌++◌, get_or, length, refl, sym, ap, ◌∙◌, subst, length-append, arith}
+use Rattle.std.proofs.Common.{◌≡◌, ℕ, ◌+◌, ◌<◌, ◌≤◌, ◌⊎◌, inl, inr, List, [], ◌∷◌, ◌++◌, get_or, length, refl, sym, ap, ◌∙◌, subst, append_assoc, length-append, arith}
 use Rattle.std.specs.Prelude.{All}
 use Rattle.std.proofs.Math.ListN.{set}
 use Rattle.std.proofs.lemmas.Bool.{cases_eq, cases_lt}
@@ -9,7 +9,7 @@ use Rattle.std.proofs.Math.Seq.{get_or-append_seam}
 use Rattle.kb_geometry.proofs.Lists.{All-before}
 use Rattle.kb_geometry.proofs.Prefixes.{prefix_same, prefix_trans}
 use Rattle.node_position.specs.Games.{Game}
-use Rattle.version_publisher.specs.Contents.{BookName, IsNewSearcher}
+use Rattle.version_publisher.specs.Contents.{BookName, IsNewSearcher, items_in}
 use Rattle.version_publisher.specs.declared.state.SearcherState.{SearcherState}
 use Rattle.version_publisher.specs.declared.state.VersionState.{VersionState}
 use Rattle.import_work.specs.Log.{Segment}
@@ -18,6 +18,14 @@ use Rattle.search_run.specs.Seen.{AreOfOpening, HaveMet, HaveSeen, HaveSeenOf, I
 -- a prefix is at most as long
 pub prefix_length : {A : Type 0} (xs ys : List A) → IsPrefix xs ys → length xs ≤ length ys
 prefix_length xs ys p = omega (arith, ap length p.1, length-append xs p.0)
+
+-- the games of a log, and of more of it
+items-append : (log more : List Segment) → items_in (log ++ more) ≡ items_in log ++ items_in more
+items-append [] more = refl
+items-append (segment ∷ log) more = ap (λ games. segment ++ games) (items-append log more) ∙ sym (append_assoc segment (items_in log) (items_in more))
+
+pub items-grown : (log longer : List Segment) → IsPrefix log longer → IsPrefix (items_in log) (items_in longer)
+items-grown log longer p = (items_in p.0, sym (items-append log p.0) ∙ ap items_in p.1)
 
 -- new searchers are of their opening
 pub new_opened : (opening : BookName) (searchers : List (SearcherState Game)) → All (IsNewSearcher opening) searchers → AreOfOpening opening searchers

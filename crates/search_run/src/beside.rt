@@ -28,6 +28,8 @@ ghost use Rattle.search_run.specs.Beside.{
 };
 ghost use Rattle.search_run.specs.Seen.{HaveSeen, IsVersionOf};
 ghost use Rattle.session_core.specs.Stores.{view_of};
+ghost use Rattle.session_core.specs.Watches.{WatchesFit};
+ghost use Rattle.version_publisher.specs.Contents.{items_in};
 ghost use Rattle.serial_run.specs.Steps.{AreAnsweredFrom, LeavesBase};
 
 use crate::searchers::Searchers;
@@ -45,7 +47,8 @@ use std::thread::Threads;
 use version_publisher::Version;
 
 // Answers statements beside an import, one after another, up to the first one that waits for the
-// import's end. Tells how many they are.
+// import's end. Tells how many they are. What the session's searcher has seen begins with the games
+// that the session's watched searches cover, before it and behind it.
 pub(crate) fn answer_beside<J: OpenName, R: Threads + Wait + Sync, K: Sink, C: Collector>(
     rt: &R,
     alloc: Global,
@@ -56,6 +59,7 @@ pub(crate) fn answer_beside<J: OpenName, R: Threads + Wait + Sync, K: Sink, C: C
     out: &mut K,
 ) -> Result<usize, Stopped>
     requires held { IsVersionOf held searchers.old.own.seen }
+    requires fit { WatchesFit (items_in searchers.old.own.seen) session.old }
     ensures answered { IfTold (K.written out.old) (λ before. IfOk result (λ count.
         HasAnsweredAll (HaveSeen searchers.old.own searchers.old.block.items) held.number
         session.old (take count placed.now) (HaveSeen searchers.new.own searchers.new.block.items)
@@ -64,6 +68,8 @@ pub(crate) fn answer_beside<J: OpenName, R: Threads + Wait + Sync, K: Sink, C: C
         StopsBeside batch (HaveSeen searchers.old.own searchers.old.block.items) held.number
         session.old placed.now (HaveSeen searchers.new.own searchers.new.block.items) before
         (K.written out.new))) }
+    ensures fit { IfOk result (λ count.
+        WatchesFit (items_in searchers.new.own.seen) session.new) }
     ensures few { IfOk result (λ count. count ≤ length placed.now) }
     ensures seen { (log : List Segment) → HaveSeen searchers.new.own searchers.new.block.items log →
         HaveSeen searchers.old.own searchers.old.block.items log }
@@ -96,6 +102,7 @@ fn answer_one<J: OpenName, R: Threads + Wait + Sync, K: Sink, C: Collector>(
     out: &mut K,
 ) -> Result<Option<Version<Segment>>, Stopped>
     requires held { IsVersionOf held searchers.old.own.seen }
+    requires fit { WatchesFit (items_in searchers.old.own.seen) session.old }
     ensures answered { IfTold (K.written out.old) (λ before. IfOk result (λ found.
         IfSome found (λ version. (batch : ℕ) →
         HasAnswered batch (HaveSeen searchers.old.own searchers.old.block.items) held.number
@@ -107,6 +114,8 @@ fn answer_one<J: OpenName, R: Threads + Wait + Sync, K: Sink, C: Collector>(
         before (K.written out.new))) }
     ensures version { IfOk result (λ found. IfSome found (λ version.
         IsVersionOf version searchers.new.own.seen)) }
+    ensures fit { IfOk result (λ found.
+        WatchesFit (items_in searchers.new.own.seen) session.new) }
     ensures waits { IfOk result (λ found. found ≡ None →
         (session.new ≡ session.old) × (K.written out.new ≡ K.written out.old)) }
     ensures seen { (log : List Segment) → HaveSeen searchers.new.own searchers.new.block.items log →
@@ -137,6 +146,7 @@ fn answer_from_one<J: OpenName, R: Threads + Wait + Sync, K: Sink, C: Collector>
     out: &mut K,
 ) -> Result<Option<Version<Segment>>, Stopped>
     requires held { IsVersionOf held searchers.old.own.seen }
+    requires fit { WatchesFit (items_in searchers.old.own.seen) session.old }
     ensures answered { IfTold (K.written out.old) (λ before. IfOk result (λ found.
         IfSome found (λ version. (batch : ℕ) →
         HasAnswered batch (HaveSeen searchers.old.own searchers.old.block.items) held.number
@@ -148,6 +158,8 @@ fn answer_from_one<J: OpenName, R: Threads + Wait + Sync, K: Sink, C: Collector>
         before (K.written out.new))) }
     ensures version { IfOk result (λ found. IfSome found (λ version.
         IsVersionOf version searchers.new.own.seen)) }
+    ensures fit { IfOk result (λ found.
+        WatchesFit (items_in searchers.new.own.seen) session.new) }
     ensures waits { IfOk result (λ found. found ≡ None →
         (session.new ≡ session.old) × (K.written out.new ≡ K.written out.old)) }
     ensures seen { (log : List Segment) → HaveSeen searchers.new.own searchers.new.block.items log →
@@ -176,6 +188,7 @@ fn answer_block<J: OpenName, R: Threads + Wait + Sync, K: Sink, C: Collector>(
     out: &mut K,
 ) -> Result<Version<Segment>, Stopped>
     requires held { IsVersionOf held searchers.old.own.seen }
+    requires fit { WatchesFit (items_in searchers.old.own.seen) session.old }
     ensures answered { IfTold (K.written out.old) (λ before. IfOk result (λ version.
         (line batch : ℕ) → HasAnswered batch
         (HaveSeen searchers.old.own searchers.old.block.items) held.number session.old
@@ -187,6 +200,8 @@ fn answer_block<J: OpenName, R: Threads + Wait + Sync, K: Sink, C: Collector>(
         session.old (block_at line searches.now ∷ [])
         (HaveSeen searchers.new.own searchers.new.block.items) before (K.written out.new))) }
     ensures version { IfOk result (λ version. IsVersionOf version searchers.new.own.seen) }
+    ensures fit { IfOk result (λ version.
+        WatchesFit (items_in searchers.new.own.seen) session.new) }
     ensures seen { (log : List Segment) → HaveSeen searchers.new.own searchers.new.block.items log →
         HaveSeen searchers.old.own searchers.old.block.items log }
     ensures sink_fault { IsErrOf result Stopped.SinkFault →

@@ -28,7 +28,7 @@ ghost use Rattle.hit_collectors.specs.Tallies.{BoxTally};
 ghost use Rattle.kb_edges.specs.Faults.{Rose};
 ghost use Rattle.kb_edges.specs.Told.{IfTold};
 ghost use Rattle.query_script.specs.declared.statement.Placed.{Placed};
-ghost use Rattle.version_publisher.specs.Contents.{IsNewSearcher};
+ghost use Rattle.version_publisher.specs.Contents.{IsNewSearcher, items_in};
 ghost use Rattle.import_work.specs.Imports.{games_reported};
 ghost use Rattle.search_run.specs.Beside.{
   HasAnsweredAll,
@@ -49,6 +49,7 @@ ghost use Rattle.session_core.specs.Lawful.{Rules};
 ghost use Rattle.serial_run.specs.Steps.{PassesText, StopsInStatement, import_at, kept_report};
 ghost use Rattle.session_core.specs.Sources.{IsNoImport};
 ghost use Rattle.session_core.specs.ImportTexts.{import_line_text};
+ghost use Rattle.session_core.specs.Watches.{WatchesFit};
 
 use crate::beside::answer_beside;
 use crate::importer::{Ended, ImportJob, ImporterState, Importing, import};
@@ -133,7 +134,7 @@ pub(crate) fn run_beside<
         Ok(searchers) => searchers,
         Err(error) => return (Err(Stopped::from(error)), importer),
     };
-    let mut session = Session::new(boxes);
+    let mut session = Session::new(alloc, boxes);
     let Passed { importer, outcome } = run_all(
         rt,
         alloc,
@@ -190,6 +191,7 @@ fn run_all<
     requires idle { IsIdle importer.owned.publisher }
     requires merged { AreMerged importer.owned.publisher.parts }
     requires seen { searchers.own.seen ≡ [] }
+    requires unwatched { session.old.watches ≡ [] }
     ensures ran { IfTold (F.files importer.folder) (λ files. IfTold (K.written out.old) (λ before.
         IfOk result.outcome (λ r. HasRunTo (beside_rules batch) files session.old.boxes placed.now r.0
         session.new result.importer.owned.publisher.log before (K.written out.new)
@@ -274,6 +276,7 @@ fn run_next<
     requires some { (1 ≤ batch) × (batch ≤ 4096) }
     requires few { length importer.owned.publisher.log ≤ 9000000000000000000 }
     requires stands { StandsStill J.opening importer.owned.publisher searchers.old.own state }
+    requires fit { WatchesFit state.games session.old }
     ensures ran { IfTold (F.files importer.folder) (λ files. IfOk result.outcome (λ r.
         (start : List BoxTally) (done : List Placed) (before : List ℕ) (first : ℕ) →
         HasRunTo (beside_rules batch) files start done state session.old
@@ -290,6 +293,7 @@ fn run_next<
         result.importer.owned.publisher.log)) }
     ensures stands { IfOk result.outcome (λ r.
         StandsStill J.opening result.importer.owned.publisher searchers.new.own r.0) }
+    ensures fit { IfOk result.outcome (λ r. WatchesFit r.0.games session.new) }
     ensures count { IfOk result.outcome (λ r. r.1 ≤ length rest.now) }
     ensures few { length result.importer.owned.publisher.log
         ≤ length importer.owned.publisher.log + 4294967295 }
@@ -334,13 +338,15 @@ fn answer_still<R: Threads + Sync, K: Sink, C: Collector>(
     placed: &Placed,
     out: &mut K,
 ) -> Result<(RunState, usize), Stopped>
-    requires { IsNoImport placed.now.statement }
+    requires no_import { IsNoImport placed.now.statement }
+    requires fit { WatchesFit state.games session.old }
     ensures passed { IfTold (K.written out.old) (λ before. IfOk result (λ r.
         PassesText state session.old placed.now r.0 session.new before (K.written out.new))) }
     ensures stopped { IfTold (K.written out.old) (λ before. OnErr result ((rules : Rules) →
         StopsInStatement rules state session.old placed.now before (K.written out.new))) }
     ensures version { IfOk result (λ r. r.0.version ≡ state.version) }
     ensures games { IfOk result (λ r. r.0.games ≡ state.games) }
+    ensures fit { IfOk result (λ r. WatchesFit r.0.games session.new) }
     ensures alone { IfOk result (λ r. r.1 ≡ 0) }
     ensures sink_fault { IsErrOf result Stopped.SinkFault →
         Rose (K.faults out.old) (K.faults out.new) }
@@ -373,6 +379,7 @@ fn run_import<
     requires some { (1 ≤ batch) × (batch ≤ 4096) }
     requires few { length importer.owned.publisher.log ≤ 9000000000000000000 }
     requires stands { StandsStill J.opening importer.owned.publisher searchers.old.own state }
+    requires fit { WatchesFit state.games session.old }
     ensures ran { IfTold (F.files importer.folder) (λ files. IfOk result.outcome (λ r.
         (start : List BoxTally) (done : List Placed) (before : List ℕ) (first : ℕ) →
         HasRunTo (beside_rules batch) files start done state session.old
@@ -390,6 +397,7 @@ fn run_import<
         (F.faults result.importer.folder) result.importer.owned.publisher.log)) }
     ensures stands { IfOk result.outcome (λ r.
         StandsStill J.opening result.importer.owned.publisher searchers.new.own r.0) }
+    ensures fit { IfOk result.outcome (λ r. WatchesFit r.0.games session.new) }
     ensures count { IfOk result.outcome (λ r. r.1 ≤ length rest.now) }
     ensures few { length result.importer.owned.publisher.log
         ≤ length importer.owned.publisher.log + 4294967295 }
@@ -477,6 +485,7 @@ fn import_beside<
 ) -> Joined<R, F, G>
     requires begins { MayBegin J.opening importer.owned.publisher job }
     requires held { IsVersionOf held searchers.old.own.seen }
+    requires fit { WatchesFit (items_in searchers.old.own.seen) session.old }
     ensures ended { HasEnded (F.files importer.folder) (F.faults importer.folder) job
         importer.owned.publisher.opening importer.owned.publisher.log
         (F.files result.ended.importer.folder) (F.faults result.ended.importer.folder)
@@ -489,6 +498,8 @@ fn import_beside<
         StopsBeside batch (HaveSeen searchers.old.own searchers.old.block.items) held.number
         session.old rest.now (HaveSeen searchers.new.own searchers.new.block.items) before
         (K.written out.new))) }
+    ensures fit { IfOk result.answered (λ count.
+        WatchesFit (items_in searchers.new.own.seen) session.new) }
     ensures count { IfOk result.answered (λ count. count ≤ length rest.now) }
     ensures sink_fault { IsErrOf result.answered Stopped.SinkFault →
         Rose (K.faults out.old) (K.faults out.new) }

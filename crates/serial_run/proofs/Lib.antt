@@ -1,5 +1,6 @@
 pub mod CauseLemmas
 pub mod CountLemmas
+pub mod FittingWatches
 pub mod ImportReports
 mod ReadLemmas
 pub mod RunLemmas

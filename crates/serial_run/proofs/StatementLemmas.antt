@@ -1,5 +1,5 @@
 -- What statements print and where they lead, by what is kept of a state.
-use Rattle.std.proofs.Common.{◌≡◌, ◌≢◌, inr, ℕ, ◌+◌, ◌≤◌, List, [], ◌∷◌, ◌++◌, Option, Some, None, length, map, replicate, refl, sym, ap, ◌∙◌, subst, append_assoc, length-append, arith}
+use Rattle.std.proofs.Common.{◌≡◌, ◌≢◌, inl, inr, ℕ, ◌+◌, ◌≤◌, List, [], ◌∷◌, ◌++◌, Option, Some, None, length, map, replicate, refl, sym, ap, ◌∙◌, subst, append_assoc, length-append, arith}
 use Rattle.std.specs.Prelude.{max}
 use Rattle.std.specs.Option.{option_map_or}
 use Rattle.std.proofs.Math.Nat.{max-le}
@@ -103,6 +103,8 @@ text-told files rules s line (statement.Game number) text told of = (of.0, of.1,
 text-told files rules s line (statement.Opening shape depth least) text told of = (of.0, of.1, of.2)
 text-told files rules s line statement.Report text told of = (of.0, of.1, of.2)
 text-told files rules s line (statement.Retire name) text told of = (of.0, of.1, of.2)
+text-told files rules s line (statement.Watch name query filter) text told of = (of.0, of.1, of.2)
+text-told files rules s line (statement.Watched name) text told of = (of.0, of.1, of.2)
 
 module _ (rules : Rules) (files : List File) (s : State) (kept : Kept) (session told : SessionState) (is : IsKeptOfState s kept session) (line : ℕ) (text : List ℕ) where
   -- ---- the text of a statement
@@ -146,6 +148,12 @@ module _ (rules : Rules) (files : List File) (s : State) (kept : Kept) (session 
   text-answered (statement.Opening shape depth least) of = ([], with_session (with_floor s (last_of s)) told, answered-here (statement.Opening shape depth least) of, refl)
   text-answered statement.Report of = ([], s, (of.0 ∙ ap (λ (left : SessionState). boxes_text line left.boxes) (sym is.session_is), refl, refl), is.session_is ∙ sym of.1)
   text-answered (statement.Retire name) of = ([], with_session s told, (told, rw is.session_is of, refl, refl), refl)
+  text-answered (statement.Watch name query filter) (inl of) =
+      ([], with_session (with_floor s (last_of s)) told, inl (last_of s, told, last_named rules s is.floor, rw (view_kept s kept session is, is.session_is) of, refl, refl), refl)
+  text-answered (statement.Watch name query filter) (inr of) = ([], with_session s told, inr (told, rw is.session_is of, refl, refl), refl)
+  text-answered (statement.Watched name) (inl of) =
+      ([], with_session (with_floor s (last_of s)) told, inl (last_of s, told, last_named rules s is.floor, rw (view_kept s kept session is, is.session_is) of, refl, refl), refl)
+  text-answered (statement.Watched name) (inr of) = ([], with_session s told, inr (told, rw is.session_is of, refl, refl), refl)
   text-answered (statement.Import path) of = absurd of
   text-answered (statement.Make games start) of = absurd of
   text-answered statement.Wait of = absurd of
@@ -170,6 +178,8 @@ leaves-base (statement.Game number) no_import no_wait = tt
 leaves-base (statement.Opening shape depth least) no_import no_wait = tt
 leaves-base statement.Report no_import no_wait = tt
 leaves-base (statement.Retire name) no_import no_wait = tt
+leaves-base (statement.Watch name query filter) no_import no_wait = tt
+leaves-base (statement.Watched name) no_import no_wait = tt
 
 module _ (rules : Rules) (files : List File) (kept : Kept) (line : ℕ) (text : List ℕ) (before now : ℕ) (later : before ≤ now) where
   -- no import was made, and the same is kept, whatever the session tell
@@ -180,6 +190,11 @@ module _ (rules : Rules) (files : List File) (kept : Kept) (line : ℕ) (text : 
   named s next n session after is to same =
       subst (λ (t : State). IsKeptOfState t kept t.session) (sym same)
       (record { version = is.version; games = is.games; waiting = is.waiting; floor = floor-named s n is.floor to; session_is = refl })
+
+  unnamed : (s next : State) (session after : SessionState) → IsKeptOfState s kept session → next ≡ with_session s after → IsKeptOfState next kept next.session
+  unnamed s next session after is same =
+      subst (λ (t : State). IsKeptOfState t kept t.session) (sym same)
+      (record { version = is.version; games = is.games; waiting = is.waiting; floor = is.floor; session_is = refl })
 
   led : (s next : State) (session : SessionState) (used : List ImportCourse) → IsKeptOfState s kept session → (own : Statement) → LeavesBase own → IsPassed files rules s line own used text next → IsLed s used next
   led s next session used is (statement.Import path) still of = absurd still
@@ -196,8 +211,11 @@ module _ (rules : Rules) (files : List File) (kept : Kept) (line : ℕ) (text : 
   led s next session used is (statement.Opening shape depth least) still of = (of.4, named s next of.0 session of.1 is of.2.to of.5)
   led s next session used is statement.Report still of =
       (of.1, subst (λ (t : State). IsKeptOfState t kept t.session) (sym of.2) (record { version = is.version; games = is.games; waiting = is.waiting; floor = is.floor; session_is = refl }))
-  led s next session used is (statement.Retire name) still of =
-      (of.2, subst (λ (t : State). IsKeptOfState t kept t.session) (sym of.3) (record { version = is.version; games = is.games; waiting = is.waiting; floor = is.floor; session_is = refl }))
+  led s next session used is (statement.Retire name) still of = (of.2, unnamed s next session of.0 is of.3)
+  led s next session used is (statement.Watch name query filter) still (inl of) = (of.4, named s next of.0 session of.1 is of.2.to of.5)
+  led s next session used is (statement.Watch name query filter) still (inr of) = (of.2, unnamed s next session of.0 is of.3)
+  led s next session used is (statement.Watched name) still (inl of) = (of.4, named s next of.0 session of.1 is of.2.to of.5)
+  led s next session used is (statement.Watched name) still (inr of) = (of.2, unnamed s next session of.0 is of.3)
 
   -- so it leads on
   led_on : (own : Statement) (s : State) (session told : SessionState) → LeavesBase own → IsKeptOfState s kept session → (used : List ImportCourse) (next : State) → IsPassed files rules s line own used text next → next.session ≡ told →
@@ -221,6 +239,8 @@ module _ (rules : Rules) (files : List File) (kept : Kept) (line : ℕ) (text : 
   leads-still (statement.Opening shape depth least) still = λ session told s is of. led_on (statement.Opening shape depth least) s session told still is of.0 of.1 of.2 of.3
   leads-still statement.Report still = λ session told s is of. led_on statement.Report s session told still is of.0 of.1 of.2 of.3
   leads-still (statement.Retire name) still = λ session told s is of. led_on (statement.Retire name) s session told still is of.0 of.1 of.2 of.3
+  leads-still (statement.Watch name query filter) still = λ session told s is of. led_on (statement.Watch name query filter) s session told still is of.0 of.1 of.2 of.3
+  leads-still (statement.Watched name) still = λ session told s is of. led_on (statement.Watched name) s session told still is of.0 of.1 of.2 of.3
 
   pub leads-wait : LeadsOn files rules kept line statement.Wait text (record { version = kept.version; games = kept.games; waiting = None }) before now
   leads-wait = λ session told s is of. (

@@ -44,6 +44,7 @@ impl Model for RunState {
 }
 
 impl RunState {
+    ghost use mathlib.Core.List.{IsPrefix};
     ghost use Rattle.kb_edges.specs.Files.{File};
     ghost use Rattle.kb_edges.specs.Told.{IfTold};
     ghost use Rattle.import_work.specs.Course.{trees_in};
@@ -54,6 +55,7 @@ impl RunState {
     ghost use Rattle.query_script.specs.Texts.{wait_text};
     ghost use Rattle.session_core.specs.Lawful.{Rules};
     ghost use Rattle.session_core.specs.ImportTexts.{told_text};
+    ghost use Rattle.session_core.specs.Watches.{WatchesFit};
     ghost use Rattle.serial_run.specs.Run.{serial_rules};
     ghost use Rattle.serial_run.specs.Steps.{IsTextByKept, LeadsOn, kept_at, kept_report, nothing_kept};
     ghost use Rattle.session_core.specs.Sources.{IsNoImport, statement_of};
@@ -116,7 +118,8 @@ impl RunState {
         self.counts
     }
 
-    /// The text of a statement that begins no import.
+    /// The text of a statement that begins no import. The last version begins with the games that the
+    /// session's watched searches cover.
     pub fn text_of<R: Threads + Sync, C: Collector>(
         &self,
         rt: &R,
@@ -124,10 +127,12 @@ impl RunState {
         session: &mut Session<C>,
         placed: &Placed,
     ) -> Result<Vec<u8>, NoMemory>
-        requires { IsNoImport placed.now.statement }
-        ensures { IfOk result (λ text. (rules : Rules) →
+        requires no_import { IsNoImport placed.now.statement }
+        requires fit { WatchesFit self.now.games session.old }
+        ensures text { IfOk result (λ text. (rules : Rules) →
             IsTextByKept rules self.now session.old placed.now.line placed.now.statement text.items
             session.new) }
+        ensures fit { IfOk result (λ text. WatchesFit self.now.games session.new) }
     {
         match &placed.statement {
             Statement::Wait => self.wait_text(alloc, placed.line),
@@ -195,6 +200,7 @@ impl RunState {
             LeadsOn files (serial_rules batch) self line (statement_of source.now) text next
             (F.faults folder.old) (F.faults folder.new))) }
         ensures version { IfOk result (λ next. next.version ≤ self.version + 4294967295) }
+        ensures grown { IfOk result (λ next. IsPrefix self.games next.games) }
         ensures same { F.files folder.new ≡ F.files folder.old }
         ensures later { F.faults folder.old ≤ F.faults folder.new }
     {

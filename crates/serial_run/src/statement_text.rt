@@ -4,6 +4,8 @@ ghost use Rattle.std.specs.declared.option.Option.{Option};
 ghost use Rattle.query_script.specs.Texts.{until_text};
 ghost use Rattle.session_core.specs.Answers.{IsAnswer, IsAnswered};
 ghost use Rattle.session_core.specs.Stores.{view_of};
+ghost use Rattle.session_core.specs.Watches.{WatchesFit};
+ghost use Rattle.version_publisher.specs.Contents.{items_in};
 ghost use Rattle.session_core.specs.Lawful.{Rules};
 ghost use Rattle.serial_run.specs.Steps.{AreAnswered, IsTextByKept, LeavesBase, kept_at};
 
@@ -18,7 +20,8 @@ use std::thread::Threads;
 use version_publisher::Version;
 
 /// The text of a statement that is neither an import nor a wait, where a version is the last one. The
-/// session's boxes tally the hits of its searches.
+/// session's boxes tally the hits of its searches. The version begins with the games that the session's
+/// watched searches cover, and has all of them behind the statement, too.
 pub fn version_text<R: Threads + Sync, C: Collector>(
     rt: &R,
     alloc: Global,
@@ -26,10 +29,12 @@ pub fn version_text<R: Threads + Sync, C: Collector>(
     placed: &Placed,
     version: &Version<Segment>,
 ) -> Result<Vec<u8>, NoMemory>
-    requires { LeavesBase placed.now.statement }
-    ensures { IfOk result (λ text. (rules : Rules) (waiting : Option (List ℕ)) →
+    requires leaves { LeavesBase placed.now.statement }
+    requires fit { WatchesFit (items_in version.now.parts) session.old }
+    ensures text { IfOk result (λ text. (rules : Rules) (waiting : Option (List ℕ)) →
         IsTextByKept rules (kept_at version.now waiting) session.old placed.now.line
         placed.now.statement text.items session.new) }
+    ensures fit { IfOk result (λ text. WatchesFit (items_in version.now.parts) session.new) }
 {
     let line = placed.line;
     match &placed.statement {
@@ -64,7 +69,8 @@ fn answer_text<R: Threads + Sync, C: Collector>(
     statement: &Statement,
     version: &Version<Segment>,
 ) -> Result<Vec<u8>, NoMemory>
-    requires { IsAnswered statement.now }
+    requires answered { IsAnswered statement.now }
+    requires fit { WatchesFit (items_in version.now.parts) session.old }
     ensures { IfOk result (λ text.
         IsAnswer line (view_of version.now) session.old statement.now text.items session.new) }
 {

@@ -1,5 +1,6 @@
 // Running the statements of a script, one after another.
 ghost use Rattle.std.specs.Prelude.{◌≡◌, ◌≤◌, ◌+◌, IfOk, IsErrOf, OnErr, OnOk, length, map};
+ghost use mathlib.Core.List.{IsPrefix};
 ghost use Rattle.kb_edges.specs.Faults.{Rose};
 ghost use Rattle.kb_edges.specs.Told.{IfTold};
 ghost use Rattle.serial_run.specs.Run.{WritesLawful, WritesPrefix, serial_rules};
@@ -7,6 +8,7 @@ ghost use Rattle.serial_run.specs.Steps.{PassesStatement, PassesText, StopsInSta
 ghost use Rattle.session_core.specs.Lawful.{Rules};
 ghost use Rattle.session_core.specs.SessionState.{SessionState};
 ghost use Rattle.session_core.specs.Sources.{IsNoImport};
+ghost use Rattle.session_core.specs.Watches.{WatchesFit};
 
 use crate::run_state::RunState;
 use crate::write::write_all;
@@ -91,7 +93,7 @@ pub fn run_statements<R: Threads + Sync, F: Folder, K: Sink, C: Collector>(
     ensures later { F.faults folder.old ≤ F.faults folder.new }
     ensures sink_later { K.faults out.old ≤ K.faults out.new }
 {
-    let mut session = Session::new(boxes);
+    let mut session = Session::new(alloc, boxes);
     let mut state = RunState::new(alloc);
     for statement in placed {
         state = run_statement(
@@ -123,6 +125,7 @@ fn run_statement<R: Threads + Sync, F: Folder, K: Sink, C: Collector>(
 ) -> Result<RunState, Stopped>
     requires some { 1 ≤ batch }
     requires number { state.version ≤ 9000000000000000000 }
+    requires fit { WatchesFit state.games session.old }
     ensures passed { IfTold (F.files folder.old)
         (λ files. IfTold (K.written out.old) (λ before. IfOk result (λ next.
         PassesStatement files (serial_rules batch) state session.old placed.now next
@@ -133,6 +136,7 @@ fn run_statement<R: Threads + Sync, F: Folder, K: Sink, C: Collector>(
     ensures sink_fault { IsErrOf result Stopped.SinkFault →
         Rose (K.faults out.old) (K.faults out.new) }
     ensures version { IfOk result (λ next. next.version ≤ state.version + 4294967295) }
+    ensures fit { IfOk result (λ next. WatchesFit next.games session.new) }
     ensures same { F.files folder.new ≡ F.files folder.old }
     ensures later { F.faults folder.old ≤ F.faults folder.new }
     ensures sink_later { K.faults out.old ≤ K.faults out.new }
@@ -167,6 +171,7 @@ fn run_import<R: Threads + Sync, F: Folder, K: Sink>(
     ensures sink_fault { IsErrOf result Stopped.SinkFault →
         Rose (K.faults out.old) (K.faults out.new) }
     ensures version { IfOk result (λ next. next.version ≤ state.version + 4294967295) }
+    ensures grown { IfOk result (λ next. IsPrefix state.games next.games) }
     ensures same { F.files folder.new ≡ F.files folder.old }
     ensures later { F.faults folder.old ≤ F.faults folder.new }
     ensures sink_later { K.faults out.old ≤ K.faults out.new }
@@ -177,7 +182,7 @@ fn run_import<R: Threads + Sync, F: Folder, K: Sink>(
 }
 
 /// Writes the text of a statement that begins no import, while none is under way. Hands back the
-/// state after it.
+/// state after it. The last version begins with the games that the session's watched searches cover.
 pub fn answer_alone<R: Threads + Sync, K: Sink, C: Collector>(
     rt: &R,
     alloc: Global,
@@ -186,13 +191,15 @@ pub fn answer_alone<R: Threads + Sync, K: Sink, C: Collector>(
     placed: &Placed,
     out: &mut K,
 ) -> Result<RunState, Stopped>
-    requires { IsNoImport placed.now.statement }
+    requires no_import { IsNoImport placed.now.statement }
+    requires fit { WatchesFit state.games session.old }
     ensures passed { IfTold (K.written out.old) (λ before. IfOk result (λ next.
         PassesText state session.old placed.now next session.new before (K.written out.new))) }
     ensures stopped { IfTold (K.written out.old) (λ before. OnErr result ((rules : Rules) →
         StopsInStatement rules state session.old placed.now before (K.written out.new))) }
     ensures version { IfOk result (λ next. next.version ≡ state.version) }
     ensures games { IfOk result (λ next. next.games ≡ state.games) }
+    ensures fit { IfOk result (λ next. WatchesFit next.games session.new) }
     ensures sink_fault { IsErrOf result Stopped.SinkFault →
         Rose (K.faults out.old) (K.faults out.new) }
     ensures sink_later { K.faults out.old ≤ K.faults out.new }

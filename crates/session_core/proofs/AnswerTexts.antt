@@ -16,7 +16,7 @@ use Rattle.search_engine.specs.Hits.{AreHits}
 use Rattle.hit_collectors.specs.Boxes.{IsFedInPart, IsRetired}
 use Rattle.hit_collectors.specs.Tallies.{BoxTally}
 use Rattle.session_core.specs.Answers.{IsGameText, IsLeft, IsRetiredBy, IsSearched, View}
-use Rattle.session_core.specs.SessionState.{SessionState, fed_with, new_session, with_boxes}
+use Rattle.session_core.specs.SessionState.{SessionState, Watched, fed_with, session_of, with_boxes}
 
 -- the text of a search was appended, and its hits were given to the boxes
 pub IsSearched-delivered : {T E : Type 0} (result : Result T E) (line number games : ℕ) (hits : List Hit) (table : TableView) (session after : SessionState) (old new : List ℕ)
@@ -35,10 +35,10 @@ IsSearched-delivered (Ok x) line number games hits table session after old new p
 )
 
 -- the boxes were fed in part
-pub IsLeft-fed : {T E : Type 0} (result : Result T E) (AreThese : List Hit → Type 0) (hits : List Hit) (session : SessionState) (boxes : List BoxTally) → AreThese hits
-    → OnErr result (IsFedInPart hits session.boxes boxes) → OnErr result (IsLeft AreThese session (with_boxes session boxes))
-IsLeft-fed (Ok x) AreThese hits session boxes these fed = tt
-IsLeft-fed (Err e) AreThese hits session boxes these fed = inr (hits, boxes, these, fed, refl)
+pub IsLeft-fed : {T E : Type 0} (result : Result T E) (AreThese : List Hit → Type 0) (hits : List Hit) (session after : SessionState) (boxes : List BoxTally) → AreThese hits → after ≡ with_boxes session boxes
+    → OnErr result (IsFedInPart hits session.boxes boxes) → OnErr result (IsLeft AreThese session after)
+IsLeft-fed (Ok x) AreThese hits session after boxes these same fed = tt
+IsLeft-fed (Err e) AreThese hits session after boxes these same fed = inr (hits, boxes, these, fed, same)
 
 -- what is left by hits of which one thing holds is left by hits of which another does
 pub IsLeft-weaker : {T E : Type 0} (result : Result T E) (AreThese AreThose : List Hit → Type 0) (session after : SessionState) → ((hits : List Hit) → AreThese hits → AreThose hits)
@@ -49,18 +49,18 @@ IsLeft-weaker (Err e) AreThese AreThose session after weaker (inr (hits, boxes, 
 
 -- a box was retired, and told so
 pub IsRetiredBy-retired : (line : ℕ) (name : List ℕ) (boxes after : List BoxTally) (old new : List ℕ) → IsRetired (λ (told : BoxTally). told.name) name boxes after → new ≡ old ++ retire_text line name
-    → (text : List ℕ) × IsRetiredBy line name (new_session boxes) text (new_session after) × (new ≡ old ++ text)
-IsRetiredBy-retired line name boxes after old new gone printed = (retire_text line name, IsRetiredBy.retired after gone, printed)
+    → (watches : List Watched) → (text : List ℕ) × IsRetiredBy line name (session_of boxes watches) text (session_of after watches) × (new ≡ old ++ text)
+IsRetiredBy-retired line name boxes after old new gone printed watches = (retire_text line name, IsRetiredBy.retired after gone, printed)
 
 -- none was, and that was told, in place of what stood behind the old text
 pub IsRetiredBy-none : {A T E : Type 0} (result : Result T E) (told : A → BoxTally) (line : ℕ) (name : List ℕ) (boxes after : List A) (old more between new : List ℕ) (count : ℕ)
     → All (λ (box : A). (told box).name ≢ name) boxes → after ≡ boxes → count ≡ length old → between ≡ take count (old ++ more) → OnOk result (new ≡ between ++ no_retire_text line name)
-    → OnOk result ((text : List ℕ) × IsRetiredBy line name (new_session (map told boxes)) text (new_session (map told after)) × (new ≡ old ++ text))
+    → OnOk result ((watches : List Watched) → (text : List ℕ) × IsRetiredBy line name (session_of (map told boxes) watches) text (session_of (map told after) watches) × (new ≡ old ++ text))
 IsRetiredBy-none (Err e) told line name boxes after old more between new count none same counted cut printed = tt
-IsRetiredBy-none (Ok x) told line name boxes after old more between new count none same counted cut printed =
+IsRetiredBy-none (Ok x) told line name boxes after old more between new count none same counted cut printed = λ watches.
     let all = All-map (λ (box : BoxTally). box.name ≢ name) told boxes none in (
       no_retire_text line name,
-      subst (λ left. IsRetiredBy line name (new_session (map told boxes)) (no_retire_text line name) (new_session left)) (ap (map told) (sym same)) (IsRetiredBy.none all),
+      subst (λ left. IsRetiredBy line name (session_of (map told boxes) watches) (no_retire_text line name) (session_of left watches)) (ap (map told) (sym same)) (IsRetiredBy.none all),
       printed ∙ ap (λ text. text ++ no_retire_text line name) (cut ∙ ap (λ n. take n (old ++ more)) counted ∙ take-append_seam old more),
     )
 

@@ -14,4 +14,7 @@ pub mod OneOutput
 mod ReportLines
 pub mod SerialOutputs
 pub mod StateLemmas
+pub mod WatchAnswers
+pub mod WatchLemmas
+mod WatchSteps
 pub mod WholeOutputs

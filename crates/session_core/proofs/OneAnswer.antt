@@ -24,6 +24,7 @@ use Rattle.search_engine.proofs.HitsExist.{hits-found}
 use Rattle.search_engine.proofs.KeptCounts.{AreKept-unique, kept-found}
 use Rattle.session_core.proofs.OpeningAnswers.{opening-one, opening-text}
 use Rattle.session_core.proofs.ListAnswers.{doubles-one, doubles-text, players-one, players-text, signature-one, signature-text}
+use Rattle.session_core.proofs.WatchAnswers.{watch-found, watch-one, watched-found, watched-one}
 use Rattle.search_engine.proofs.OneListOfHits.{hits-unique}
 
 -- the game with a number
@@ -126,6 +127,8 @@ module _ (line : ℕ) (view : View) (trees : All (λ (g : Game). IsTree g.tree) 
   answer-found session (statement.Opening shape depth least) answered = found-same (IsOpeningText line view shape depth least) session (opening-text line view trees shape depth least)
   answer-found session statement.Report answered = (boxes_text line session.boxes, session, (refl, refl))
   answer-found session (statement.Retire name) answered = retired-found line name session
+  answer-found session (statement.Watch name query filter) answered = watch-found line view trees name query filter session
+  answer-found session (statement.Watched name) answered = watched-found line view trees name session
   answer-found session (statement.Import path) answered = absurd answered
   answer-found session (statement.Make games start) answered = absurd answered
   answer-found session statement.Wait answered = absurd answered
@@ -142,6 +145,8 @@ module _ (line : ℕ) (view : View) (trees : All (λ (g : Game). IsTree g.tree) 
   answer-unique session (statement.Opening shape depth least) a b after other one too = one-same a b session after other (opening-one line view trees shape depth least a b one.0 too.0) one.1 too.1
   answer-unique session statement.Report a b after other one too = one-same a b session after other (one.0 ∙ sym too.0) one.1 too.1
   answer-unique session (statement.Retire name) a b after other one too = retired-one line name session a b after other one too
+  answer-unique session (statement.Watch name query filter) a b after other one too = watch-one line view trees name query filter session a b after other one too
+  answer-unique session (statement.Watched name) a b after other one too = watched-one line view trees name session a b after other one too
   answer-unique session (statement.Import path) a b after other one too = absurd one
   answer-unique session (statement.Make games start) a b after other one too = absurd one
   answer-unique session statement.Wait a b after other one too = absurd one

@@ -1,5 +1,5 @@
 -- In a serial run statements by which nothing is lost have one lawful output alone.
-use Rattle.std.proofs.Common.{◌≡◌, ℕ, ◌+◌, Bool, true, false, cond, List, [], ◌∷◌, ◌++◌, length, refl, sym, ap, ◌∙◌, subst, arith}
+use Rattle.std.proofs.Common.{◌≡◌, inl, inr, ℕ, ◌+◌, Bool, true, false, cond, List, [], ◌∷◌, ◌++◌, length, refl, sym, ap, ◌∙◌, subst, arith}
 use Rattle.std.specs.Prelude.{IsTrue, max}
 use Rattle.kb_edges.specs.Files.{File}
 use Rattle.query_script.specs.declared.statement.Placed.{Placed}
@@ -8,7 +8,7 @@ use Rattle.query_script.specs.declared.statement.Statement.{Statement}
 use Rattle.query_script.specs.declared.statement.Statement.TheVariants as statement
 use Rattle.query_script.specs.Texts.{until_text}
 use Rattle.hit_collectors.specs.Tallies.{BoxTally}
-use Rattle.session_core.specs.Answers.{IsAnswer, IsSearched}
+use Rattle.session_core.specs.Answers.{IsAnswer, IsSearched, IsWatchBegun, IsWatchTold, View}
 use Rattle.kb_geometry.proofs.Lists.{push_not_nil, push_same}
 use Rattle.session_core.proofs.OneAnswer.{answer-unique, retired-one, search-one}
 use Rattle.import_work.specs.Course.{ImportCourse, IsImported, losses_of, nothing_lost, trees_in}
@@ -20,6 +20,8 @@ use Rattle.import_work.proofs.Losses.{losses_of-append}
 use Rattle.import_work.specs.declared.source.Source.{Source}
 use Rattle.import_work.specs.declared.source.Source.TheVariants as source
 use Rattle.import_work.proofs.OneFinding.{finding-one}
+use Rattle.session_core.proofs.WatchAnswers.{begun-one, missing-one, taken-one, told-one}
+use Rattle.session_core.proofs.WatchLemmas.{free-none}
 use Rattle.session_core.proofs.WholeOutputs.{IsReached, reached, trees-at}
 
 -- an entry by which nothing is lost
@@ -70,14 +72,28 @@ module _ (files : List File) (rules : Rules) (serial : IsTrue rules.serial) (s :
       let text = one.9 ∙ ap (λ t. t ++ one.4) first.0 ∙ ap (λ (b : Block). too.1 ++ b.text) rest ∙ sym too.9 in
       λ i. block_of (greatest i) (text i) (rest i).session
 
-  one-answer : (line : ℕ) (own : Statement) (m n : ℕ) (a b : List ℕ) (after other : SessionState) (next last : State) → IsNamed rules s m → IsNamed rules s n → IsAnswer line (view_at s m) s.session own a after → IsAnswer line (view_at s n) s.session own b other
+  -- a statement that names a version prints one text, and leads to one state
+  one-named : (Leaves : View → List ℕ → SessionState → Type 0) → ((a b : List ℕ) (after other : SessionState) → Leaves (view_at s (last_of s)) a after → Leaves (view_at s (last_of s)) b other → (a ≡ b) × (after ≡ other)) →
+      (m n : ℕ) (a b : List ℕ) (after other : SessionState) (next last : State) → IsNamed rules s m → IsNamed rules s n → Leaves (view_at s m) a after → Leaves (view_at s n) b other
       → next ≡ with_session (with_floor s m) after → last ≡ with_session (with_floor s n) other → passed_by a next ≡ passed_by b last
-  one-answer line own m n a b after other next last named also one too is is_too =
-      let answer = answer-unique line (view_at s (last_of s)) (trees-at s h (last_of s)) s.session own a b after other
-      (at_last (λ k. IsAnswer line (view_at s k) s.session own a after) m named one)
-      (at_last (λ k. IsAnswer line (view_at s k) s.session own b other) n also too) in
+  one-named Leaves one-text m n a b after other next last named also one too is is_too =
+      let answer = one-text a b after other
+      (at_last (λ k. Leaves (view_at s k) a after) m named one)
+      (at_last (λ k. Leaves (view_at s k) b other) n also too) in
       let state = is ∙ (λ i. with_session (with_floor s (one-number m n named also i)) (answer.1 i)) ∙ sym is_too in
       λ i. passed_by (answer.0 i) (state i)
+
+  one-answer : (line : ℕ) (own : Statement) (m n : ℕ) (a b : List ℕ) (after other : SessionState) (next last : State) → IsNamed rules s m → IsNamed rules s n → IsAnswer line (view_at s m) s.session own a after → IsAnswer line (view_at s n) s.session own b other
+      → next ≡ with_session (with_floor s m) after → last ≡ with_session (with_floor s n) other → passed_by a next ≡ passed_by b last
+  one-answer line own =
+      one-named (λ view text after. IsAnswer line view s.session own text after)
+      (answer-unique line (view_at s (last_of s)) (trees-at s h (last_of s)) s.session own)
+
+  -- one that names none
+  one-unnamed : (a b : List ℕ) (after other : SessionState) (next last : State) → (a ≡ b) × (after ≡ other) → next ≡ with_session s after → last ≡ with_session s other → passed_by a next ≡ passed_by b last
+  one-unnamed a b after other next last same is is_too =
+      let state = is ∙ ap (with_session s) same.1 ∙ sym is_too in
+      λ i. passed_by (same.0 i) (state i)
 
   -- an import is begun in one way
   one-opening : (line : ℕ) (from : Source) (used more : List ImportCourse) (a b : List ℕ) (next after : State) → OpensImport files rules s line from used a next → losses_of used ≡ 0 → OpensImport files rules s line from more b after → losses_of more ≡ 0 → passed_by a next ≡ passed_by b after
@@ -125,9 +141,23 @@ module _ (files : List File) (rules : Rules) (serial : IsTrue rules.serial) (s :
       let state = one.2 ∙ sym other.2 in
       λ i. passed_by (text i) (state i)
   one-passing line (statement.Retire name) used more a b next after one none other too =
-      let same = retired-one line name s.session a b one.0 other.0 one.1 other.1 in
-      let state = one.3 ∙ ap (with_session s) same.1 ∙ sym other.3 in
-      λ i. passed_by (same.0 i) (state i)
+      one-unnamed a b one.0 other.0 next after (retired-one line name s.session a b one.0 other.0 one.1 other.1) one.3 other.3
+  one-passing line (statement.Watch name query filter) used more a b next after (inl one) none (inl other) too =
+      one-named (λ view text left. IsWatchBegun line view name query filter s.session text left)
+      (begun-one line (view_at s (last_of s)) (trees-at s h (last_of s)) name query filter s.session)
+      one.0 other.0 a b one.1 other.1 next after one.2 other.2 one.3 other.3 one.5 other.5
+  one-passing line (statement.Watch name query filter) used more a b next after (inl one) none (inr other) too = absurd (free-none name s.session.watches one.3.added.free other.1.found)
+  one-passing line (statement.Watch name query filter) used more a b next after (inr one) none (inl other) too = absurd (free-none name s.session.watches other.3.added.free one.1.found)
+  one-passing line (statement.Watch name query filter) used more a b next after (inr one) none (inr other) too =
+      one-unnamed a b one.0 other.0 next after (taken-one line name s.session a b one.0 other.0 one.1 other.1) one.3 other.3
+  one-passing line (statement.Watched name) used more a b next after (inl one) none (inl other) too =
+      one-named (λ view text left. IsWatchTold line view name s.session text left)
+      (told-one line (view_at s (last_of s)) (trees-at s h (last_of s)) name s.session)
+      one.0 other.0 a b one.1 other.1 next after one.2 other.2 one.3 other.3 one.5 other.5
+  one-passing line (statement.Watched name) used more a b next after (inl one) none (inr other) too = absurd (free-none name s.session.watches other.1.free one.3.advanced.found)
+  one-passing line (statement.Watched name) used more a b next after (inr one) none (inl other) too = absurd (free-none name s.session.watches one.1.free other.3.advanced.found)
+  one-passing line (statement.Watched name) used more a b next after (inr one) none (inr other) too =
+      one-unnamed a b one.0 other.0 next after (missing-one line name s.session a b one.0 other.0 one.1 other.1) one.3 other.3
 
 -- where a run stands, and what it has printed
 record Printed : Type 0 where

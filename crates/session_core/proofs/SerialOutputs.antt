@@ -1,5 +1,5 @@
 -- What a serial run prints is lawful also where imports go on beside the statements.
-use Rattle.std.proofs.Common.{ℕ, false, List, [], ◌∷◌}
+use Rattle.std.proofs.Common.{inl, inr, ℕ, false, List, [], ◌∷◌}
 use Rattle.kb_edges.specs.Files.{File}
 use Rattle.query_script.specs.declared.statement.Placed.{Placed}
 use Rattle.query_script.specs.declared.statement.PlacedSearch.{PlacedSearch}
@@ -31,6 +31,10 @@ module _ (files : List File) (rules : Rules) where
   passed-beside s next line (statement.Together searches) used text of = (of.0, of.1, searched-beside s searches s.session of.0 text of.1 of.2, of.3, of.4)
   passed-beside s next line statement.Report used text of = of
   passed-beside s next line (statement.Retire name) used text of = of
+  passed-beside s next line (statement.Watch name query filter) used text (inl of) = inl (of.0, of.1, named-beside s of.0 of.2, of.3, of.4, of.5)
+  passed-beside s next line (statement.Watch name query filter) used text (inr of) = inr of
+  passed-beside s next line (statement.Watched name) used text (inl of) = inl (of.0, of.1, named-beside s of.0 of.2, of.3, of.4, of.5)
+  passed-beside s next line (statement.Watched name) used text (inr of) = inr of
   passed-beside s next line (statement.Search query filter) used text of = (of.0, of.1, named-beside s of.0 of.2, of.3, of.4, of.5)
   passed-beside s next line (statement.Kept query) used text of = (of.0, of.1, named-beside s of.0 of.2, of.3, of.4, of.5)
   passed-beside s next line (statement.Signature pattern) used text of = (of.0, of.1, named-beside s of.0 of.2, of.3, of.4, of.5)

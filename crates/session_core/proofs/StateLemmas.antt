@@ -1,5 +1,5 @@
 -- What holds of the states of a run whatever is kept of them.
-use Rattle.std.proofs.Common.{◌≡◌, ℕ, ◌≤◌, List, [], ◌∷◌, Option, Some, None, refl, sym, ap, ◌∙◌, arith}
+use Rattle.std.proofs.Common.{◌≡◌, inl, inr, ℕ, ◌≤◌, List, [], ◌∷◌, Option, Some, None, refl, sym, ap, ◌∙◌, arith}
 use Rattle.std.specs.Prelude.{max}
 use Rattle.std.specs.Option.{option_map_or}
 use Rattle.std.proofs.Math.Nat.{max-le}
@@ -50,6 +50,10 @@ log_kept rules files s next line (statement.Game number) used text not of = ap (
 log_kept rules files s next line (statement.Opening shape depth least) used text not of = ap (λ (t : State). t.log) of.5
 log_kept rules files s next line statement.Report used text not of = ap (λ (t : State). t.log) of.2
 log_kept rules files s next line (statement.Retire name) used text not of = ap (λ (t : State). t.log) of.3
+log_kept rules files s next line (statement.Watch name query filter) used text not (inl of) = ap (λ (t : State). t.log) of.5
+log_kept rules files s next line (statement.Watch name query filter) used text not (inr of) = ap (λ (t : State). t.log) of.3
+log_kept rules files s next line (statement.Watched name) used text not (inl of) = ap (λ (t : State). t.log) of.5
+log_kept rules files s next line (statement.Watched name) used text not (inr of) = ap (λ (t : State). t.log) of.3
 
 -- it is the same, so one begins with the other
 pub same_begins : (log now : List Segment) → now ≡ log → IsPrefix log now
@@ -71,6 +75,8 @@ log_grows rules files s next line (statement.Game number) used text of = same_be
 log_grows rules files s next line (statement.Opening shape depth least) used text of = same_begins s.log next.log (log_kept rules files s next line (statement.Opening shape depth least) used text tt of)
 log_grows rules files s next line statement.Report used text of = same_begins s.log next.log (log_kept rules files s next line statement.Report used text tt of)
 log_grows rules files s next line (statement.Retire name) used text of = same_begins s.log next.log (log_kept rules files s next line (statement.Retire name) used text tt of)
+log_grows rules files s next line (statement.Watch name query filter) used text of = same_begins s.log next.log (log_kept rules files s next line (statement.Watch name query filter) used text tt of)
+log_grows rules files s next line (statement.Watched name) used text of = same_begins s.log next.log (log_kept rules files s next line (statement.Watched name) used text tt of)
 
 module _ (files : List File) (rules : Rules) (s : State) (line : ℕ) where
   -- a statement that begins an import is passed so

@@ -1,6 +1,6 @@
 -- Each begun text is a prefix of a lawful output: what is left of the script is passed on, each
 -- statement with the last version, and each import without a loss.
-use Rattle.std.proofs.Common.{◌≡◌, inl, inr, ℕ, ◌≤◌, List, [], ◌∷◌, ◌++◌, drop, take, refl, sym, ap, ◌∙◌, subst, append_assoc, length-append, arith}
+use Rattle.std.proofs.Common.{◌≡◌, ◌⊎◌, inl, inr, ℕ, ◌≤◌, List, [], ◌∷◌, ◌++◌, drop, take, refl, sym, ap, ◌∙◌, subst, append_assoc, length-append, arith}
 use Rattle.std.specs.Prelude.{All, max}
 use Rattle.std.proofs.Math.Nat.{max-le}
 use Rattle.std.proofs.lemmas.Grind.{flat_map-append}
@@ -16,10 +16,11 @@ use Rattle.query_script.specs.declared.statement.Statement.{Statement}
 use Rattle.query_script.specs.declared.statement.Statement.TheVariants as statement
 use Rattle.query_script.specs.Texts.{until_text, wait_text}
 use Rattle.hit_collectors.specs.Tallies.{BoxTally}
-use Rattle.session_core.specs.Answers.{IsAnswer, IsAnswered, boxes_text}
+use Rattle.session_core.specs.Answers.{IsAnswer, IsAnswered, IsWatchBegun, IsWatchMissing, IsWatchTaken, IsWatchTold, View, boxes_text}
 use Rattle.session_core.proofs.OneAnswer.{answer-found, retired-found, search-found}
+use Rattle.session_core.proofs.WatchAnswers.{watch-found, watched-found}
 use Rattle.import_work.specs.Course.{Finding, ImportCourse, IsImported, losses_of, nothing_lost, trees_in}
-use Rattle.session_core.specs.Lawful.{AreSearched, HasPrinted, IsBegun, IsLawful, IsNamed, IsNextPrefix, IsPassed, IsStatementText, Rules, State, after_import, at_start, report_printed, last_of, view_at, waiting_text, with_session, with_floor}
+use Rattle.session_core.specs.Lawful.{AreSearched, HasPrinted, IsBegun, IsLawful, IsNamed, IsNextPrefix, IsPassed, IsStatementText, NamesNone, NamesVersion, Rules, State, after_import, at_start, report_printed, last_of, view_at, waiting_text, with_session, with_floor}
 use Rattle.session_core.specs.SessionState.{SessionState}
 use Rattle.import_work.specs.Log.{Segment, games_at, games_of_segments, segments_of}
 use Rattle.import_work.specs.Outcome.{counts_of}
@@ -67,6 +68,11 @@ module _ (files : List File) (rules : Rules) where
         (imported-trees files from (counts_of (trees_in (games_of_segments s.log))) entry rules.batch finding is));
   }
 
+  -- one that names a version, or none
+  either-on : (s next : State) (Leaves : View → SessionState → Type 0) (Tells : SessionState → Type 0) (used : List ImportCourse) → IsReached s → NamesVersion rules s Leaves used next ⊎ NamesNone s Tells used next → IsReached next
+  either-on s next Leaves Tells used h (inl is) = rw is.5 (named s is.0 is.1 h is.2.to)
+  either-on s next Leaves Tells used h (inr is) = rw is.3 (record { floor = h.floor; trees = h.trees })
+
   pub passed-on : (s next : State) (line : ℕ) (own : Statement) (used : List ImportCourse) (text : List ℕ) → IsReached s → IsPassed files rules s line own used text next → IsReached next
   passed-on s next line (statement.Import path) used text h is = rw is.5 (imported s line (source.Under path) is.0 is.1 h is.3)
   passed-on s next line (statement.Make games start) used text h is = rw is.5 (imported s line (source.Made games start) is.0 is.1 h is.3)
@@ -82,6 +88,10 @@ module _ (files : List File) (rules : Rules) where
   passed-on s next line (statement.Opening shape depth least) used text h is = rw is.5 (named s is.0 is.1 h is.2.to)
   passed-on s next line statement.Report used text h is = rw is.2 h
   passed-on s next line (statement.Retire name) used text h is = rw is.3 (record { floor = h.floor; trees = h.trees })
+  passed-on s next line (statement.Watch name query filter) used text h is =
+      either-on s next (λ view after. IsWatchBegun line view name query filter s.session text after) (IsWatchTaken line name s.session text) used h is
+  passed-on s next line (statement.Watched name) used text h is =
+      either-on s next (λ view after. IsWatchTold line view name s.session text after) (IsWatchMissing line name s.session text) used h is
 
   pub reached : (start : List BoxTally) (course : List ImportCourse) (placed : List Placed) (s : State) (out : List ℕ) → HasPrinted files rules start course placed s out → IsReached s
   reached start _ _ _ _ HasPrinted.nothing = record { floor = omega arith; trees = All-nil HasTree }
@@ -114,6 +124,11 @@ module _ (files : List File) (rules : Rules) where
       let found = answer-found line (view_at s (last_of s)) (trees-at s h (last_of s)) s.session own answered in
       (found.0, with_session (with_floor s (last_of s)) found.1, (last_of s, found.1, last_named rules s h.floor, found.2, refl, refl))
 
+  -- one that names a version, or none, passes by the last version
+  either-passes : (s : State) → IsReached s → (Leaves : View → SessionState → Type 0) (Tells : SessionState → Type 0) (after : SessionState) → Leaves (view_at s (last_of s)) after ⊎ Tells after → (next : State) × (NamesVersion rules s Leaves [] next ⊎ NamesNone s Tells [] next)
+  either-passes s h Leaves Tells after (inl leaves) = (with_session (with_floor s (last_of s)) after, inl (last_of s, after, last_named rules s h.floor, leaves, refl, refl))
+  either-passes s h Leaves Tells after (inr tells) = (with_session s after, inr (after, tells, refl, refl))
+
   pub statement-passes : (s : State) (line : ℕ) (own : Statement) → IsReached s → (text : List ℕ) × Passes s line own text
   statement-passes s line (statement.Import path) h =
       (waiting_text s ++ import_line_text line (source.Under path), import-passes s line (source.Under path) (waiting_text s ++ import_line_text line (source.Under path)) refl)
@@ -135,6 +150,19 @@ module _ (files : List File) (rules : Rules) where
   statement-passes s line statement.Report h = (boxes_text line s.session.boxes, ([], s, (refl, refl, refl), refl))
   statement-passes s line (statement.Retire name) h =
       let found = retired-found line name s.session in (found.0, ([], with_session s found.1, (found.1, found.2, refl, refl), refl))
+  statement-passes s line (statement.Watch name query filter) h =
+      let found = watch-found line (view_at s (last_of s)) (trees-at s h (last_of s)) name query filter s.session in
+      let on = either-passes s h (λ view after. IsWatchBegun line view name query filter s.session found.0 after) (IsWatchTaken line name s.session found.0) found.1 found.2 in
+      (found.0, ([], on.0, on.1, refl))
+  statement-passes s line (statement.Watched name) h =
+      let found = watched-found line (view_at s (last_of s)) (trees-at s h (last_of s)) name s.session in
+      let on = either-passes s h (λ view after. IsWatchTold line view name s.session found.0 after) (IsWatchMissing line name s.session found.0) found.1 found.2 in
+      (found.0, ([], on.0, on.1, refl))
+
+  -- one that names a version, or none, uses no entry of the course
+  either-used : (s next : State) (Leaves : View → SessionState → Type 0) (Tells : SessionState → Type 0) (used : List ImportCourse) → NamesVersion rules s Leaves used next ⊎ NamesNone s Tells used next → used ≡ []
+  either-used s next Leaves Tells used (inl is) = is.4
+  either-used s next Leaves Tells used (inr is) = is.2
 
   -- a statement whose text is begun passes with that text
   text-passes : (s : State) (line : ℕ) (own : Statement) (text : List ℕ) → IsStatementText files rules s line own text → Passes s line own text
@@ -152,6 +180,10 @@ module _ (files : List File) (rules : Rules) where
   text-passes s line (statement.Opening shape depth least) text (used, next, is) = (used, next, is, rw is.4 refl)
   text-passes s line statement.Report text (used, next, is) = (used, next, is, rw is.1 refl)
   text-passes s line (statement.Retire name) text (used, next, is) = (used, next, is, rw is.2 refl)
+  text-passes s line (statement.Watch name query filter) text (used, next, is) =
+      (used, next, is, ap losses_of (either-used s next (λ view after. IsWatchBegun line view name query filter s.session text after) (IsWatchTaken line name s.session text) used is))
+  text-passes s line (statement.Watched name) text (used, next, is) =
+      (used, next, is, ap losses_of (either-used s next (λ view after. IsWatchTold line view name s.session text after) (IsWatchMissing line name s.session text) used is))
 
   -- ---- the rest of a script
 

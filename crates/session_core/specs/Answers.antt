@@ -9,7 +9,7 @@ use Rattle.sgf_writer.specs.Written.{IsWritten}
 use Rattle.query_script.specs.declared.statement.Statement.{Statement}
 use Rattle.query_script.specs.declared.statement.Statement.TheVariants as statement
 use Rattle.query_script.specs.Bytes.{line_feed}
-use Rattle.query_script.specs.Texts.{double_text, doubles_head, game_head, kept_text, no_game_text, no_retire_text, opening_head, players_text, report_head, retire_text, search_text, signature_head, found_game_text}
+use Rattle.query_script.specs.Texts.{double_text, doubles_head, game_head, kept_text, no_game_text, no_retire_text, players_text, report_head, no_watch_text, opening_head, retire_text, search_text, signature_head, found_game_text, taken_text, watch_text, watched_text}
 use Rattle.hit_collectors.specs.Boxes.{IsFedInPart, IsRetired}
 use Rattle.hit_collectors.specs.Reports.{report_line}
 use Rattle.hit_collectors.specs.Tallies.{BoxTally}
@@ -20,7 +20,8 @@ use Rattle.opening_tree.specs.declared.answer.Opening.{Opening}
 use Rattle.opening_tree.specs.Openings.{IsOpenings}
 use Rattle.session_core.specs.Doubles.{AreKeysOf, DoubleKey, Group, groups_of}
 use Rattle.session_core.specs.OpeningLines.{opening_lines}
-use Rattle.session_core.specs.SessionState.{SessionState, fed_with, with_boxes}
+use Rattle.session_core.specs.SessionState.{SessionState, Watched, fed_with, with_boxes, with_watches}
+use Rattle.session_core.specs.Watches.{ChangesWatches, IsFree, IsWatch, IsWatchAdded, IsWatchAdvanced}
 use Rattle.search_engine.specs.Hits.{AreHits}
 use Rattle.search_engine.specs.KeptGames.{AreKept}
 use Rattle.session_core.specs.Signed.{AreGamesFound, FoundGame}
@@ -118,6 +119,42 @@ pub data IsRetiredBy (line : ℕ) (name : List ℕ) (session : SessionState) : L
   none : All (λ (told : BoxTally). told.name ≢ name) session.boxes →
       IsRetiredBy line name session (no_retire_text line name) session
 
+-- A search is watched from now on: its name was free, and its hits are given to all boxes.
+pub record IsWatchBegun (line : ℕ) (view : View) (name : List ℕ) (query : Query) (filter : Filter)
+    (session : SessionState) (text : List ℕ) (after : SessionState) : Type 0 where
+  pub hits : List Hit
+  pub watches : List Watched
+  pub added : IsWatchAdded name query filter view.games session.watches watches hits
+  pub text_is : text ≡ watch_text line name view.version (length hits)
+  pub fed : after ≡ fed_with hits (with_watches session watches)
+
+-- A search is watched under this name already, and all stays as it is.
+pub record IsWatchTaken (line : ℕ) (name : List ℕ) (session : SessionState) (text : List ℕ)
+    (after : SessionState) : Type 0 where
+  pub found : IsWatch name session.watches
+  pub text_is : text ≡ taken_text line name
+  pub same : after ≡ session
+
+-- The search of a name is advanced and told: all its hits and their table. The new hits alone are
+-- given to all boxes.
+pub record IsWatchTold (line : ℕ) (view : View) (name : List ℕ) (session : SessionState)
+    (text : List ℕ) (after : SessionState) : Type 0 where
+  pub hits : List Hit
+  pub new : List Hit
+  pub table : TableView
+  pub watches : List Watched
+  pub advanced : IsWatchAdvanced name view.games session.watches watches hits new
+  pub is_table : IsTable hits table
+  pub text_is : text ≡ watched_text line name view.version (length view.games) hits table
+  pub fed : after ≡ fed_with new (with_watches session watches)
+
+-- No search is watched under this name, and all stays as it is.
+pub record IsWatchMissing (line : ℕ) (name : List ℕ) (session : SessionState) (text : List ℕ)
+    (after : SessionState) : Type 0 where
+  pub free : IsFree name session.watches
+  pub text_is : text ≡ no_watch_text line name
+  pub same : after ≡ session
+
 -- The text of a statement over what is seen of the base, by what the statements before it left, and
 -- what it leaves. Other statements have none.
 abbrev pub IsAnswer : ℕ → View → SessionState → Statement → List ℕ → SessionState → Type 0
@@ -139,6 +176,12 @@ IsAnswer line view session statement.Report text after =
     (text ≡ boxes_text line session.boxes) × (after ≡ session)
 IsAnswer line view session (statement.Retire name) text after =
     IsRetiredBy line name session text after
+IsAnswer line view session (statement.Watch name query filter) text after =
+    IsWatchBegun line view name query filter session text after
+    ⊎ IsWatchTaken line name session text after
+IsAnswer line view session (statement.Watched name) text after =
+    IsWatchTold line view name session text after
+    ⊎ IsWatchMissing line name session text after
 IsAnswer line view session (statement.Import path) text after = ⊥
 IsAnswer line view session (statement.Make games start) text after = ⊥
 IsAnswer line view session statement.Wait text after = ⊥
@@ -156,6 +199,8 @@ IsAnswered (statement.Game number) = Unit {0}
 IsAnswered (statement.Opening shape depth least) = Unit {0}
 IsAnswered statement.Report = Unit {0}
 IsAnswered (statement.Retire name) = Unit {0}
+IsAnswered (statement.Watch name query filter) = Unit {0}
+IsAnswered (statement.Watched name) = Unit {0}
 IsAnswered (statement.Import path) = ⊥
 IsAnswered (statement.Make games start) = ⊥
 IsAnswered statement.Wait = ⊥
@@ -170,7 +215,19 @@ IsLeft AreThese session after =
     ⊎ ((hits : List Hit) × (boxes : List BoxTally) × AreThese hits
     × IsFedInPart hits session.boxes boxes × (after ≡ with_boxes session boxes))
 
--- the hits with which a statement feeds the boxes: those of a search
-abbrev pub FeedsHits : View → Statement → List Hit → Type 0
-FeedsHits view (statement.Search query filter) hits = AreHits query filter view.games hits
-FeedsHits view other hits = ⊥
+-- the hits with which a statement feeds the boxes: those of a search, or those of a watched search
+-- that are new
+abbrev pub FeedsHits : View → SessionState → Statement → List Hit → Type 0
+FeedsHits view session (statement.Search query filter) hits = AreHits query filter view.games hits
+FeedsHits view session other hits =
+    (watches : List Watched) × ChangesWatches view.games session.watches other watches hits
+
+-- What is left where the answer to a statement was refused: what there was, with boxes that were
+-- perhaps fed in part; and the watched search that the statement names may have been added, or
+-- advanced to this version.
+abbrev pub IsLeftBehind : View → Statement → SessionState → SessionState → Type 0
+IsLeftBehind view own session after =
+    IsLeft (FeedsHits view session own) session after
+    ⊎ ((watches : List Watched) × (hits : List Hit)
+    × ChangesWatches view.games session.watches own watches hits
+    × IsLeft (FeedsHits view session own) (with_watches session watches) after)

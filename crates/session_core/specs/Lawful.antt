@@ -10,7 +10,7 @@ use Rattle.query_script.specs.declared.statement.Statement.{Statement}
 use Rattle.query_script.specs.declared.statement.Statement.TheVariants as statement
 use Rattle.query_script.specs.Texts.{until_text, wait_text}
 use Rattle.hit_collectors.specs.Tallies.{BoxTally}
-use Rattle.session_core.specs.Answers.{IsAnswer, IsRetiredBy, IsSearched, View, boxes_text}
+use Rattle.session_core.specs.Answers.{IsAnswer, IsRetiredBy, IsSearched, IsWatchBegun, IsWatchMissing, IsWatchTaken, IsWatchTold, View, boxes_text}
 use Rattle.session_core.specs.SessionState.{SessionState, new_session}
 use Rattle.import_work.specs.Course.{Finding, ImportCourse, IsImported, trees_in}
 use Rattle.import_work.specs.Log.{Segment, games_at, games_of_segments, segments_of}
@@ -122,9 +122,24 @@ OpensImport files rules s line source used text next =
     × (text ≡ waiting_text s ++ import_line_text line source)
     × (next ≡ after_import rules s line finding)
 
+-- A statement by which this holds of what is seen of the base and of what is left names the version,
+-- and leads to the next state.
+abbrev pub NamesVersion : Rules → State → (View → SessionState → Type 0) → List ImportCourse →
+    State → Type 0
+NamesVersion rules s Leaves used next =
+    (n : ℕ) × (after : SessionState) × IsNamed rules s n × Leaves (view_at s n) after
+    × (used ≡ []) × (next ≡ with_session (with_floor s n) after)
+
+-- A statement that leaves this names no version, and leads to the next state.
+abbrev pub NamesNone : State → (SessionState → Type 0) → List ImportCourse → State → Type 0
+NamesNone s Leaves used next =
+    (after : SessionState) × Leaves after × (used ≡ []) × (next ≡ with_session s after)
+
 -- A statement at a line prints this text and leads to the next state, by these entries of the
 -- course. An import, also of made games, and a wait print a report that waits first. A statement
--- that is answered from the games of a version names it in its text. Searches and retirements alone
+-- that is answered from the games of a version names it in its text. So does one that watches a
+-- search, or tells a watched one, but where its text is that the name is taken, or that none is
+-- watched under it: such a text names no version. Searches, also watched ones, and retirements alone
 -- change what is left for the statements behind them.
 abbrev pub IsPassed : List File → Rules → State → ℕ → Statement → List ImportCourse → List ℕ →
     State → Type 0
@@ -146,6 +161,13 @@ IsPassed files rules s line statement.Report used text next =
 IsPassed files rules s line (statement.Retire name) used text next =
     (after : SessionState) × IsRetiredBy line name s.session text after
     × (used ≡ []) × (next ≡ with_session s after)
+IsPassed files rules s line (statement.Watch name query filter) used text next =
+    NamesVersion rules s
+    (λ view after. IsWatchBegun line view name query filter s.session text after) used next
+    ⊎ NamesNone s (IsWatchTaken line name s.session text) used next
+IsPassed files rules s line (statement.Watched name) used text next =
+    NamesVersion rules s (λ view after. IsWatchTold line view name s.session text after) used next
+    ⊎ NamesNone s (IsWatchMissing line name s.session text) used next
 IsPassed files rules s line answered used text next =
     (n : ℕ) × (after : SessionState) × IsNamed rules s n
     × IsAnswer line (view_at s n) s.session answered text after

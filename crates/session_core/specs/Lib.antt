@@ -8,6 +8,8 @@ pub mod SessionState
 pub mod Signed
 pub mod Sources
 pub mod Stores
+pub mod Watches
 -- Definitions of private functions.
 pub mod Listing
 pub mod Grouping
+pub mod Watching

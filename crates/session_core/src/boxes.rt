@@ -4,7 +4,7 @@ ghost use mathlib.Core.List.{IsPrefix};
 ghost use Rattle.hit_collectors.specs.Boxes.{IsFedInPart, all_with_hits};
 ghost use Rattle.hit_collectors.specs.Reports.{report_line};
 ghost use Rattle.session_core.specs.Answers.{IsRetiredBy, boxes_text};
-ghost use Rattle.session_core.specs.SessionState.{new_session};
+ghost use Rattle.session_core.specs.SessionState.{Watched, session_of};
 
 use hit_collectors::{Collector, NoSuchName, feed, retire};
 use kb_geometry::NoMemory;
@@ -55,9 +55,9 @@ pub(crate) fn retire_box<C: Collector>(
     boxes: &mut Vec<C>,
     out: &mut Vec<u8>,
 ) -> Result<(), NoMemory>
-    ensures ok { OnOk result ((text : List ℕ)
-        × IsRetiredBy line name.now (new_session (map (λ b. C.tally b) boxes.old.items))
-        text (new_session (map (λ b. C.tally b) boxes.new.items))
+    ensures ok { OnOk result ((watches : List Watched) → (text : List ℕ)
+        × IsRetiredBy line name.now (session_of (map (λ b. C.tally b) boxes.old.items) watches)
+        text (session_of (map (λ b. C.tally b) boxes.new.items) watches)
         × (out.new.items ≡ out.old.items ++ text)) }
     ensures refused { OnErr result (out.new.items ≡ out.old.items) }
     ensures same { OnErr result (boxes.new.items ≡ boxes.old.items) }

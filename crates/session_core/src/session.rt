@@ -1,5 +1,17 @@
 // The answers of statements.
-ghost use Rattle.std.specs.Prelude.{◌≡◌, ◌++◌, ◌∷◌, [], ℕ, List, OnErr, OnOk, length, map};
+ghost use Rattle.std.specs.Prelude.{
+  ◌≡◌,
+  ◌⊎◌,
+  ◌++◌,
+  ◌∷◌,
+  [],
+  ℕ,
+  List,
+  OnErr,
+  OnOk,
+  length,
+  map,
+};
 ghost use mathlib.Core.List.{IsPrefix};
 ghost use Rattle.continuation_table.specs.Table.{IsTable};
 ghost use Rattle.sgf_writer.specs.Written.{IsWritten};
@@ -7,26 +19,36 @@ ghost use Rattle.query_script.specs.Bytes.{line_feed};
 ghost use Rattle.query_script.specs.Texts.{game_head, search_text};
 ghost use Rattle.search_engine.specs.Hits.{AreHits};
 ghost use Rattle.session_core.specs.Answers.{
-  FeedsHits,
   IsAnswer,
   IsAnswered,
   IsGameText,
   IsKeptText,
   IsLeft,
+  IsLeftBehind,
   IsSearched,
+  IsWatchTold,
   View,
 };
-ghost use Rattle.session_core.specs.SessionState.{fed_with, new_session};
+ghost use Rattle.query_script.specs.declared.statement.Statement.TheVariants as statement;
+ghost use Rattle.session_core.specs.SessionState.{Watched, fed_with, new_session, with_watches};
 ghost use Rattle.session_core.specs.Stores.{view_of};
+ghost use Rattle.session_core.specs.Watches.{WatchesFit};
+ghost use Rattle.session_core.specs.Watching.{IsWatchAt};
 
 use crate::boxes::{append_report, feed_boxes, retire_box};
 use crate::lists::{append_doubles, append_players, append_signature};
 use crate::openings::{Asked, append_opening};
+use crate::watch::Watch;
+use crate::watches::{advance_at, feed_from, find_watch};
+use continuation_table::Table;
 use hit_collectors::Collector;
 use info_filter::Filter;
-use kb_geometry::{NoMemory, cut_back};
+use kb_geometry::{NoMemory, Text, cut_back};
 use pattern_images::Query;
-use query_script::{Statement, print_game, print_hits, print_kept, print_no_game};
+use query_script::{
+    Statement, print_game, print_hits, print_kept, print_no_game, print_no_watch, print_taken,
+    print_watch, print_watched,
+};
 use search_engine::{Answer, find_game, game_count, kept, search};
 use segment_store::{FinishedGame, Segment};
 use sgf_writer::write;
@@ -36,28 +58,32 @@ use std::thread::Threads;
 use version_publisher::Version;
 
 /// Answers statements, each over the games that its call is given, and keeps boxes that tally the
-/// hits of its searches. Contracts see it as what it keeps from one statement to the next: what the
-/// boxes tell, in order.
+/// hits of its searches, and the searches that are watched. Contracts see it as what it keeps from one
+/// statement to the next: what the boxes tell, and the watched searches, both in order.
 #[derive(Drop)]
 pub struct Session<C: Collector> {
     boxes: Vec<C>,
+    watches: Vec<Watch>,
 }
 
 impl<C: Collector> Model for Session<C> {
     ghost use Rattle.std.specs.Prelude.{map};
-    ghost use Rattle.session_core.specs.SessionState.{SessionState, new_session};
+    ghost use Rattle.session_core.specs.SessionState.{SessionState, session_of};
 
     ghost Value = { SessionState };
 
-    ghost view = { λ s. new_session (map (λ b. C.tally b) s.boxes.items) };
+    ghost view = { λ s. session_of (map (λ b. C.tally b) s.boxes.items) s.watches.items };
 }
 
 impl<C: Collector> Session<C> {
     /// A session with these boxes, which has answered nothing.
-    pub fn new(boards: Vec<C>) -> Session<C>
+    pub fn new(alloc: Global, boards: Vec<C>) -> Session<C>
         ensures { result ≡ new_session (map (λ b. C.tally b) boards.items) }
     {
-        Session { boxes: boards }
+        Session {
+            boxes: boards,
+            watches: Vec::new(alloc),
+        }
     }
 
     /// Appends the text of a search, of a count of kept games, of the games whose signature matches
@@ -65,9 +91,15 @@ impl<C: Collector> Session<C> {
     /// over a version; or the report of the boxes, or that a box was retired. The hits of a search are
     /// given to all boxes. Other statements aren't answered.
     ///
+    /// Of a search that is watched from now on the number of its hits is appended, and a watched search
+    /// is told as a search is; the hits that are new are given to all boxes. A watched search goes over
+    /// the new games alone, so the version begins with the games that it covers.
+    ///
     /// The only error is `NoMemory`; then `out` begins with what it held. The boxes are as before,
     /// or [`feed`](hit_collectors::feed) was refused: then the boxes before one have all hits, that
-    /// one has those before the hit that it refused, and the later boxes have none.
+    /// one has those before the hit that it refused, and the later boxes have none. The watched search
+    /// that the statement names may have been added, or have gone on to this version; every other one is
+    /// as before.
     pub fn answer<R: Threads + Sync>(
         &mut self,
         rt: &R,
@@ -78,12 +110,13 @@ impl<C: Collector> Session<C> {
         out: &mut Vec<u8>,
     ) -> Result<(), NoMemory>
         requires answered { IsAnswered statement.now }
+        requires fit { WatchesFit (view_of version.now).games self.old }
         ensures ok { OnOk result ((text : List ℕ)
             × IsAnswer line (view_of version.now) self.old statement.now text self.new
             × (out.new.items ≡ out.old.items ++ text)) }
         ensures refused { OnErr result (IsPrefix out.old.items out.new.items) }
         ensures left { OnErr result
-            (IsLeft (FeedsHits (view_of version.now) statement.now) self.old self.new) }
+            (IsLeftBehind (view_of version.now) statement.now self.old self.new) }
     {
         match statement {
             Statement::Search { query, filter } => {
@@ -110,6 +143,14 @@ impl<C: Collector> Session<C> {
             }
             Statement::Report => append_report(line, &self.boxes, out),
             Statement::Retire { name } => retire_box(line, name.as_str(), &mut self.boxes, out),
+            Statement::Watch {
+                name,
+                query,
+                filter,
+            } => self.answer_watch(alloc, line, name, query, filter, version, out),
+            Statement::Watched { name } => {
+                self.answer_watched(alloc, line, name.as_str(), version, out)
+            }
             Statement::Import { .. }
             | Statement::Make { .. }
             | Statement::Wait
@@ -189,6 +230,111 @@ impl<C: Collector> Session<C> {
             (IsLeft (λ hits. hits ≡ answer.now.hits.items) self.old self.new) }
     {
         feed_boxes(&mut self.boxes, &answer.hits)
+    }
+
+    // Appends the text of a search that is watched from now on, and gives its hits to all boxes; or
+    // that its name is taken.
+    fn answer_watch(
+        &mut self,
+        alloc: Global,
+        line: u32,
+        name: &Text,
+        query: &Query,
+        filter: &Filter,
+        version: &Version<Segment>,
+        out: &mut Vec<u8>,
+    ) -> Result<(), NoMemory>
+        ensures ok { OnOk result ((text : List ℕ)
+            × IsAnswer line (view_of version.now) self.old
+            (statement.Watch name.now query.now filter.now) text self.new
+            × (out.new.items ≡ out.old.items ++ text)) }
+        ensures refused { OnErr result (out.new.items ≡ out.old.items) }
+        ensures left { OnErr result (IsLeftBehind (view_of version.now)
+            (statement.Watch name.now query.now filter.now) self.old self.new) }
+    {
+        if let Some(_at) = find_watch(&self.watches, name.as_str()) {
+            return print_taken(line, name.as_str(), out);
+        }
+        let watch = Watch::over(alloc, name, query, filter, version)?;
+        // The text is there before anything changes, so that a refusal for want of room changes nothing.
+        let len = out.len();
+        let count = watch.hits().len();
+        print_watch(line, name.as_str(), version.number(), count, out)?;
+        let begun = self.begin(watch);
+        cut_back(out, len, begun)
+    }
+
+    // Adds a watched search, and gives its hits to all boxes.
+    fn begin(&mut self, watch: Watch) -> Result<(), NoMemory>
+        ensures ok { OnOk result (self.new ≡ fed_with watch.hits
+            (with_watches self.old (self.old.watches ++ watch ∷ []))) }
+        ensures left { OnErr result ((self.new ≡ self.old) ⊎ IsLeft (λ hits. hits ≡ watch.hits)
+            (with_watches self.old (self.old.watches ++ watch ∷ [])) self.new) }
+    {
+        let at = self.watches.len();
+        self.watches.push(watch)?;
+        feed_from(&mut self.boxes, &self.watches, at, 0)
+    }
+
+    // Appends the text of the watched search of a name, and gives its new hits to all boxes; or that
+    // none is watched under it.
+    fn answer_watched(
+        &mut self,
+        alloc: Global,
+        line: u32,
+        name: &str,
+        version: &Version<Segment>,
+        out: &mut Vec<u8>,
+    ) -> Result<(), NoMemory>
+        requires { WatchesFit (view_of version.now).games self.old }
+        ensures ok { OnOk result ((text : List ℕ)
+            × IsAnswer line (view_of version.now) self.old (statement.Watched name.now) text self.new
+            × (out.new.items ≡ out.old.items ++ text)) }
+        ensures refused { OnErr result (out.new.items ≡ out.old.items) }
+        ensures left { OnErr result (IsLeftBehind (view_of version.now)
+            (statement.Watched name.now) self.old self.new) }
+    {
+        match find_watch(&self.watches, name) {
+            Some(at) => self.tell_watch(alloc, line, name, at, version, out),
+            None => print_no_watch(line, name, out),
+        }
+    }
+
+    // Lets the watched search at a place go on to a version, appends its text, and gives its new hits
+    // to all boxes.
+    fn tell_watch(
+        &mut self,
+        alloc: Global,
+        line: u32,
+        name: &str,
+        at: usize,
+        version: &Version<Segment>,
+        out: &mut Vec<u8>,
+    ) -> Result<(), NoMemory>
+        requires at { IsWatchAt name.now self.old.watches at }
+        requires fit { WatchesFit (view_of version.now).games self.old }
+        ensures ok { OnOk result ((text : List ℕ)
+            × IsWatchTold line (view_of version.now) name.now self.old text self.new
+            × (out.new.items ≡ out.old.items ++ text)) }
+        ensures refused { OnErr result (out.new.items ≡ out.old.items) }
+        ensures left { OnErr result (IsLeftBehind (view_of version.now)
+            (statement.Watched name.now) self.old self.new) }
+    {
+        let first = advance_at(alloc, &mut self.watches, at, version)?;
+        let hits = self.watches[at].hits();
+        let table = Table::of(alloc, hits)?;
+        let len = out.len();
+        print_watched(
+            line,
+            name,
+            version.number(),
+            game_count(version),
+            hits,
+            &table,
+            out,
+        )?;
+        let fed = feed_from(&mut self.boxes, &self.watches, at, first);
+        cut_back(out, len, fed)
     }
 }
 

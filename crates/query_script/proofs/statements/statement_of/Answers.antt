@@ -9,4 +9,6 @@ returns-clause-none c =
     let no_search = rw c.in_default-3.is at c.in_ok-query.ensures.none in
     let no_kept = rw c.in_default-4.is at c.in_ok-query-2.ensures.none in
     let no_retire = rw c.in_default-5.is at c.in_ok-name.ensures.none in
-    no_statement _ no_search no_import numbered.no_make none.no_wait numbered.no_until no_kept c.in_default-signature_of.ensures.none none.no_players none.no_doubles numbered.no_game numbered.no_opening none.no_report no_retire
+    let no_watch = rw c.in_default-6.is at c.in_ok-name-2.ensures.none in
+    let no_watched = rw c.in_default-7.is at c.in_ok-name-3.ensures.none in
+    no_statement _ no_search no_import numbered.no_make none.no_wait numbered.no_until no_kept c.in_default-signature_of.ensures.none none.no_players none.no_doubles numbered.no_game numbered.no_opening none.no_report no_retire no_watch no_watched

@@ -11,6 +11,7 @@ pub loop-count-init : goal.loop-count-init
 loop-count-init g c = record {
   few = omega arith;
   held = c.requires.held;
+  fit = c.requires.fit;
   later = omega arith;
   seen = λ log h. h;
   answered = λ before written. λ batch. answers-none batch (HaveSeen c.args.searchers.now.own c.args.searchers.now.block.items) c.args.held.number c.args.session.now before _ written;
@@ -40,6 +41,7 @@ loop-count-preserved g c =
     let p = c.index-placed-count.result in record {
       few = omega (arith, c.loop-count-test.true);
       held = rw c.in-Some.is at c.in_ok-version.ensures.version;
+      fit = c.in_ok-version.ensures.fit;
       later = omega (arith, h.later, c.answer_one.ensures.sink_later);
       seen = λ log seen. h.seen log (c.answer_one.ensures.seen log seen);
       answered = λ before written. λ batch.

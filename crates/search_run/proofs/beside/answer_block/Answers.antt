@@ -2,13 +2,16 @@ use Rattle.std.proofs.Common.{[], ℕ, ◌∷◌, arith, subst}
 use Rattle.std.proofs.lemmas.List.Elements.{All-weaker}
 use mathlib.Core.List.{IsPrefix}
 use Rattle.node_position.specs.Games.{Game}
+use Rattle.version_publisher.specs.Contents.{items_in}
 use Rattle.version_publisher.specs.declared.state.SearcherState.{SearcherState}
+use Rattle.session_core.proofs.WatchLemmas.{fit-grown}
 use Rattle.search_run.specs.Beside.{StopsBeside, block_at}
 use Rattle.search_run.specs.Seen.{HaveSeen, HaveSeenOf, IsLookedAt}
+use Rattle.serial_run.proofs.FittingWatches.{block-fits}
 use Rattle.serial_run.proofs.RunLemmas.{after_error}
 use Rattle.search_run.proofs.StoppedRuns.{stops-none, stops-one}
 use Rattle.search_run.proofs.BesideLemmas.{IsBetween, block-goes-on, looked-between}
-use Rattle.search_run.proofs.SeenLemmas.{prefix_length, seen-before-block}
+use Rattle.search_run.proofs.SeenLemmas.{items-grown, prefix_length, seen-before-block}
 use Rattle.search_run.proofs.beside.answer_block.Goals as goal
 
 pub returns-in_err-version-clause-seen : goal.returns-in_err-version-clause-seen
@@ -74,3 +77,12 @@ returns-in_err-write_all-clause-stopped g c = λ before written.
     (block-goes-on batch (HaveSeen own block) (HaveSeen now block_now) floor c.args.session.now c.texts_from.new.session line c.args.searches.now text c.in_ok-version.version now.seen
     (seen-before-block own now block looked block_now grows c.look_each.ensures.seen c.catch_up.ensures.block) (λ log seen. seen.own_seen) c.in_ok-version.ensures.version (omega (arith, c.requires.held.number, prefix_length own.seen now.seen grows)) versions all (rw c.deref.ensures.value at c.in_ok-text.ensures)) part.1 part.2 in
     after_error _ _ stops
+
+pub returns-clause-fit : goal.returns-clause-fit
+returns-clause-fit g c =
+    let before = c.args.searchers.now.own.seen in
+    let now = c.catch_up.new.self.own.seen in
+    let grows = subst (λ (o : SearcherState Game). IsPrefix o.seen now) c.look_each.ensures.own c.catch_up.ensures.grows in
+    block-fits (items_in now) _ _ c.args.session.now c.texts_from.new.session c.in_ok-text.text.items
+    (fit-grown (items_in before) (items_in now) c.args.session.now (items-grown before now grows) c.requires.fit)
+    (rw c.deref.ensures.value at c.in_ok-text.ensures)

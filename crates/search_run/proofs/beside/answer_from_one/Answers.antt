@@ -1,8 +1,11 @@
-use Rattle.std.proofs.Common.{[], ℕ, ◌∷◌, arith, subst}
+use Rattle.std.proofs.Common.{[], ℕ, ◌∷◌, arith, subst, sym}
+use Rattle.version_publisher.specs.Contents.{items_in}
+use Rattle.session_core.specs.Watches.{WatchesFit}
+use Rattle.session_core.proofs.WatchLemmas.{fit-grown}
 use Rattle.search_run.specs.Beside.{Reaches, StopsBeside}
 use Rattle.search_run.specs.Seen.{HaveSeen}
 use Rattle.search_run.proofs.BesideLemmas.{goes-on}
-use Rattle.search_run.proofs.SeenLemmas.{prefix_length, seen_before}
+use Rattle.search_run.proofs.SeenLemmas.{items-grown, prefix_length, seen_before}
 use Rattle.serial_run.proofs.RunLemmas.{after_error}
 use Rattle.search_run.proofs.StoppedRuns.{stops-none, stops-one}
 use Rattle.search_run.proofs.beside.answer_from_one.Goals as goal
@@ -35,7 +38,7 @@ returns-clause-answered g c = λ before written. λ batch.
       text = c.in_ok-text.text.items;
       goes_on = goes-on batch (HaveSeen own block) (HaveSeen own_now block_now) c.args.held.number c.args.session.now c.version_text.new.session c.args.placed.now c.in_ok-text.text.items c.in-Some.version own_now.seen
           (seen_before own own_now block block_now grows c.version_for.ensures.block) (λ log seen. seen.own_seen) of (omega (arith, c.requires.held.number, longer)) (rw c.in-Some.is at c.in_ok-version.ensures.leaves)
-          (subst (Reaches c.args.placed.now.statement) of.number reaches) c.in_ok-text.ensures;
+          (subst (Reaches c.args.placed.now.statement) of.number reaches) c.in_ok-text.ensures.text;
       written_is = rw c.deref.ensures.value at (c.in_ok-write_all.ensures.whole before written);
     }
 
@@ -64,5 +67,24 @@ returns-in_err-write_all-clause-stopped g c = λ before written.
     let stops : (batch : ℕ) → StopsBeside batch (HaveSeen own block) c.args.held.number c.args.session.now (c.args.placed.now ∷ []) (HaveSeen own_now block_now) before (g.K.Sink.written c.write_all.new.out) = λ batch. stops-one batch (HaveSeen own block) (HaveSeen own_now block_now) c.args.held.number c.in-Some.version.number c.args.session.now c.version_text.new.session c.args.placed.now text part.0 before _
     (goes-on batch (HaveSeen own block) (HaveSeen own_now block_now) c.args.held.number c.args.session.now c.version_text.new.session c.args.placed.now text c.in-Some.version own_now.seen
     (seen_before own own_now block block_now grows c.version_for.ensures.block) (λ log seen. seen.own_seen) of (omega (arith, c.requires.held.number, longer)) (rw c.in-Some.is at c.in_ok-version.ensures.leaves)
-    (subst (Reaches c.args.placed.now.statement) of.number reaches) c.in_ok-text.ensures) part.1 part.2 in
+    (subst (Reaches c.args.placed.now.statement) of.number reaches) c.in_ok-text.ensures.text) part.1 part.2 in
     after_error _ _ stops
+
+pub version_text-requires-clause-fit : goal.version_text-requires-clause-fit
+version_text-requires-clause-fit g c =
+    let before = c.args.searchers.now.own.seen in
+    let now = c.version_for.new.searchers.own.seen in
+    let of = rw c.in-Some.is at c.in_ok-version.ensures.version in
+    subst (λ games. WatchesFit games c.args.session.now) (sym of.games)
+    (fit-grown (items_in before) (items_in now) c.args.session.now (items-grown before now c.version_for.ensures.grows) c.requires.fit)
+
+pub returns-in_default-clause-fit : goal.returns-in_default-clause-fit
+returns-in_default-clause-fit g c =
+    let before = c.args.searchers.now.own.seen in
+    let now = c.version_for.new.searchers.own.seen in
+    fit-grown (items_in before) (items_in now) c.args.session.now (items-grown before now c.version_for.ensures.grows) c.requires.fit
+
+pub returns-clause-fit : goal.returns-clause-fit
+returns-clause-fit g c =
+    let of = rw c.in-Some.is at c.in_ok-version.ensures.version in
+    subst (λ games. WatchesFit games c.version_text.new.session) of.games c.in_ok-text.ensures.fit

@@ -1,5 +1,7 @@
-use Rattle.std.proofs.Common.{◌+◌, ◌∙◌, arith, refl, subst, take}
+use Rattle.std.proofs.Common.{◌+◌, ◌∙◌, [], All, arith, refl, subst, sym, take}
 use Rattle.std.proofs.lemmas.List.{length-drop, take_all}
+use Rattle.std.proofs.lemmas.List.Elements.{All-nil}
+use Rattle.session_core.specs.Watches.{IsWatchOf}
 use Rattle.search_run.specs.Run.{beside_rules}
 use Rattle.search_run.specs.Stopped.{WritesPublishedPrefix}
 use Rattle.search_run.proofs.StoppedRuns.{taken_apart}
@@ -11,10 +13,11 @@ loop-next-init g c = record {
   inside = omega arith;
   few = rw c.requires.empty (omega arith);
   stands = rw c.new-state.ensures (stands-first _ c.args.importer.owned.publisher c.args.searchers.own c.requires.opening c.requires.idle c.requires.merged c.requires.empty c.requires.seen);
+  fit = rw c.new-state.ensures (subst (All (IsWatchOf [])) (sym c.requires.unwatched) (All-nil (IsWatchOf [])));
   same = refl;
   later = omega arith;
   sink_later = omega arith;
-  ran = λ files told before written. rw c.new-state.ensures (starts-run (beside_rules c.args.batch) files c.args.session.now c.args.importer.owned.publisher.log before (g.K.Sink.written c.args.out.now) (g.F.Folder.faults c.args.importer.folder) c.requires.empty written);
+  ran = λ files told before written. rw c.new-state.ensures (starts-run (beside_rules c.args.batch) files c.args.session.now c.args.importer.owned.publisher.log before (g.K.Sink.written c.args.out.now) (g.F.Folder.faults c.args.importer.folder) c.requires.unwatched c.requires.empty written);
 }
 
 pub loop-next-preserved : goal.loop-next-preserved
@@ -28,6 +31,7 @@ loop-next-preserved g c =
       inside = omega (arith, count, length-drop (i + 1) placed, c.loop-next-test.true);
       few = omega (arith, h.few, run.few);
       stands = rw c.in-Ok.is at run.stands;
+      fit = rw c.in-Ok.is at run.fit;
       same = run.same ∙ h.same;
       later = omega (arith, h.later, run.later);
       sink_later = omega (arith, h.sink_later, run.sink_later);

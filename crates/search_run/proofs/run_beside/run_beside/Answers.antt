@@ -1,4 +1,5 @@
-use Rattle.std.proofs.Common.{map}
+use Rattle.std.proofs.Common.{ap, map}
+use Rattle.session_core.specs.SessionState.{SessionState}
 use Rattle.search_run.specs.Run.{beside_rules}
 use Rattle.search_run.proofs.JoinedRuns.{closed-run, rose_either}
 use Rattle.search_run.proofs.StoppedRuns.{closed-stopped, stops-first}
@@ -23,3 +24,6 @@ returns-clause-stopped g c = λ files told before written.
     let run = c.run_all-importer in
     closed-stopped run.result.outcome c.close.result (beside_rules c.args.batch) files (map (λ b. g.C.Collector.tally b) c.args.boxes.items) run.new.session c.args.placed.now run.result.importer.owned.publisher.log before _ _ (g.F.Folder.faults c.args.importer.folder) (g.F.Folder.faults run.result.importer.folder)
     (rw c.new-session.ensures at (run.ensures.ran files told before written)) (rw c.new-session.ensures at (run.ensures.stopped files told before written)) c.close.ensures.part
+
+pub run_all-requires-clause-unwatched : goal.run_all-requires-clause-unwatched
+run_all-requires-clause-unwatched g c = ap (λ (s : SessionState). s.watches) c.new-session.ensures

@@ -1,4 +1,4 @@
-use Rattle.std.proofs.Common.{Result, ◌++◌, ◌∙◌, refl, subst, take}
+use Rattle.std.proofs.Common.{Result, ◌++◌, ◌∙◌, ap, refl, subst, sym, take}
 use Rattle.std.specs.Prelude.{IfOk}
 use Rattle.kb_geometry.specs.declared.memory.NoMemory.{NoMemory}
 use Rattle.import_work.specs.declared.report.Report.{Report}
@@ -8,10 +8,13 @@ use Rattle.import_segments.specs.Publishing.{IsIdle}
 use Rattle.search_run.specs.Seen.{HaveSeen}
 use Rattle.serial_run.specs.Steps.{kept_report}
 use Rattle.search_run.specs.Run.{beside_rules}
+use Rattle.version_publisher.specs.Contents.{items_in}
 use Rattle.session_core.specs.ImportTexts.{import_line_text}
+use Rattle.session_core.specs.Watches.{WatchesFit}
+use Rattle.session_core.proofs.WatchLemmas.{fit-grown}
 use Rattle.serial_run.proofs.RunLemmas.{after_error}
 use Rattle.search_run.proofs.JoinedRuns.{joined-run, ok_both}
-use Rattle.search_run.proofs.SeenLemmas.{seen_longer}
+use Rattle.search_run.proofs.SeenLemmas.{items-grown, seen_longer}
 use Rattle.search_run.proofs.StoppedRuns.{import-stopped, joined-stopped, stops-either}
 use Rattle.search_run.proofs.run_beside.run_import.Goals as goal
 
@@ -61,3 +64,16 @@ returns-clause-stopped g c = λ files told.
     (c.import_beside-joined.ensures.answered written wrote) (c.import_beside-joined.ensures.stopped written wrote) in
     joined-stopped files c.args.batch c.args.line c.args.source c.in-Ok.begun.0 c.args.state c.args.importer.owned.publisher.log publisher.log first (g.F.Folder.faults c.args.importer.folder) (g.F.Folder.faults ended.importer.folder) c.in-Ok.ensures.job (c.import_beside-joined.ensures.ended.first files told) start done c.args.rest.now c.args.session.now before _ _ (HaveSeen at.own at.block.items) (HaveSeen now.own now.block.items) c.into_version-held.result.number h
     (c.into_version-held.ensures.number ∙ c.requires.stands.version) stop (λ whole longer. seen_longer now.own now.block.items publisher.log whole longer c.join-outcome.ensures.seen))
+
+pub import_beside-requires-clause-fit : goal.import_beside-requires-clause-fit
+import_beside-requires-clause-fit g c =
+    subst (λ games. WatchesFit games c.args.session.now) (c.requires.stands.games ∙ ap items_in (sym c.requires.stands.own_seen)) c.requires.fit
+
+pub returns-clause-fit : goal.returns-clause-fit
+returns-clause-fit g c =
+    ok_both c.join-outcome.result _ _ _ c.join-outcome.ensures.joined c.join-outcome.ensures.answered (λ r j counted.
+    let seen = c.import_beside-joined.new.searchers.own.seen in
+    let session = c.import_beside-joined.new.session in
+    let log = c.import_beside-joined.result.ended.importer.owned.publisher.log in
+    let fit = subst (λ a. IfOk a (λ count. WatchesFit (items_in seen) session)) counted c.import_beside-joined.ensures.fit in
+    subst (λ games. WatchesFit games session) (sym j.games) (fit-grown (items_in seen) (items_in log) session (items-grown seen log c.join-outcome.ensures.seen.own_seen) fit))

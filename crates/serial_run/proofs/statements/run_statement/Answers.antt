@@ -3,6 +3,7 @@ use Rattle.std.proofs.lemmas.Result.{IfOk-weaker, on_err_weaker}
 use Rattle.query_script.specs.declared.statement.Placed.{Placed}
 use Rattle.serial_run.specs.Run.{serial_rules}
 use Rattle.serial_run.specs.Steps.{PassesStatement, StopsInStatement}
+use Rattle.session_core.proofs.WatchLemmas.{fit-grown}
 use Rattle.serial_run.proofs.StatementLemmas.{placed_as}
 use Rattle.serial_run.proofs.statements.run_statement.Goals as goal
 
@@ -36,3 +37,7 @@ returns-in-None-clause-passed g c = λ files told before written.
 pub returns-in-None-clause-stopped : goal.returns-in-None-clause-stopped
 returns-in-None-clause-stopped g c = λ before written.
     on_err_weaker c.answer_alone.result (λ stopped. stopped (serial_rules c.args.batch)) (c.answer_alone.ensures.stopped before written)
+
+pub returns-in-Some-clause-fit : goal.returns-in-Some-clause-fit
+returns-in-Some-clause-fit g c =
+    IfOk-weaker c.run_import.result _ _ (λ next grown. fit-grown c.args.state.games next.games c.args.session.now grown c.requires.fit) c.run_import.ensures.grown

@@ -1,5 +1,7 @@
 use Rattle.std.proofs.Common.{◌≡◌, ◌++◌, ◌∙◌, ◌∷◌, [], append-nil, arith, drop, map, refl, suc, sym, take}
 use Rattle.std.proofs.lemmas.List.{take_all}
+use Rattle.std.proofs.lemmas.List.Elements.{All-nil}
+use Rattle.session_core.specs.Watches.{IsWatchOf}
 use Rattle.serial_run.specs.Run.{serial_rules}
 use Rattle.serial_run.proofs.RunLemmas.{HasRun-more, HasRun-start, WritesPrefix-stopped, WritesLawful-end, after_error, next_prefix, split_here, taken_more}
 use Rattle.serial_run.proofs.StatementLemmas.{waiting_is}
@@ -19,6 +21,7 @@ loop-statement-init g c = record {
   same = refl;
   later = omega arith;
   sink_later = omega arith;
+  fit = rw (c.new-state.ensures, c.new-session.ensures) (All-nil (IsWatchOf []));
   version = rw c.new-state.ensures (omega arith);
   run = λ files told before written. rw c.new-state.ensures (HasRun-start (serial_rules c.args.batch) files (map (λ b. g.C.Collector.tally b) c.args.boxes.items) _ before (g.K.Sink.written c.args.out.now) (g.F.Folder.faults c.args.folder.now) c.new-session.ensures written);
 }
@@ -28,6 +31,7 @@ loop-statement-preserved g c = record {
   same = c.in_ok-state.ensures.same ∙ c.loop-statement.invariant.same;
   later = omega (arith, c.loop-statement.invariant.later, c.in_ok-state.ensures.later);
   sink_later = omega (arith, c.loop-statement.invariant.sink_later, c.in_ok-state.ensures.sink_later);
+  fit = c.in_ok-state.ensures.fit;
   version = omega (arith, c.loop-statement.invariant.version, c.in_ok-state.ensures.version);
   run = λ files told before written.
       let i = c.loop-statement.statement-index in

@@ -1,8 +1,10 @@
-use Rattle.std.proofs.Common.{◌∙◌, ◌++◌, List, ap, ℕ}
+use Rattle.std.proofs.Common.{◌∙◌, ◌++◌, List, ap, sym, ℕ}
 use Rattle.std.specs.Prelude.{Vec}
 use Rattle.std.specs.declared.alloc.Global.{Global}
 use Rattle.std.specs.Option.{option_map}
 use Rattle.import_work.specs.declared.report.Report.{Report}
+use Rattle.import_work.specs.Log.{games_of_segments}
+use Rattle.import_segments.proofs.PushedSegments.{games_pushed}
 use Rattle.session_core.specs.ImportTexts.{told_text}
 use Rattle.serial_run.proofs.ImportReports.{few_taken, few_told, leads}
 use Rattle.serial_run.proofs.run_state.RunState.pass_import.Goals as goal
@@ -31,3 +33,8 @@ returns-clause-passed g c = λ files told. λ text.
 
 pub invariant_of-result : goal.invariant_of-result
 invariant_of-result g c = (c.counts-counts.ensures ∙ c.in_ok-take_segments.ensures.counted, rw c.counts-counts.ensures c.in_ok-take_segments.ensures.few)
+
+pub returns-clause-grown : goal.returns-clause-grown
+returns-clause-grown g c =
+    let taken = c.in_ok-take_segments.ensures.taken in
+    rw (← c.self.view_is) (games_of_segments taken.segments, sym (games_pushed c.self.inside.version c.take_segments.new.version taken.segments taken.pushed))
