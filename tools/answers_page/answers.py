@@ -8,7 +8,7 @@ from __future__ import annotations
 import re
 from dataclasses import dataclass, field
 
-from .script import Statement
+from .script import OpeningQuestion, Statement
 
 NUMBER = r"(\d{1,20})"
 HIT = re.compile(r"hit (\d{1,10}) (\d{1,10}) (\d{1,2}) (\d{1,2}) (\d{1,2}) (?:-|([BW]) (\d{1,2}) (\d{1,2}) (now|later))$")
@@ -21,6 +21,8 @@ COLLECTOR = re.compile(r"collector (\S+) (\S+)((?: \d{1,20})*)$")
 REFUSED = re.compile(r"refused ([A-Za-z]+) " + NUMBER + " (.*)$")
 FULL = re.compile("full" + (" " + NUMBER) * 2 + " (.*)$")
 UNREAD = re.compile("unread (.*)$")
+POSITION = re.compile("position" + (" " + NUMBER) * 4 + r" (\d{1,10}) (\d{1,10})$")
+NEXT = re.compile(r"next ([BW]) (?:pass|(\d{1,2}) (\d{1,2}))" + (" " + NUMBER) * 4 + "$")
 
 
 @dataclass
@@ -106,6 +108,94 @@ class Search(Answer):
         if len(self.hits) < self.expected:
             return f"it has {len(self.hits):,} of its {self.expected:,} hits"
         return "" if self.total else "its table and totals are not whole"
+
+
+@dataclass
+class Watch(Answer):
+    """That a search is watched from now on: `found` is the number of its hits. Without it the name was taken."""
+
+    name: str = ""
+    version: int = 0
+    found: int | None = None
+
+
+@dataclass
+class Watched(Search):
+    """A watched search. Its first `before` hits were told in the line `since`, the further ones are new."""
+
+    name: str = ""
+    before: int | None = None
+    since: int = 0
+
+    def new_hits(self) -> int:
+        return 0 if self.before is None else max(self.expected - self.before, 0)
+
+
+@dataclass
+class Unwatched(Answer):
+    """That no search is watched under a name."""
+
+    name: str = ""
+
+
+@dataclass(slots=True)
+class Results:
+    """How often something came up, and how the games of it ended."""
+
+    count: int
+    black: int
+    white: int
+    other: int
+
+
+@dataclass(slots=True)
+class NextMove:
+    """A move behind a position, where its least image lies. A pass has no point."""
+
+    colour: str
+    point: tuple[int, int] | None
+    results: Results
+
+
+@dataclass(slots=True)
+class Position:
+    """A position of an opening tree, with the game and the node at which it first came up."""
+
+    results: Results
+    game: int
+    node: int
+    nexts: list[NextMove]
+
+
+@dataclass
+class Opening(Answer):
+    """Positions with their next moves. How many next moves there are is not told before them."""
+
+    question: OpeningQuestion = OpeningQuestion(19, 19, 0, 1)
+    version: int = 0
+    games: int = 0
+    expected: int = 0
+    positions: list[Position] = field(default_factory=list)
+
+    def take(self, line: str) -> bool:
+        if match := POSITION.match(line):
+            *results, game, node = map(int, match.groups())
+            self.positions.append(Position(Results(*results), game, node, []))
+            return True
+        if self.positions and (match := NEXT.match(line)):
+            colour, x, y, *results = match.groups()
+            point = None if x is None else (int(x), int(y))
+            if point is None or self.is_on_board(*point):
+                self.positions[-1].nexts.append(NextMove(colour, point, Results(*map(int, results))))
+                return True
+        return False
+
+    def is_on_board(self, x: int, y: int) -> bool:
+        return x < self.question.columns and y < self.question.rows
+
+    def missing(self) -> str:
+        few = len(self.positions) < self.expected
+        return f"it has {len(self.positions):,} of its {self.expected:,} positions" if few else ""
 
 
 @dataclass

@@ -5,7 +5,7 @@ import re
 import subprocess
 from dataclasses import dataclass
 
-from .answers import Doubles, Game, Search, Signature
+from .answers import Doubles, Game, Opening, Search, Signature
 from .record import Record, read_record
 from .script import Script, read_script
 from .sgf import GameRecord, read_game
@@ -50,6 +50,8 @@ def wanted_games(record: Record) -> list[int]:
     for answer in record.answers:
         if isinstance(answer, Search):
             numbers.update((hit.game, None) for hit in answer.hits)
+        elif isinstance(answer, Opening):
+            numbers.update((position.game, None) for position in answer.positions)
         elif isinstance(answer, Signature):
             numbers.update((game, None) for game, _ in answer.found)
         elif isinstance(answer, Doubles):
@@ -94,7 +96,7 @@ def ask_for_games(program: str, script: Script, record: Record) -> Games:
     wanted = [number for number in wanted_games(record) if number not in shown]
     notes = []
     if len(wanted) > MOST_GAMES:
-        notes.append(f"Of {len(wanted):,} games with hits the first {MOST_GAMES:,} can be looked at here.")
+        notes.append(f"Of {len(wanted):,} games the first {MOST_GAMES:,} can be looked at here.")
         wanted = wanted[:MOST_GAMES]
     if not wanted:
         return Games(shown, notes)

@@ -10,6 +10,7 @@ from dataclasses import dataclass
 
 WORD = re.compile(r'[ \t]*(?:"((?:[^"\\]|\\["\\])*)"|([^ \t"]+))(?=[ \t]|$)')
 PATTERN = re.compile(r"[.XOxo*]+(?:/[.XOxo*]+)*$")
+NUMBER = re.compile(r"[0-9]{1,10}$")
 
 
 @dataclass(frozen=True)
@@ -20,7 +21,7 @@ class Condition:
 
 @dataclass(frozen=True)
 class Question:
-    """What a `search` or a `kept` asks."""
+    """What a `search`, a `kept` or a `watch` asks."""
 
     rows: tuple[str, ...]
     same: bool = False
@@ -38,6 +39,16 @@ class Question:
     @property
     def height(self) -> int:
         return len(self.rows)
+
+
+@dataclass(frozen=True)
+class OpeningQuestion:
+    """What an `opening` asks: the board, up to which move, and how often a position has to come up."""
+
+    columns: int
+    rows: int
+    depth: int
+    least: int
 
 
 @dataclass(frozen=True)
@@ -84,7 +95,7 @@ def split_words(line: str) -> tuple[str, ...]:
 
 
 def read_question(words: tuple[str, ...]) -> Question | None:
-    """Options, pattern and conditions behind `search` or `kept`; nothing where they aren't understood."""
+    """Options, pattern and conditions behind the first word; nothing where they aren't understood."""
     rest = list(words[1:])
     flags: dict[str, bool] = {}
     numbers: dict[str, tuple[int, ...]] = {}
@@ -121,6 +132,31 @@ def read_question(words: tuple[str, ...]) -> Question | None:
     return Question(rows, conditions=conditions, **flags, **numbers)
 
 
+def read_opening(words: tuple[str, ...]) -> OpeningQuestion | None:
+    """The four numbers behind `opening`; nothing where they aren't understood."""
+    if len(words) != 5 or not all(NUMBER.match(word) for word in words[1:]):
+        return None
+    question = OpeningQuestion(*map(int, words[1:]))
+    on_board = 1 <= question.columns <= 52 and 1 <= question.rows <= 52
+    return question if on_board else None
+
+
+def question_of(words: tuple[str, ...], watched: dict[str, Question | None]) -> Question | None:
+    """What a statement asks for on the board, if anything.
+
+    `watched` has the questions that are watched, by their names: a name stays with its first one.
+    """
+    if words[0] in ("search", "kept"):
+        return read_question(words)
+    if words[0] == "watch" and len(words) > 1:
+        question = read_question(words[1:])
+        watched.setdefault(words[1], question)
+        return question
+    if words[0] == "watched" and len(words) == 2:
+        return watched.get(words[1])
+    return None
+
+
 def read_conditions(words: list[str]) -> tuple[Condition, ...]:
     """`where NAME TEXT and NAME TEXT`, as many as there are."""
     if len(words) % 3 != 0:
@@ -138,6 +174,7 @@ def read_script(text: str) -> Script:
     statements: list[Statement] = []
     comment: list[str] = []
     heading, in_block = "", False
+    watched: dict[str, Question | None] = {}
     for number, line in enumerate(text.split("\n"), start=1):
         line = line.removesuffix("\r")
         bare = line.strip(" \t")
@@ -154,9 +191,7 @@ def read_script(text: str) -> Script:
         # The comment at the top tells what the whole script is about.
         if not statements:
             heading, lead, comment = lead, "", []
-        asks = words[0] in ("search", "kept")
-        statements.append(Statement(
-            number, bare, words, lead, in_block, read_question(words) if asks else None))
+        statements.append(Statement(number, bare, words, lead, in_block, question_of(words, watched)))
         if words[0] in ("together", "end"):
             in_block = words[0] == "together"
     return Script(tuple(statements), heading, text)

@@ -12,8 +12,8 @@ from .continuations import Continuation, continuations
 from .program import ShownGame
 from .record import Record
 from .script import Question
-from .words import (COLOURS, FAULTS, label_words, often, point_words, question_words, search_words, shown,
-                    times)
+from .words import (COLOURS, FAULTS, label_words, new_words, often, opening_question_words, opening_words,
+                    point_words, question_words, search_words, shown, times)
 
 # So many continuations stand in the table at once, and so many have their letters on the board.
 FIRST_ROWS, MOST_LETTERS = 8, 26
@@ -85,10 +85,11 @@ def continuation_row(question: Question, index: int, one: Continuation) -> str:
     results = (f'{results_bar(tally.black, tally.white, tally.other)}<span class="small">black {tally.black:,}, '
                f'white {tally.white:,}, neither {tally.other:,}</span>')
     more = " class=\"more\"" if index >= FIRST_ROWS else ""
+    new = f', <strong class="new">{one.new:,} new</strong>' if one.new else ""
     return (f'<tr{more}><td><button type="button" class="pick" data-letter="{index}" '
             f'title="Show the hits that go on so">{one.letter}</button></td>'
             f'<td>{move_cell(question, one)}</td><td>{often(tally.count)}<span class="small">at once {tally.now:,}, '
-            f"later {tally.later:,}</span></td><td>{results}</td></tr>")
+            f"later {tally.later:,}{new}</span></td><td>{results}</td></tr>")
 
 
 def continuation_table(question: Question, letters: list[Continuation]) -> str:
@@ -144,6 +145,36 @@ def search(answer: kinds.Search, context: Context) -> str:
     wide = " wide" if question.width > 11 else ""
     return (f'{asked}{sentence}<div class="found{wide}">{figure}<div class="side">{side}</div></div>'
             f"{hits_place(answer)}")
+
+
+def watch(answer: kinds.Watch, context: Context) -> str:
+    name = isolated(answer.name)
+    if answer.found is None:
+        return (f"<p>The name {name} is taken already: the search that is watched under it stays, and this one "
+                "wasn’t asked.</p>")
+    sentence = (f'<p class="totals">Watched from now on under the name {name}: {times(answer.found, "hit")} so far, '
+                f"in version {answer.version:,} of the base.</p>")
+    question = answer.statement.question
+    if question is None:
+        return sentence
+    figure = pattern_figure(question, [], question.board)
+    return f'<p class="asked">{text(question_words(question))}</p>{sentence}<div class="found">{figure}</div>'
+
+
+def watched(answer: kinds.Watched, context: Context) -> str:
+    new = f" <strong>{escape(new_words(answer))}</strong>" if answer.before is not None else ""
+    return f'<p class="totals">Watched under the name {isolated(answer.name)}.{new}</p>{search(answer, context)}'
+
+
+def unwatched(answer: kinds.Unwatched, context: Context) -> str:
+    return f"<p>No search is watched under the name {isolated(answer.name)}.</p>"
+
+
+def opening(answer: kinds.Opening, context: Context) -> str:
+    place = (f'<div class="opening" data-opening="{answer.statement.line}">'
+             "<noscript>The positions need the script of this page.</noscript></div>") if answer.positions else ""
+    return (f'<p class="asked">{escape(opening_question_words(answer.question))}</p>'
+            f'<p class="totals">{escape(opening_words(answer))}</p>{place}')
 
 
 def kept(answer: kinds.Kept, context: Context) -> str:
@@ -367,6 +398,10 @@ def lines_as_they_are(lines: list[str]) -> str:
 # For each kind of answer its section, and what it is called where no comment stands above its statement.
 SECTIONS: dict[type[Answer], tuple[str, Callable[..., str]]] = {
     kinds.Search: ("Search", search),
+    kinds.Watch: ("Watched search", watch),
+    kinds.Watched: ("Watched search", watched),
+    kinds.Unwatched: ("", unwatched),
+    kinds.Opening: ("Opening tree", opening),
     kinds.Kept: ("Games that may have a pattern", kept),
     kinds.Players: ("Players", players),
     kinds.Signature: ("Games with a signature", signature),
@@ -384,7 +419,12 @@ SECTIONS: dict[type[Answer], tuple[str, Callable[..., str]]] = {
 }
 
 # Answers of a line, which stand on the page without a heading of their own.
-QUIET = (kinds.Retire, kinds.Import, kinds.Imported, kinds.Make, kinds.Made, kinds.Wait, kinds.Until)
+QUIET = (kinds.Unwatched, kinds.Retire, kinds.Import, kinds.Imported, kinds.Make, kinds.Made, kinds.Wait,
+         kinds.Until)
+
+
+def is_quiet(answer: Answer) -> bool:
+    return isinstance(answer, QUIET) or (isinstance(answer, kinds.Watch) and answer.found is None)
 
 
 def is_told(answer: Answer, record: Record) -> bool:
@@ -410,7 +450,7 @@ def section(answer: Answer, context: Context) -> str:
     if answer.extra and not isinstance(answer, kinds.Plain):
         body += "<p>Lines that this page doesn’t know:</p>" + lines_as_they_are(answer.extra)
     line = answer.statement.line
-    if isinstance(answer, QUIET):
+    if is_quiet(answer):
         return f'<section class="quiet" data-line="{line}">{body}</section>'
     return (f'<section class="answer" id="line-{line}" data-line="{line}"><h2>{own_words(heading_of(answer, name))}</h2>'
             f"{body}</section>")

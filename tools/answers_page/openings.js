@@ -1,0 +1,238 @@
+// Opening trees: a position with its next moves, the way to it and back, and the list of all positions.
+
+// So long at a time the page works on what it can do later, in milliseconds.
+const AT_ONCE = 40, A_SLICE = 15;
+// So many next moves have their letters on the board, and so many stand in the table at first.
+const MOST_LETTERS = 26, FIRST_NEXTS = 12;
+const COLOURS = {[BLACK]: "Black", [WHITE]: "White"};
+
+// The letter of a next move: A to Z, then AA, AB and so on.
+function letterOf(index) {
+  const last = String.fromCharCode(65 + index % 26);
+  return index < 26 ? last : letterOf(Math.floor(index / 26) - 1) + last;
+}
+
+function often(count) {
+  return ["never", "once", "twice"][count] ?? `${formatted(count)} times`;
+}
+
+function resultWords({black, white, other}) {
+  return `Black won ${formatted(black)}, White ${formatted(white)}, neither ${formatted(other)}`;
+}
+
+function button(text, act, name = "") {
+  const made = element("button", name, text);
+  made.type = "button";
+  made.addEventListener("click", act);
+  return made;
+}
+
+class Opening {
+  constructor(place) {
+    this.place = place;
+    this.line = Number(place.dataset.opening);
+    const told = data.openings[this.line];
+    this.positions = new Positions(told);
+    this.least = told.least;
+    this.depth = told.depth;
+    this.count = this.positions.count;
+    // The way to what is shown, each step with its turn and its words, and the ways that were gone before.
+    this.way = [];
+    this.before = [];
+    this.make();
+    this.positions.goOn(AT_ONCE);
+    this.refresh();
+    this.show([{index: this.order[0], turn: 0, last: null, words: ""}]);
+    this.before = [];
+    this.indexLater();
+  }
+
+  make() {
+    this.figure = element("figure", "position");
+    this.side = element("div", "side");
+    this.sort = select([["count", "those that came up most often first"], ["entry", "in order of first entry"]],
+      "Order", () => this.refresh());
+    this.told = element("span", "told", counted(this.count, "position"));
+    const all = element("div", "position-list", element("div", "controls", this.sort, this.told));
+    this.place.replaceChildren(element("div", "found opened", this.figure, this.side), all);
+    this.list = new LongList(all, () => 92, i => this.row(this.order[i]), {short: 4, printed: 40});
+  }
+
+  refresh() {
+    this.order = this.positions.told.map((_, i) => i);
+    if (this.sort.value === "count")
+      this.order.sort((a, b) => this.positions.told[b][0] - this.positions.told[a][0] || a - b);
+    this.list.show(this.order.length);
+  }
+
+  // Which position a next move leads to is known when all are indexed.
+  indexLater() {
+    const whole = this.positions.goOn(A_SLICE);
+    this.place.dataset.indexed = String(whole);
+    if (whole) this.draw();
+    else setTimeout(() => this.indexLater(), 0);
+  }
+
+  get shown() {
+    return this.way[this.way.length - 1];
+  }
+
+  show(way) {
+    if (this.way.length) this.before.push(this.way);
+    this.way = way;
+    this.draw();
+    this.mark();
+  }
+
+  back() {
+    if (!this.before.length) return;
+    this.way = this.before.pop();
+    this.draw();
+    this.mark();
+  }
+
+  // Shows a position of the list, as the record has it.
+  open(index) {
+    history.replaceState(null, "", `#${this.line}.${index + 1}`);
+    this.show([{index, turn: 0, last: null, words: ""}]);
+  }
+
+  // Marks the position that is shown in the list.
+  mark() {
+    const before = this.order.indexOf(this.selected);
+    this.selected = this.shown.index;
+    const at = this.order.indexOf(this.selected);
+    this.list.reveal(at);
+    this.list.renew(before);
+    this.list.renew(at);
+  }
+
+  // What a next move leads to: a step of the way, or nothing where that isn't listed or isn't known yet.
+  step(next) {
+    const {positions} = this, {frames} = positions, {index, turn} = this.shown;
+    const stones = positions.stones(index);
+    if (!stones) return null;
+    const made = positions.after(stones, next), symmetry = frames.least(made);
+    const to = positions.numbers.get(asText(frames.image(made, symmetry)));
+    if (to === undefined) return null;
+    // The board keeps lying as it lies: back from the least image of what follows, and then turned as this is.
+    const last = next.point < 0 ? null : frames.to[turn][next.point];
+    return {index: to, turn: frames.both(INVERSES[symmetry], turn), last, words: this.moveWords(next)};
+  }
+
+  pointWords(point) {
+    return point < 0 ? "passes" : this.positions.board.pointName(this.positions.frames.to[this.shown.turn][point]);
+  }
+
+  moveWords(next) {
+    return `${COLOURS[next.colour]} ${this.pointWords(next.point)}`;
+  }
+
+  draw() {
+    const {index} = this.shown;
+    const nexts = this.positions.nexts(index).map((next, i) => ({...next, letter: letterOf(i), step: this.step(next)}));
+    Object.assign(this.figure.dataset, {position: index, turn: this.shown.turn});
+    this.figure.replaceChildren(this.board(nexts), this.caption());
+    this.side.replaceChildren(this.wayLine(), this.numbersLine(), ...this.table(nexts));
+  }
+
+  board(nexts) {
+    const {positions} = this, {index, turn, last} = this.shown;
+    const stones = positions.stones(index);
+    if (!stones) return element("p", "", "The game of this position isn’t on this page.");
+    const marks = nexts.slice(0, MOST_LETTERS).filter(next => next.point >= 0).map(({point, colour, letter, step}) => ({
+      point: positions.frames.to[turn][point], text: letter, colour, act: step ? () => this.show([...this.way, step]) : null}));
+    return boardSvg(new View(positions.board, 0), positions.frames.image(stones, turn), {last, marks});
+  }
+
+  caption() {
+    const {game, node} = this.positions.of(this.shown.index);
+    const caption = element("figcaption", "", "First came up in ");
+    if (!data.games[game]) caption.append(`game ${game}.`);
+    else caption.append(button(playersOf(data.games[game]), () => this.openGame(), "open"), element("span", "", `, node ${node}.`));
+    return caption;
+  }
+
+  // The game in which the position first came up, at its node. Turned, it lies as the board does here.
+  openGame() {
+    const {index, turn} = this.shown, {frames} = this.positions, {game, node} = this.positions.of(index);
+    const stones = this.positions.inGame(index);
+    const label = stones ? INVERSES[frames.both(frames.least(stones), turn)] : 0;
+    viewer.openGame(game, {node, label});
+  }
+
+  // The moves that led here, each a way back, and the button back.
+  wayLine() {
+    const back = button("Back", () => this.back(), "back");
+    back.disabled = this.before.length === 0;
+    const line = element("p", "chips way", back);
+    this.way.forEach(({index, words}, i) => {
+      const step = button(words || `Position ${formatted(index + 1)}`, () => this.show(this.way.slice(0, i + 1)));
+      step.disabled = i === this.way.length - 1;
+      line.append(step);
+    });
+    const {turn} = this.shown;
+    if (turn !== 0) {
+      const again = button("Turn as listed", () => this.show([...this.way.slice(0, -1), {...this.shown, turn: 0, last: null}]), "turn");
+      again.title = "As the record has it: the least of its images";
+      line.append(again);
+    }
+    return line;
+  }
+
+  numbersLine() {
+    const told = this.positions.of(this.shown.index);
+    return element("div", "came", element("p", "", `Came up ${often(told.count)}. ${resultWords(told)}.`), resultsBar(told));
+  }
+
+  table(nexts) {
+    if (!nexts.length) return [element("p", "", "Nothing was played behind it.")];
+    const head = element("tr", "", ...["", "Next move", "How often", "Results"].map(text => element("th", "", text)));
+    const body = element("tbody", "", ...nexts.map((next, i) => this.nextRow(next, i)));
+    const table = element("table", "continuations nexts", element("thead", "", head), body);
+    const hidden = nexts.length - FIRST_NEXTS;
+    if (hidden <= 0) return [table];
+    const more = button(`Show ${counted(hidden, "more move")}`, () => {
+      table.classList.add("whole");
+      more.remove();
+    }, "all-rows");
+    return [table, more];
+  }
+
+  nextRow(next, i) {
+    const colour = next.colour === BLACK ? "black" : "white";
+    const move = element("td", "", element("span", `stone ${colour}`), this.moveWords(next));
+    const why = this.whyNot(next);
+    if (why) move.append(element("span", "small", why));
+    const row = element("tr", i < FIRST_NEXTS ? "" : "more", element("td", "", this.letter(next)), move,
+      element("td", "", often(next.count)), element("td", "", resultsBar(next), element("span", "small", resultWords(next))));
+    Object.assign(row.dataset, {colour, point: next.point});
+    return row;
+  }
+
+  letter(next) {
+    const made = button(next.letter, () => this.show([...this.way, next.step]), "pick");
+    made.disabled = this.whyNot(next) !== "";
+    made.title = made.disabled ? "" : "Go on to this position";
+    return made;
+  }
+
+  // Why a next move leads nowhere, in words; nothing where it leads on.
+  whyNot({step}) {
+    if (step) return step.index === this.shown.index ? "the position stays" : "";
+    return this.positions.indexed < this.count ? "looked for …" : "leads to none that is listed";
+  }
+
+  row(index) {
+    const told = this.positions.of(index), stones = this.positions.stones(index), game = data.games[told.game];
+    const row = button("", () => this.open(index), index === this.selected ? "row chosen" : "row");
+    const players = element("bdi", "players", game ? playersOf(game) : `game ${told.game}`);
+    players.title = players.textContent;
+    row.append(
+      stones ? smallBoardSvg(this.positions, stones) : element("span", ""),
+      element("span", "count", often(told.count)),
+      element("span", "results-cell", resultsBar(told), element("span", "small", resultWords(told))),
+      element("span", "first", element("span", "small", "first in"), players));
+    return row;
+  }
+}
