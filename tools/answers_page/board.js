@@ -88,8 +88,8 @@ function markOf(view, {x, y, width, height}) {
 
 // Texts on one point, which share it where they are several.
 function markSvg(view, stone, point, marks) {
-  const [cx, cy] = centre(...view.seen(point % view.game.columns, Math.floor(point / view.game.columns)));
-  const group = svg("g", {class: "mark"});
+  const place = view.seen(point % view.game.columns, Math.floor(point / view.game.columns));
+  const [cx, cy] = centre(...place), group = svg("g", {class: "mark", "data-mark": place.join()});
   if (stone === EMPTY) group.append(svg("circle", {class: "patch", cx, cy, r: CELL * 0.42}));
   marks.forEach(({text, colour, act}, i) => {
     const by = view.colour(colour), shift = (i - (marks.length - 1) / 2) * CELL * 0.48;
@@ -133,7 +133,7 @@ function smallBoardSvg({columns, rows}, stones) {
   const across = columns - 0.5, down = rows - 0.5;
   const lines = Array.from({length: columns}, (_, x) => `M${x + 0.5} 0.5V${down}`).join("")
     + Array.from({length: rows}, (_, y) => `M0.5 ${y + 0.5}H${across}`).join("");
-  const board = svg("svg", {class: "board", viewBox: `0 0 ${columns} ${rows}`, "aria-hidden": "true"},
+  const board = svg("svg", {class: "board tiny", viewBox: `0 0 ${columns} ${rows}`, "aria-hidden": "true"},
     svg("rect", {class: "wood", width: columns, height: rows}), svg("path", {class: "line thin", d: lines}));
   stones.forEach((stone, point) => {
     if (stone === EMPTY) return;

@@ -15,6 +15,11 @@ function counted(count, what) {
   return `${formatted(count)} ${what}${count === 1 ? "" : "s"}`;
 }
 
+// Puts what is shown into the page's address. Browsers bear only so many changes of it in a time.
+function setAddress(hash) {
+  if (location.hash !== hash) history.replaceState(null, "", hash || " ");
+}
+
 // No element of a browser may be taller than some tens of millions of points. A longer list is scrolled
 // in larger steps.
 const TALLEST = 8000000;

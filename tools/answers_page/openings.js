@@ -93,7 +93,7 @@ class Opening {
 
   // Shows a position of the list, as the record has it.
   open(index) {
-    history.replaceState(null, "", `#${this.line}.${index + 1}`);
+    setAddress(`#${this.line}.${index + 1}`);
     this.show([{index, turn: 0, last: null, words: ""}]);
   }
 

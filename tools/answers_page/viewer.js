@@ -14,7 +14,7 @@ const viewer = {
     if (!game) return;
     Object.assign(this, {number: hit.game, game, node: Math.min(hit.node, game.nodes.length - 1), signature: false,
       label: hit.label, hit: {...hit, list, index}});
-    history.replaceState(null, "", `#${list.line}.${index + 1}`);
+    setAddress(`#${list.line}.${index + 1}`);
     this.open();
     list.select(index);
   },
@@ -39,7 +39,7 @@ const viewer = {
     document.body.classList.remove("viewing");
     this.hit?.list.select(-1);
     this.game = null;
-    history.replaceState(null, "", " ");
+    setAddress("");
   },
 
   go(node) {

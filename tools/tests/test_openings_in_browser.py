@@ -1,0 +1,209 @@
+"""Opening trees in a real browser.
+
+Each position of each tree is shown by the page, and its board is compared with one that is worked out from
+the text of the game (opening_trees). Each next move is gone on to, and back.
+"""
+from __future__ import annotations
+
+import random
+import subprocess
+import tempfile
+import unittest
+from pathlib import Path
+from typing import Any
+
+from answers_page.answers import Opening, Position
+from answers_page.record import read_record
+from answers_page.script import read_script
+
+from . import opening_trees
+from .browser import Browser, find_browser
+from .opening_trees import PlainGame, played
+from .samples import ROOT, page_of, program, program_with_games
+from .stand_in import stored_games
+from .test_in_browser import game_at_random
+
+# Shows a position by a click on its row, and tells its stones and its letters, and for each next move where it leads.
+LOOK = """(line, number) => {
+    const place = document.querySelector(`[data-opening="${line}"]`);
+    const stonesOf = board => Object.fromEntries([...board.querySelectorAll("[data-stone]")]
+        .map(stone => [stone.dataset.point, stone.dataset.stone]));
+    const figure = () => place.querySelector(".position");
+    const told = () => ({position: Number(figure().dataset.position), turn: Number(figure().dataset.turn),
+        stones: stonesOf(figure())});
+    const box = place.querySelector(".long-list"), top = 92 * (number - 1);
+    box.scrollTop = top;
+    box.dispatchEvent(new Event("scroll"));
+    [...box.querySelectorAll(".row")].find(row => parseFloat(row.style.top) === top).click();
+    const found = told();
+    found.letters = [...figure().querySelectorAll("[data-mark]")].flatMap(mark =>
+        [...mark.querySelectorAll(".letter")].map(letter => [letter.textContent, mark.dataset.mark]));
+    const rows = () => [...place.querySelectorAll(".nexts tbody tr")];
+    found.nexts = rows().map((row, i) => {
+        const pick = rows()[i].querySelector(".pick"), next = {letter: pick.textContent, colour: row.dataset.colour,
+            point: Number(row.dataset.point), words: row.children[1].textContent, leads: null};
+        if (pick.disabled) return next;
+        pick.click();
+        next.leads = told();
+        place.querySelector(".way .back").click();
+        return next;
+    });
+    found.again = told();
+    const game = figure().querySelector(".open");
+    game.click();
+    const board = document.getElementById("viewer-board");
+    found.game = {game: Number(board.dataset.game), node: Number(board.dataset.node), stones: stonesOf(board)};
+    document.getElementById("as-pattern").click();
+    found.game.turned = stonesOf(board);
+    document.getElementById("viewer-close").click();
+    return found;
+}"""
+
+# Puts all lists in the order of the record, and waits until it is known where each move leads.
+WAIT = """(async () => {
+    for (const sort of document.querySelectorAll(".position-list select")) {
+        sort.value = "entry";
+        sort.dispatchEvent(new Event("change"));
+    }
+    while (document.querySelector('.opening[data-indexed="false"]')) await new Promise(done => setTimeout(done, 10));
+})()"""
+
+
+def stones_of(position: opening_trees.Position, columns: int) -> dict[str, str]:
+    return {f"{point % columns},{point // columns}": ["", "black", "white"][cell]
+            for point, cell in enumerate(position) if cell}
+
+
+def games_at_random(count: int) -> list[str]:
+    """Boards that aren't square, variations, setup stones, captures, and moves on stones."""
+    numbers = random.Random(11)
+    sizes = [(3, 3), (4, 3), (3, 3), (5, 5), (4, 3), (3, 4)]
+    results = ["", "RE[B+1]", "RE[W+R]", "RE[0]"]
+    return [game_at_random(numbers, *sizes[i % len(sizes)]).replace("(;", "(;" + results[i % len(results)], 1)
+            for i in range(count)]
+
+
+def record_of(games: list[PlainGame], script: str) -> str:
+    """What is printed for a script of an import, `wait` and opening trees."""
+    count, lines = len(games), script.splitlines()
+    told = (f"1 {lines[0]}\n1 imported files {count} accepted {count} refused 0 full 0 unread 0 games {count} version 1\n"
+            "2 wait version 1\n")
+    for number, line in enumerate(lines[2:], start=3):
+        columns, rows, depth, least = map(int, line.split()[1:])
+        found = opening_trees.openings(games, columns, rows, depth)
+        told += opening_trees.printed(found, number, 1, count, columns, least)
+    return told
+
+
+@unittest.skipUnless(find_browser(), "tools/install_browser.sh installs the browser")
+class Openings(unittest.TestCase):
+    browser: Browser
+
+    @classmethod
+    def setUpClass(cls) -> None:
+        cls.browser = Browser()
+        cls.room = tempfile.TemporaryDirectory()
+        cls.folder = Path(cls.room.name)
+
+    @classmethod
+    def tearDownClass(cls) -> None:
+        cls.browser.close()
+        cls.room.cleanup()
+
+    def open_page(self, script: str, record: str, games: list[str]) -> list[Opening]:
+        """Opens a page of a record, and tells its opening trees."""
+        (self.folder / "a.script").write_text(script)
+        (self.folder / "a.record").write_text(record)
+        asked = program_with_games(self.folder / "a.program", record.split("\n3 ")[0] + "\n", games)
+        page_of(self.folder / "a.script", self.folder / "a.html", "--output", str(self.folder / "a.record"), asked=asked,
+                folder=self.folder)
+        self.browser.open(self.folder / "a.html")
+        self.browser.run(WAIT)
+        answers = read_record(record, read_script(script)).answers
+        return [answer for answer in answers if isinstance(answer, Opening)]
+
+    def check_tree(self, tree: Opening, games: list[PlainGame], on_stones: bool) -> tuple[int, int]:
+        """Checks each position of a tree, and tells how many they and their moves that lead on were."""
+        columns, rows, leads = tree.question.columns, tree.question.rows, 0
+        at = {min(image for image, _ in opening_trees.images(games[p.game].nodes[p.node].position, columns, rows)): i
+              for i, p in enumerate(tree.positions)}
+        for number, position in enumerate(tree.positions, start=1):
+            with self.subTest(line=tree.statement.line, position=number):
+                told = self.browser.run(f"({LOOK})({tree.statement.line}, {number})")
+                self.assertEqual((told["position"], told["turn"]), (number - 1, 0))
+                here = games[position.game].nodes[position.node].position
+                least = min(image for image, _ in opening_trees.images(here, columns, rows))
+                self.assertEqual(told["stones"], stones_of(least, columns), "the board isn't the least image")
+                self.check_game(position, told, games, columns)
+                self.check_letters(position, told, columns)
+                if not on_stones:
+                    self.assertFalse({point for _, point in told["letters"]} & set(told["stones"]))
+                leads += self.check_moves(position, told, least, at, columns, rows)
+        return len(tree.positions), leads
+
+    def check_game(self, position: Position, told: dict[str, Any], games: list[PlainGame], columns: int) -> None:
+        shown = told["game"]
+        here = games[position.game].nodes[position.node].position
+        self.assertEqual((shown["game"], shown["node"]), (position.game, position.node))
+        self.assertEqual(shown["stones"], stones_of(here, columns))
+        self.assertEqual(shown["turned"], told["stones"], "the game, turned, isn't the position")
+
+    def check_letters(self, position: Position, told: dict[str, Any], columns: int) -> None:
+        nexts = sorted(position.nexts, key=lambda one: -one.results.count)
+        rows = [("black" if one.colour == "B" else "white", -1 if one.point is None else one.point[1] * columns + one.point[0])
+                for one in nexts]
+        self.assertEqual([(row["colour"], row["point"]) for row in told["nexts"]], rows)
+        letters = {chr(65 + i): f"{one.point[0]},{one.point[1]}" for i, one in enumerate(nexts[:26]) if one.point}
+        self.assertEqual(dict(told["letters"]), letters)
+
+    def check_moves(self, position: Position, told: dict[str, Any], least: opening_trees.Position,
+                    at: dict[opening_trees.Position, int], columns: int, rows: int) -> int:
+        leads = 0
+        for row in told["nexts"]:
+            point = None if row["point"] < 0 else row["point"]
+            after = played(least, ["", "black", "white"].index(row["colour"]), point, columns, rows)
+            goal = at.get(min(image for image, _ in opening_trees.images(after, columns, rows)))
+            if row["leads"] is None:
+                self.assertTrue(goal is None or goal == told["position"], "a move leads nowhere")
+                continue
+            self.assertEqual(row["leads"]["position"], goal)
+            # The board lies as it lay: the move is the only thing that is new.
+            self.assertEqual(row["leads"]["stones"], stones_of(after, columns))
+            leads += 1
+        self.assertEqual((told["again"]["position"], told["again"]["stones"]), (told["position"], told["stones"]))
+        return leads
+
+    def check_all(self, script: str, record: str, texts: list[str], on_stones: bool = False) -> tuple[int, int]:
+        """Checks all trees of a record. `on_stones` tells that moves may be played on stones."""
+        games = [opening_trees.read(text) for text in texts]
+        counts = [self.check_tree(tree, games, on_stones) for tree in self.open_page(script, record, texts)]
+        self.assertEqual(self.browser.complaints(), [])
+        return sum(positions for positions, _ in counts), sum(leads for _, leads in counts)
+
+    def test_each_position_of_the_sample_games(self) -> None:
+        texts = [text for _, text in (game for _, game in sorted(stored_games().items()))]
+        script = "import games\nwait\n" + "".join(f"opening {c} {c} 12 {m}\n" for c, m in ((5, 1), (9, 2), (13, 1), (19, 1)))
+        record = record_of([opening_trees.read(text) for text in texts], script)
+        answered = subprocess.run([program()], input=script.encode(), cwd=ROOT, capture_output=True)
+        if answered.returncode == 0:
+            self.assertEqual(answered.stdout.decode(), record, "the program tells other trees")
+        else:
+            print("the program doesn't know opening trees: shown are those that the tests work out")
+        positions, leads = self.check_all(script, record, texts)
+        print(f"{positions} positions of the sample games were looked at, and {leads} moves gone on to")
+        self.assertGreater(positions, 100)
+        self.assertGreater(leads, 80)
+
+    def test_each_position_of_games_at_random(self) -> None:
+        texts = games_at_random(24)
+        script = "import random\nwait\n" + "".join(
+            f"opening {tree}\n" for tree in ("3 3 6 1", "3 3 30 2", "4 3 5 1", "3 4 4 1", "5 5 3 1", "7 7 3 1"))
+        record = record_of([opening_trees.read(text) for text in texts], script)
+        positions, leads = self.check_all(script, record, texts, on_stones=True)
+        print(f"{positions} positions of games at random were looked at, and {leads} moves gone on to")
+        self.assertGreater(positions, 100)
+        self.assertGreater(leads, 50)
+
+
+if __name__ == "__main__":
+    unittest.main()
