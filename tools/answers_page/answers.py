@@ -112,11 +112,15 @@ class Search(Answer):
 
 @dataclass
 class Watch(Answer):
-    """That a search is watched from now on: `found` is the number of its hits. Without it the name was taken."""
+    """That a search is watched from now on, with the number of its hits; or that its name was taken.
+
+    With neither of both: that no search is watched under the name.
+    """
 
     name: str = ""
     version: int = 0
     found: int | None = None
+    taken: bool = False
 
 
 @dataclass
@@ -131,15 +135,8 @@ class Watched(Search):
         return 0 if self.before is None else max(self.expected - self.before, 0)
 
 
-@dataclass
-class Unwatched(Answer):
-    """That no search is watched under a name."""
-
-    name: str = ""
-
-
 @dataclass(slots=True)
-class Results:
+class Counts:
     """How often something came up, and how the games of it ended."""
 
     count: int
@@ -154,17 +151,17 @@ class NextMove:
 
     colour: str
     point: tuple[int, int] | None
-    results: Results
+    counts: Counts
 
 
 @dataclass(slots=True)
 class Position:
     """A position of an opening tree, with the game and the node at which it first came up."""
 
-    results: Results
+    counts: Counts
     game: int
     node: int
-    nexts: list[NextMove]
+    nexts: list[NextMove] = field(default_factory=list)
 
 
 @dataclass
@@ -179,14 +176,14 @@ class Opening(Answer):
 
     def take(self, line: str) -> bool:
         if match := POSITION.match(line):
-            *results, game, node = map(int, match.groups())
-            self.positions.append(Position(Results(*results), game, node, []))
+            *counts, game, node = map(int, match.groups())
+            self.positions.append(Position(Counts(*counts), game, node))
             return True
         if self.positions and (match := NEXT.match(line)):
-            colour, x, y, *results = match.groups()
+            colour, x, y, *counts = match.groups()
             point = None if x is None else (int(x), int(y))
             if point is None or self.is_on_board(*point):
-                self.positions[-1].nexts.append(NextMove(colour, point, Results(*map(int, results))))
+                self.positions[-1].nexts.append(NextMove(colour, point, Counts(*map(int, counts))))
                 return True
         return False
 

@@ -95,14 +95,13 @@ function markSvg(view, stone, point, marks) {
     const by = view.colour(colour), shift = (i - (marks.length - 1) / 2) * CELL * 0.48;
     const name = stone === EMPTY ? (by === WHITE ? "by-white" : "by-black") : stone === BLACK ? "by-white" : "by-black";
     const small = text.length > 1 || marks.length > 1 ? " small" : "";
-    const made = svg("text", {class: `letter ${name}${small}${act ? " leads" : ""}`, x: cx + shift, y: cy}, text);
-    if (act) made.addEventListener("click", act);
+    const made = svg("text", {class: `letter ${name}${small}`, x: cx + shift, y: cy}, text);
     group.append(made);
+    // A text that has the point for itself is pressed anywhere on it.
+    const pressed = marks.length === 1 ? group : made;
+    if (act) pressed.addEventListener("click", act);
+    pressed.classList.toggle("leads", Boolean(act));
   });
-  if (marks.length === 1 && marks[0].act) {
-    group.classList.add("leads");
-    group.addEventListener("click", marks[0].act);
-  }
   return group;
 }
 

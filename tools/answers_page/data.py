@@ -8,7 +8,7 @@ from __future__ import annotations
 import json
 from typing import Any
 
-from .answers import Opening, Players, Position, Results, Search, Watched
+from .answers import Counts, Opening, Players, Position, Search, Watched
 from .continuations import continuations
 from .program import ShownGame
 from .record import Record
@@ -50,8 +50,8 @@ def search_data(answer: Search, games: dict[int, ShownGame]) -> dict[str, Any]:
     }
 
 
-def result_numbers(results: Results) -> list[int]:
-    return [results.count, results.black, results.white, results.other]
+def count_numbers(counts: Counts) -> list[int]:
+    return [counts.count, counts.black, counts.white, counts.other]
 
 
 def position_data(position: Position, columns: int) -> list[int]:
@@ -60,10 +60,10 @@ def position_data(position: Position, columns: int) -> list[int]:
     For the position: its count, the games won by Black, by White and by neither, game and node; for a next
     move: 0 for Black and 1 for White, the number of its point or -1 for a pass, and the same four numbers.
     """
-    numbers = [*result_numbers(position.results), position.game, position.node]
+    numbers = [*count_numbers(position.counts), position.game, position.node]
     for one in position.nexts:
         point = -1 if one.point is None else one.point[1] * columns + one.point[0]
-        numbers += ("BW".index(one.colour), point, *result_numbers(one.results))
+        numbers += ("BW".index(one.colour), point, *count_numbers(one.counts))
     return numbers
 
 

@@ -4,7 +4,7 @@
 const AT_ONCE = 40, A_SLICE = 15;
 // So many next moves have their letters on the board, and so many stand in the table at first.
 const MOST_LETTERS = 26, FIRST_NEXTS = 12;
-const COLOURS = {[BLACK]: "Black", [WHITE]: "White"};
+const NAMES = {[BLACK]: "Black", [WHITE]: "White"};
 
 // The letter of a next move: A to Z, then AA, AB and so on.
 function letterOf(index) {
@@ -50,7 +50,7 @@ class Opening {
   make() {
     this.figure = element("figure", "position");
     this.side = element("div", "side");
-    this.sort = select([["count", "those that came up most often first"], ["entry", "in order of first entry"]],
+    this.sort = select([["count", "most frequent first"], ["entry", "in order of first entry"]],
       "Order", () => this.refresh());
     this.told = element("span", "told", counted(this.count, "position"));
     const all = element("div", "position-list", element("div", "controls", this.sort, this.told));
@@ -125,7 +125,7 @@ class Opening {
   }
 
   moveWords(next) {
-    return `${COLOURS[next.colour]} ${this.pointWords(next.point)}`;
+    return `${NAMES[next.colour]} ${this.pointWords(next.point)}`;
   }
 
   draw() {
@@ -146,10 +146,15 @@ class Opening {
   }
 
   caption() {
-    const {game, node} = this.positions.of(this.shown.index);
+    const {index} = this.shown, {game} = this.positions.of(index);
     const caption = element("figcaption", "", "First came up in ");
     if (!data.games[game]) caption.append(`game ${game}.`);
-    else caption.append(button(playersOf(data.games[game]), () => this.openGame(), "open"), element("span", "", `, node ${node}.`));
+    else {
+      const move = this.positions.moveNumber(index);
+      const open = button("", () => this.openGame(), "open");
+      open.append(element("bdi", "", playersOf(data.games[game])));
+      caption.append(open, move > 0 ? `, with move ${move}.` : ", before the first move.");
+    }
     return caption;
   }
 

@@ -87,14 +87,24 @@ class Positions {
   // The stones as they stand in the game in which the position first came up, or null where the page
   // doesn't have that game, or has it without such a node.
   inGame(index) {
-    const {game: number, node} = this.of(index);
+    const {game: number, node} = this.of(index), game = this.read(number);
+    const fits = game && game.columns === this.columns && game.rows === this.rows && node < game.nodes.length;
+    return fits ? game.position(node) : null;
+  }
+
+  // With which move it first came up; 0 stands before the first one.
+  moveNumber(index) {
+    const {game, node} = this.of(index);
+    return this.read(game)?.nodes[node]?.number ?? 0;
+  }
+
+  // A game, or null. Those of all positions would be too many to keep.
+  read(number) {
     if (this.last.number !== number) {
       const text = games.text(number);
       this.last = {number, game: text === undefined ? null : new Game(text)};
     }
-    const {game} = this.last;
-    const fits = game && game.columns === this.columns && game.rows === this.rows && node < game.nodes.length;
-    return fits ? game.position(node) : null;
+    return this.last.game;
   }
 
   text(index) {

@@ -88,9 +88,9 @@ FORMS: list[tuple[str, re.Pattern[str], Maker]] = [
         ("opening", f"{OF_VERSION} positions {NUMBER}", make_opening),
         ("watch", f" ([^ ]+) version {NUMBER} hits {NUMBER}",
          lambda s, line, m: kinds.Watch(s, line, name=m[1], version=int(m[2]), found=int(m[3]))),
-        ("watch", " ([^ ]+) taken", lambda s, line, m: kinds.Watch(s, line, name=m[1])),
+        ("watch", " ([^ ]+) taken", lambda s, line, m: kinds.Watch(s, line, name=m[1], taken=True)),
         ("watched", f" ([^ ]+){OF_VERSION} hits {NUMBER}", make_watched),
-        ("watched", " ([^ ]+) none", lambda s, line, m: kinds.Unwatched(s, line, name=m[1])),
+        ("watched", " ([^ ]+) none", lambda s, line, m: kinds.Watch(s, line, name=m[1])),
     ]
 ]
 

@@ -149,9 +149,7 @@ def question_of(words: tuple[str, ...], watched: dict[str, Question | None]) -> 
     if words[0] in ("search", "kept"):
         return read_question(words)
     if words[0] == "watch" and len(words) > 1:
-        question = read_question(words[1:])
-        watched.setdefault(words[1], question)
-        return question
+        return watched.setdefault(words[1], read_question(words[1:]))
     if words[0] == "watched" and len(words) == 2:
         return watched.get(words[1])
     return None

@@ -149,9 +149,10 @@ def search(answer: kinds.Search, context: Context) -> str:
 
 def watch(answer: kinds.Watch, context: Context) -> str:
     name = isolated(answer.name)
+    if answer.taken:
+        return f"<p>The name {name} is taken: the search that is watched under it stays, and this one wasn’t asked.</p>"
     if answer.found is None:
-        return (f"<p>The name {name} is taken already: the search that is watched under it stays, and this one "
-                "wasn’t asked.</p>")
+        return f"<p>No search is watched under the name {name}.</p>"
     sentence = (f'<p class="totals">Watched from now on under the name {name}: {times(answer.found, "hit")} so far, '
                 f"in version {answer.version:,} of the base.</p>")
     question = answer.statement.question
@@ -164,10 +165,6 @@ def watch(answer: kinds.Watch, context: Context) -> str:
 def watched(answer: kinds.Watched, context: Context) -> str:
     new = f" <strong>{escape(new_words(answer))}</strong>" if answer.before is not None else ""
     return f'<p class="totals">Watched under the name {isolated(answer.name)}.{new}</p>{search(answer, context)}'
-
-
-def unwatched(answer: kinds.Unwatched, context: Context) -> str:
-    return f"<p>No search is watched under the name {isolated(answer.name)}.</p>"
 
 
 def opening(answer: kinds.Opening, context: Context) -> str:
@@ -400,7 +397,6 @@ SECTIONS: dict[type[Answer], tuple[str, Callable[..., str]]] = {
     kinds.Search: ("Search", search),
     kinds.Watch: ("Watched search", watch),
     kinds.Watched: ("Watched search", watched),
-    kinds.Unwatched: ("", unwatched),
     kinds.Opening: ("Opening tree", opening),
     kinds.Kept: ("Games that may have a pattern", kept),
     kinds.Players: ("Players", players),
@@ -419,8 +415,7 @@ SECTIONS: dict[type[Answer], tuple[str, Callable[..., str]]] = {
 }
 
 # Answers of a line, which stand on the page without a heading of their own.
-QUIET = (kinds.Unwatched, kinds.Retire, kinds.Import, kinds.Imported, kinds.Make, kinds.Made, kinds.Wait,
-         kinds.Until)
+QUIET = (kinds.Retire, kinds.Import, kinds.Imported, kinds.Make, kinds.Made, kinds.Wait, kinds.Until)
 
 
 def is_quiet(answer: Answer) -> bool:

@@ -69,6 +69,32 @@ WAIT = """(async () => {
 })()"""
 
 
+# Scrolls to fifty places of the list, and tells how long each took, in order.
+SCROLL = """(() => {
+    const box = document.querySelector(".long-list"), waits = [];
+    for (let i = 0; i < 50; i++) {
+        const before = performance.now();
+        box.scrollTop = (box.scrollHeight - box.clientHeight) * (i * 37 % 50) / 49;
+        box.dispatchEvent(new Event("scroll"));
+        box.getBoundingClientRect();
+        waits.push(performance.now() - before);
+    }
+    return waits.sort((a, b) => a - b);
+})()"""
+
+EXAMPLE = """1 import d
+1 imported files 2 accepted 2 refused 0 full 0 unread 0 games 2 version 1
+2 wait version 1
+3 opening version 1 games 2 positions 2
+position 2 1 0 1 0 0
+next B 0 0 2 1 0 1
+next W pass 1 0 0 1
+position 2 1 0 1 0 1
+next W 0 0 1 0 0 1
+next W 1 1 1 1 0 0
+"""
+
+
 def stones_of(position: opening_trees.Position, columns: int) -> dict[str, str]:
     return {f"{point % columns},{point // columns}": ["", "black", "white"][cell]
             for point, cell in enumerate(position) if cell}
@@ -83,10 +109,11 @@ def games_at_random(count: int) -> list[str]:
             for i in range(count)]
 
 
-def record_of(games: list[PlainGame], script: str) -> str:
+def record_of(games: list[PlainGame], script: str, files: int | None = None) -> str:
     """What is printed for a script of an import, `wait` and opening trees."""
     count, lines = len(games), script.splitlines()
-    told = (f"1 {lines[0]}\n1 imported files {count} accepted {count} refused 0 full 0 unread 0 games {count} version 1\n"
+    files = count if files is None else files
+    told = (f"1 {lines[0]}\n1 imported files {files} accepted {files} refused 0 full 0 unread 0 games {count} version 1\n"
             "2 wait version 1\n")
     for number, line in enumerate(lines[2:], start=3):
         columns, rows, depth, least = map(int, line.split()[1:])
@@ -149,7 +176,7 @@ class Openings(unittest.TestCase):
         self.assertEqual(shown["turned"], told["stones"], "the game, turned, isn't the position")
 
     def check_letters(self, position: Position, told: dict[str, Any], columns: int) -> None:
-        nexts = sorted(position.nexts, key=lambda one: -one.results.count)
+        nexts = sorted(position.nexts, key=lambda one: -one.counts.count)
         rows = [("black" if one.colour == "B" else "white", -1 if one.point is None else one.point[1] * columns + one.point[0])
                 for one in nexts]
         self.assertEqual([(row["colour"], row["point"]) for row in told["nexts"]], rows)
@@ -183,12 +210,12 @@ class Openings(unittest.TestCase):
     def test_each_position_of_the_sample_games(self) -> None:
         texts = [text for _, text in (game for _, game in sorted(stored_games().items()))]
         script = "import games\nwait\n" + "".join(f"opening {c} {c} 12 {m}\n" for c, m in ((5, 1), (9, 2), (13, 1), (19, 1)))
-        record = record_of([opening_trees.read(text) for text in texts], script)
+        record = record_of([opening_trees.read(text) for text in texts], script, files=14)
         answered = subprocess.run([program()], input=script.encode(), cwd=ROOT, capture_output=True)
         if answered.returncode == 0:
             self.assertEqual(answered.stdout.decode(), record, "the program tells other trees")
         else:
-            print("the program doesn't know opening trees: shown are those that the tests work out")
+            print("the program has no opening trees: shown are those that the tests work out")
         positions, leads = self.check_all(script, record, texts)
         print(f"{positions} positions of the sample games were looked at, and {leads} moves gone on to")
         self.assertGreater(positions, 100)
@@ -203,6 +230,107 @@ class Openings(unittest.TestCase):
         print(f"{positions} positions of games at random were looked at, and {leads} moves gone on to")
         self.assertGreater(positions, 100)
         self.assertGreater(leads, 50)
+
+    def shown(self, script: str) -> Any:
+        return self.browser.run(f"(() => {{ const place = document.querySelector('.opening'); {script} }})()")
+
+    def press(self, selector: str) -> None:
+        self.browser.run(f"document.querySelector('.opening {selector}').click()")
+
+    def first_example(self) -> None:
+        """The page of docs/SCRIPT.md's example, and one pass more."""
+        self.open_page("import d\nwait\nopening 3 3 1 1\n", EXAMPLE, ["(;SZ[3];B[aa];W[cc])", "(;SZ[3]RE[B+1];B[ca];W[bb])"])
+
+    def state(self) -> list[Any]:
+        return self.shown("""
+            const board = place.querySelector(".position"), words = selector =>
+                [...place.querySelectorAll(selector)].map(one => one.textContent);
+            return [Number(board.dataset.position), [...board.querySelectorAll("[data-stone]")].map(one => one.dataset.point),
+                words(".way button:not(.back):not(.turn)"), words(".nexts tbody td:nth-child(2)")];""")
+
+    def test_the_way_on_and_back(self) -> None:
+        self.first_example()
+        start = [0, [], ["Position 1"], ["Black A3", "White passesthe position stays"]]
+        self.assertEqual(self.state(), start)
+        self.press(".nexts .pick")
+        # The stone stays at A3; the record has it at C1, and White's moves at A3 and B2.
+        went_on = [1, ["0,0"], ["Position 1", "Black A3"], ["White C1leads to none that is listed",
+                                                              "White B2leads to none that is listed"]]
+        self.assertEqual(self.state(), went_on)
+        self.press(".way .turn")
+        self.assertEqual(self.state()[1], ["2,2"])
+        self.assertEqual(self.state()[3][0][:8], "White A3")
+        self.press(".way .back")
+        self.assertEqual(self.state(), went_on)
+        self.press(".way .back")
+        self.assertEqual(self.state(), start)
+        self.assertTrue(self.shown("return place.querySelector('.way .back').disabled"))
+        # A letter on the board is pressed as its button in the table is, and a step of the way leads back to it.
+        self.browser.run("document.querySelector('.position .mark .letter').dispatchEvent(new MouseEvent('click', {bubbles: true}))")
+        self.assertEqual(self.state(), went_on)
+        self.press(".way button:nth-child(2)")
+        self.assertEqual(self.state(), start)
+        self.assertEqual(self.browser.complaints(), [])
+
+    def test_an_address_shows_a_position(self) -> None:
+        self.first_example()
+        self.browser.run("new Promise(done => { addEventListener('hashchange', done, {once: true}); location.hash = '#3.2'; })")
+        self.assertEqual(self.state()[:3], [1, ["2,2"], ["Position 2"]])
+        self.browser.run("new Promise(done => { addEventListener('hashchange', done, {once: true}); location.hash = '#3.9'; })")
+        self.assertEqual(self.state()[0], 1)
+
+    def test_the_order_of_the_list(self) -> None:
+        record = EXAMPLE.replace("position 2 1 0 1 0 1", "position 3 1 0 2 0 1")
+        self.open_page("import d\nwait\nopening 3 3 1 1\n", record, ["(;SZ[3];B[aa];W[cc])", "(;SZ[3]RE[B+1];B[ca];W[bb])"])
+        self.browser.run("""(() => { const sort = document.querySelector(".position-list select");
+            sort.value = "count"; sort.dispatchEvent(new Event("change")); })()""")
+        counts = "return [...place.querySelectorAll('.position-list .rows .row')].sort((a, b) => " \
+                 "parseFloat(a.style.top) - parseFloat(b.style.top)).map(row => row.querySelector('.count').textContent)"
+        self.assertEqual(self.shown(counts), ["3 times", "twice"])
+        self.browser.run("""(() => { const sort = document.querySelector(".position-list select");
+            sort.value = "entry"; sort.dispatchEvent(new Event("change")); })()""")
+        self.assertEqual(self.shown(counts), ["twice", "3 times"])
+
+    def test_games_that_are_not_there(self) -> None:
+        """A record of other games, and one with numbers that are none of a board."""
+        record = EXAMPLE.replace("position 2 1 0 1 0 0", "position 2 1 0 1 0 99").replace(
+            "position 2 1 0 1 0 1", "position 2 1 0 1 1 0").replace("next W 1 1 1 1 0 0", "next W 7 1 1 1 0 0")
+        self.open_page("import d\nwait\nopening 3 3 1 1\n", record, ["(;SZ[3];B[aa])", "(;SZ[4]PB[<b>A])"])
+        self.assertIn("isn’t on this page", self.shown("return place.querySelector('.position').textContent"))
+        self.assertEqual(self.shown("return [...place.querySelectorAll('.pick')].map(one => one.disabled)"), [True, True])
+        self.assertIn("next W 7 1 1 1 0 0", self.browser.run("document.querySelector('.plain').textContent"))
+        self.assertEqual(self.browser.run("document.querySelectorAll('main b').length"), 0)
+        self.assertEqual(self.browser.complaints(), [])
+
+    def test_thousands_of_positions(self) -> None:
+        """Neither opening nor scrolling waits for all boards, nor does a step to a next move."""
+        games = ["(;SZ[19]" + "".join(f";{'BW'[i % 2]}[{chr(97 + (game + i * 7) % 19)}{chr(97 + (game // 19 + i * 5) % 19)}]"
+                                       for i in range(200)) + ")" for game in range(2_000)]
+        lines = ["import d\nwait\nopening 19 19 30 1\n", "3 opening version 1 games 2000 positions 8000"]
+        for game in range(2_000):
+            for node in (5, 10, 20, 30):
+                lines += [f"position {game % 97 + 3} 1 1 {game % 97 + 1} {game} {node}", "next B 3 3 1 1 0 0", "next W 4 16 2 0 1 1"]
+        record = record_of([], "import d\nwait\n") + "\n".join(lines[1:]) + "\n"
+        self.open_page(lines[0], record, games)
+        self.browser.open(self.folder / "a.html")
+        opened = self.browser.run("performance.getEntriesByType('navigation')[0].domContentLoadedEventEnd")
+        self.browser.run(WAIT)
+        indexed = self.browser.run("performance.now()")
+        waits = self.browser.run(SCROLL)
+        step = self.browser.run("""(() => {
+            const before = performance.now();
+            document.querySelector(".position-list .row").click();
+            document.querySelector(".position").getBoundingClientRect();
+            return performance.now() - before;
+        })()""")
+        size = (self.folder / "a.html").stat().st_size
+        print(f"8,000 positions, {size / 1e6:.1f} MB: opened in {opened:.0f} ms, moves known after {indexed:.0f} ms, a scroll "
+              f"takes {waits[25]:.1f} ms, the longest {waits[-1]:.1f} ms, a click {step:.0f} ms")
+        self.assertLess(self.browser.run("document.querySelectorAll('.rows .row').length"), 40)
+        # Generous bounds, for machines that do other things too.
+        self.assertLess(opened, 5_000)
+        self.assertLess(waits[25], 200)
+        self.assertLess(step, 1_000)
 
 
 if __name__ == "__main__":
