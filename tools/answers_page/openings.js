@@ -95,6 +95,7 @@ class Opening {
   open(index) {
     setAddress(`#${this.line}.${index + 1}`);
     this.show([{index, turn: 0, last: null, words: ""}]);
+    this.figure.scrollIntoView({block: "nearest"});
   }
 
   // Marks the position that is shown in the list.
