@@ -33,8 +33,9 @@ def stored_games() -> dict[int, tuple[str, str]]:
 
 def answer(script: str) -> str | None:
     for path in SCRIPTS.glob("*.script"):
-        if path.read_text() == script:
-            return (RECORDS / f"{path.stem}.txt").read_text()
+        stored = RECORDS / f"{path.stem}.txt"
+        if path.read_text() == script and stored.exists():
+            return stored.read_text()
     stored, told, imports = stored_games(), "", 0
     for number, line in enumerate(script.splitlines(), start=1):
         word, *rest = line.split() or [""]
