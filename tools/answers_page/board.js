@@ -93,7 +93,8 @@ function markSvg(view, stone, point, marks) {
   if (stone === EMPTY) group.append(svg("circle", {class: "patch", cx, cy, r: CELL * 0.42}));
   marks.forEach(({text, colour, act}, i) => {
     const by = view.colour(colour), shift = (i - (marks.length - 1) / 2) * CELL * 0.48;
-    const name = stone === EMPTY ? (by === WHITE ? "by-white" : "by-black") : stone === BLACK ? "by-white" : "by-black";
+    const isWhite = stone === EMPTY ? by === WHITE : stone === BLACK;
+    const name = isWhite ? "by-white" : "by-black";
     const small = text.length > 1 || marks.length > 1 ? " small" : "";
     const made = svg("text", {class: `letter ${name}${small}`, x: cx + shift, y: cy}, text);
     group.append(made);
@@ -122,8 +123,10 @@ function boardSvg(view, stones, {placement = null, last = null, marks = []}) {
     board.append(svg("circle", {class: name, cx, cy, r: CELL * 0.46, "data-point": place.join(), "data-stone": name}));
     if (point === last) board.append(svg("circle", {class: `last on-${name}`, cx, cy, r: CELL * 0.2}));
   });
-  for (const point of new Set(marks.map(mark => mark.point)))
-    board.append(markSvg(view, view.colour(stones[point]), point, marks.filter(mark => mark.point === point)));
+  for (const point of new Set(marks.map(mark => mark.point))) {
+    const here = marks.filter(mark => mark.point === point);
+    board.append(markSvg(view, view.colour(stones[point]), point, here));
+  }
   return board;
 }
 
@@ -145,7 +148,8 @@ function smallBoardSvg({columns, rows}, stones) {
 // How games ended: Black's from the left, White's from the right.
 function resultsBar({black, white, other}) {
   const whole = black + white + other || 1;
-  return svg("svg", {class: "results", viewBox: "0 0 100 10", preserveAspectRatio: "none", "aria-hidden": "true"},
+  const box = {class: "results", viewBox: "0 0 100 10", preserveAspectRatio: "none", "aria-hidden": "true"};
+  return svg("svg", box,
     svg("rect", {class: "neither", width: 100, height: 10}),
     svg("rect", {class: "won-black", width: 100 * black / whole, height: 10}),
     svg("rect", {class: "won-white", x: 100 - 100 * white / whole, width: 100 * white / whole, height: 10}));

@@ -69,10 +69,8 @@ def position_data(position: Position, columns: int) -> list[int]:
 
 def opening_data(answer: Opening) -> dict[str, Any]:
     question = answer.question
-    return {
-        "columns": question.columns, "rows": question.rows, "depth": question.depth, "least": question.least,
-        "positions": [position_data(position, question.columns) for position in answer.positions],
-    }
+    positions = [position_data(position, question.columns) for position in answer.positions]
+    return {"columns": question.columns, "rows": question.rows, "positions": positions}
 
 
 def page_data(record: Record, games: dict[int, ShownGame]) -> dict[str, Any]:

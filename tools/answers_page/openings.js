@@ -1,7 +1,7 @@
 // Opening trees: a position with its next moves, the way to it and back, and the list of all positions.
 
 // So long at a time the page works on what it can do later, in milliseconds.
-const AT_ONCE = 40, A_SLICE = 15;
+const AT_ONCE = 20, A_SLICE = 15;
 // So many next moves have their letters on the board, and so many stand in the table at first.
 const MOST_LETTERS = 26, FIRST_NEXTS = 12;
 const NAMES = {[BLACK]: "Black", [WHITE]: "White"};
@@ -31,10 +31,7 @@ class Opening {
   constructor(place) {
     this.place = place;
     this.line = Number(place.dataset.opening);
-    const told = data.openings[this.line];
-    this.positions = new Positions(told);
-    this.least = told.least;
-    this.depth = told.depth;
+    this.positions = new Positions(data.openings[this.line]);
     this.count = this.positions.count;
     // The way to what is shown, each step with its turn and its words, and the ways that were gone before.
     this.way = [];
@@ -116,22 +113,31 @@ class Opening {
     const made = positions.after(stones, next), symmetry = frames.least(made);
     const to = positions.numbers.get(asText(frames.image(made, symmetry)));
     if (to === undefined) return null;
-    // The board keeps lying as it lies: back from the least image of what follows, and then turned as this is.
-    const last = next.point < 0 ? null : frames.to[turn][next.point];
-    return {index: to, turn: frames.both(INVERSES[symmetry], turn), last, words: this.moveWords(next)};
+    // The board keeps lying as it lies: back from the least image of what follows, and turned as this is.
+    const kept = frames.both(INVERSES[symmetry], turn);
+    return {index: to, turn: kept, last: this.seen(next), words: this.moveWords(next)};
   }
 
-  pointWords(point) {
-    return point < 0 ? "passes" : this.positions.board.pointName(this.positions.frames.to[this.shown.turn][point]);
+  // The point of a next move on the board as it lies, or null where it is a pass.
+  seen({point}) {
+    return point < 0 ? null : this.positions.frames.to[this.shown.turn][point];
   }
 
   moveWords(next) {
-    return `${NAMES[next.colour]} ${this.pointWords(next.point)}`;
+    const point = this.seen(next);
+    return `${NAMES[next.colour]} ${point === null ? "passes" : this.positions.board.pointName(point)}`;
+  }
+
+  // The next moves with their letters, and where they lead or why they lead nowhere.
+  nexts() {
+    return this.positions.nexts(this.shown.index).map((next, i) => {
+      const step = this.step(next), why = this.whyNot(step);
+      return {...next, letter: letterOf(i), why, act: why ? null : () => this.show([...this.way, step])};
+    });
   }
 
   draw() {
-    const {index} = this.shown;
-    const nexts = this.positions.nexts(index).map((next, i) => ({...next, letter: letterOf(i), step: this.step(next)}));
+    const {index} = this.shown, nexts = this.nexts();
     Object.assign(this.figure.dataset, {position: index, turn: this.shown.turn});
     this.figure.replaceChildren(this.board(nexts), this.caption());
     this.side.replaceChildren(this.wayLine(), this.numbersLine(), ...this.table(nexts));
@@ -141,8 +147,8 @@ class Opening {
     const {positions} = this, {index, turn, last} = this.shown;
     const stones = positions.stones(index);
     if (!stones) return element("p", "", "The game of this position isn’t on this page.");
-    const marks = nexts.slice(0, MOST_LETTERS).filter(next => next.point >= 0).map(({point, colour, letter, step}) => ({
-      point: positions.frames.to[turn][point], text: letter, colour, act: step ? () => this.show([...this.way, step]) : null}));
+    const marks = nexts.slice(0, MOST_LETTERS).filter(next => next.point >= 0).map(next =>
+      ({point: this.seen(next), text: next.letter, colour: next.colour, act: next.act}));
     return boardSvg(new View(positions.board, 0), positions.frames.image(stones, turn), {last, marks});
   }
 
@@ -173,29 +179,34 @@ class Opening {
     back.disabled = this.before.length === 0;
     const line = element("p", "chips way", back);
     this.way.forEach(({index, words}, i) => {
-      const step = button(words || `Position ${formatted(index + 1)}`, () => this.show(this.way.slice(0, i + 1)));
+      const name = words || `Position ${formatted(index + 1)}`;
+      const step = button(name, () => this.show(this.way.slice(0, i + 1)));
       step.disabled = i === this.way.length - 1;
       line.append(step);
     });
-    const {turn} = this.shown;
-    if (turn !== 0) {
-      const again = button("Turn as listed", () => this.show([...this.way.slice(0, -1), {...this.shown, turn: 0, last: null}]), "turn");
-      again.title = "As the record has it: the least of its images";
-      line.append(again);
-    }
+    if (this.shown.turn !== 0) line.append(this.turnButton());
     return line;
+  }
+
+  turnButton() {
+    const listed = {...this.shown, turn: 0, last: null};
+    const made = button("Turn as listed", () => this.show([...this.way.slice(0, -1), listed]), "turn");
+    made.title = "As it is printed: the least of its images";
+    return made;
   }
 
   numbersLine() {
     const told = this.positions.of(this.shown.index);
-    return element("div", "came", element("p", "", `Came up ${often(told.count)}. ${resultWords(told)}.`), resultsBar(told));
+    const words = `Came up ${often(told.count)}. ${resultWords(told)}.`;
+    return element("div", "came", element("p", "", words), resultsBar(told));
   }
 
   table(nexts) {
     if (!nexts.length) return [element("p", "", "Nothing was played behind it.")];
-    const head = element("tr", "", ...["", "Next move", "How often", "Results"].map(text => element("th", "", text)));
+    const heads = ["", "Next move", "How often", "Results"].map(text => element("th", "", text));
     const body = element("tbody", "", ...nexts.map((next, i) => this.nextRow(next, i)));
-    const table = element("table", "continuations nexts", element("thead", "", head), body);
+    const head = element("thead", "", element("tr", "", ...heads));
+    const table = element("table", "continuations nexts", head, body);
     const hidden = nexts.length - FIRST_NEXTS;
     if (hidden <= 0) return [table];
     const more = button(`Show ${counted(hidden, "more move")}`, () => {
@@ -208,34 +219,36 @@ class Opening {
   nextRow(next, i) {
     const colour = next.colour === BLACK ? "black" : "white";
     const move = element("td", "", element("span", `stone ${colour}`), this.moveWords(next));
-    const why = this.whyNot(next);
-    if (why) move.append(element("span", "small", why));
-    const row = element("tr", i < FIRST_NEXTS ? "" : "more", element("td", "", this.letter(next)), move,
-      element("td", "", often(next.count)), element("td", "", resultsBar(next), element("span", "small", resultWords(next))));
+    if (next.why) move.append(element("span", "small", next.why));
+    const results = element("td", "", resultsBar(next), element("span", "small", resultWords(next)));
+    const row = element("tr", i < FIRST_NEXTS ? "" : "more",
+      element("td", "", this.letter(next)), move, element("td", "", often(next.count)), results);
     Object.assign(row.dataset, {colour, point: next.point});
     return row;
   }
 
-  letter(next) {
-    const made = button(next.letter, () => this.show([...this.way, next.step]), "pick");
-    made.disabled = this.whyNot(next) !== "";
-    made.title = made.disabled ? "" : "Go on to this position";
+  letter({letter, act}) {
+    const made = button(letter, act, "pick");
+    made.disabled = !act;
+    made.title = act ? "Go on to this position" : "";
     return made;
   }
 
   // Why a next move leads nowhere, in words; nothing where it leads on.
-  whyNot({step}) {
+  whyNot(step) {
     if (step) return step.index === this.shown.index ? "the position stays" : "";
+    if (this.positions.text(this.shown.index) === null) return "its board isn’t known here";
     return this.positions.indexed < this.count ? "looked for …" : "leads to none that is listed";
   }
 
   row(index) {
-    const told = this.positions.of(index), stones = this.positions.stones(index), game = data.games[told.game];
+    const {positions} = this, told = positions.of(index), stones = positions.stones(index);
+    const game = data.games[told.game];
     const row = button("", () => this.open(index), index === this.selected ? "row chosen" : "row");
     const players = element("bdi", "players", game ? playersOf(game) : `game ${told.game}`);
     players.title = players.textContent;
     row.append(
-      stones ? smallBoardSvg(this.positions, stones) : element("span", ""),
+      stones ? smallBoardSvg(positions, stones) : element("span", ""),
       element("span", "count", often(told.count)),
       element("span", "results-cell", resultsBar(told), element("span", "small", resultWords(told))),
       element("span", "first", element("span", "small", "first in"), players));

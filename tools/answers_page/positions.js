@@ -51,7 +51,8 @@ function asText(stones) {
 }
 
 function fromText(text, count) {
-  return Uint8Array.from({length: count}, (_, point) => (text.charCodeAt(point >> 3) >> (2 * (point & 7))) & 3);
+  const stone = point => (text.charCodeAt(point >> 3) >> (2 * (point & 7))) & 3;
+  return Uint8Array.from({length: count}, (_, point) => stone(point));
 }
 
 class Positions {

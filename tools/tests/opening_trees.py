@@ -19,7 +19,8 @@ SETUPS = {"AE": 0, "AB": 1, "AW": 2}
 def image_point(symmetry: int, columns: int, rows: int, x: int, y: int) -> tuple[int, int]:
     """Where a symmetry takes a point, by the table of docs/SCRIPT.md; those from 4 on want a square board."""
     right, down = columns - 1 - x, rows - 1 - y
-    return [(x, y), (right, y), (x, down), (right, down), (y, x), (y, right), (down, x), (down, right)][symmetry]
+    table = [(x, y), (right, y), (x, down), (right, down), (y, x), (y, right), (down, x), (down, right)]
+    return table[symmetry]
 
 
 def images(position: Position, columns: int, rows: int) -> list[tuple[Position, dict[int, int]]]:
@@ -58,7 +59,7 @@ def without_dead(position: list[int], colour: int, columns: int, rows: int) -> l
 
 
 def played(position: Position, colour: int, point: int | None, columns: int, rows: int) -> Position:
-    """What stands after a move. On games without a group that stood there dead before, this is the rule of SGF."""
+    """What stands after a move, where no group stood there without a liberty before."""
     if point is None:
         return position
     stones = list(position)
@@ -99,7 +100,8 @@ class PlainGame:
                 self.columns, self.rows = sides[0], sides[-1]
             if name == "RE":
                 self.result = value
-        before = self.nodes[parent] if parent is not None else Node(None, 0, (0,) * (self.columns * self.rows))
+        start = Node(None, 0, (0,) * (self.columns * self.rows))
+        before = start if parent is None else self.nodes[parent]
         stones, move = list(before.position), None
         for name, value in properties:
             if name in SETUPS and (point := self.point(value)) is not None:
@@ -183,7 +185,8 @@ def count(numbers: list[int], game: PlainGame) -> None:
     numbers[1 + game.outcome()] += 1
 
 
-def printed(found: dict[Position, Opening], line: int, version: int, games: int, columns: int, least: int) -> str:
+def printed(found: dict[Position, Opening], line: int, version: int, games: int, columns: int,
+            least: int) -> str:
     """What is printed for an opening tree."""
     listed = [opening for opening in found.values() if opening.counts[0] >= least]
     lines = [f"{line} opening version {version} games {games} positions {len(listed)}"]
