@@ -19,9 +19,10 @@ from answers_page.script import read_script
 from . import opening_trees
 from .browser import Browser, find_browser
 from .opening_trees import PlainGame, played
-from .samples import ROOT, page_of, program, program_with_games
+from .samples import NATIVE, ROOT, page_of, program, program_with_games
 from .stand_in import stored_games
 from .test_in_browser import game_at_random
+from .test_page import ENDING, MARKUP
 
 # Shows a position by a click on its row, and tells its stones and letters, and where each next move leads.
 LOOK = """(line, number) => {
@@ -224,16 +225,37 @@ class Openings(unittest.TestCase):
         self.assertEqual(self.browser.complaints(), [])
         return sum(positions for positions, _ in counts), sum(leads for _, leads in counts)
 
+    def check_program(self, script: str, record: str, folder: Path) -> None:
+        """The program prints what the tests work out, if it has opening trees."""
+        answered = subprocess.run([program()], input=script.encode(), cwd=folder, capture_output=True)
+        if answered.returncode == 1:
+            print("the program has no opening trees: those are shown that the tests work out")
+        else:
+            self.assertEqual(answered.stdout.decode(), record)
+
+    def test_hostile_names(self) -> None:
+        games = [f"(;SZ[3]PB[{MARKUP}]PW[{ENDING}]EV[{'W' * 10_000}];B[aa];W[cc])", "(;SZ[3]RE[B+1];B[ca];W[bb])"]
+        self.open_page(EXAMPLE_SCRIPT, EXAMPLE, games)
+        self.press(".nexts .pick")
+        self.press(".position .open")
+        self.assertIn("<img src=x", self.shown("return place.querySelector('.position').textContent"))
+        self.assertIn("<img src=x", self.shown("return place.querySelector('.rows').textContent"))
+        self.assertNotEqual(self.browser.run("document.title"), "ran")
+        self.assertEqual(self.browser.run("document.querySelectorAll('img, main script, b, i').length"), 0)
+        self.press(".way .back")
+        self.browser.run("document.getElementById('viewer-close').click()")
+        for width in (1280, 390):
+            self.browser.size(width, 844)
+            self.assertLessEqual(self.browser.run("document.documentElement.scrollWidth"), width)
+        self.browser.size(1280, 900)
+        self.assertEqual(self.browser.complaints(), [])
+
     def test_each_position_of_the_sample_games(self) -> None:
         texts = [text for _, text in (game for _, game in sorted(stored_games().items()))]
         trees = ((5, 1), (9, 2), (13, 1), (19, 1))
         script = "import games\nwait\n" + "".join(f"opening {side} {side} 12 {least}\n" for side, least in trees)
         record = record_of([opening_trees.read(text) for text in texts], script, files=14)
-        answered = subprocess.run([program()], input=script.encode(), cwd=ROOT, capture_output=True)
-        if answered.returncode == 0:
-            self.assertEqual(answered.stdout.decode(), record, "the program tells other trees")
-        else:
-            print("the program has no opening trees: shown are those that the tests work out")
+        self.check_program(script, record, ROOT)
         positions, leads = self.check_all(script, record, texts)
         print(f"{positions} positions of the sample games were looked at, and {leads} moves gone on to")
         self.assertGreater(positions, 100)
@@ -244,6 +266,11 @@ class Openings(unittest.TestCase):
         trees = ("3 3 6 1", "3 3 30 2", "4 3 5 1", "3 4 4 1", "5 5 3 1", "7 7 3 1")
         script = "import random\nwait\n" + "".join(f"opening {tree}\n" for tree in trees)
         record = record_of([opening_trees.read(text) for text in texts], script)
+        (self.folder / "random").mkdir()
+        for number, text in enumerate(texts):
+            (self.folder / "random" / f"{number:02}.sgf").write_text(text)
+        if NATIVE.exists():
+            self.check_program(script, record, self.folder)
         positions, leads = self.check_all(script, record, texts, on_stones=True)
         print(f"{positions} positions of games at random were looked at, and {leads} moves gone on to")
         self.assertGreater(positions, 100)
