@@ -185,11 +185,10 @@ def count(numbers: list[int], game: PlainGame) -> None:
     numbers[1 + game.outcome()] += 1
 
 
-def printed(found: dict[Position, Opening], line: int, version: int, games: int, columns: int,
-            least: int) -> str:
-    """What is printed for an opening tree."""
+def printed(found: dict[Position, Opening], head: str, columns: int, least: int) -> str:
+    """What is printed for an opening tree. `head` is its first line up to the number of the positions."""
     listed = [opening for opening in found.values() if opening.counts[0] >= least]
-    lines = [f"{line} opening version {version} games {games} positions {len(listed)}"]
+    lines = [f"{head} positions {len(listed)}"]
     for opening in listed:
         lines.append("position " + " ".join(map(str, [*opening.counts, opening.game, opening.node])))
         for (colour, point), counts in sorted(opening.nexts.items(), key=next_place):

@@ -50,7 +50,7 @@ def answer(script: str) -> str | None:
         elif word == "game":
             told += game(stored, number, int(rest[0]), imports)
         elif word == "opening":
-            told += opening(stored, number, imports, *map(int, rest))
+            told += opening(stored, number, list(map(int, rest)), imports)
         else:
             return None
     return told
@@ -65,11 +65,12 @@ def game(stored: dict[int, tuple[str, str]], line: int, number: int, imports: in
     return f"{line} game {number} version {imports} {behind}\n{text}\n"
 
 
-def opening(stored: dict[int, tuple[str, str]], line: int, imports: int, columns: int, rows: int, depth: int,
-            least: int) -> str:
+def opening(stored: dict[int, tuple[str, str]], line: int, asked: list[int], imports: int) -> str:
+    """An opening tree of such a base."""
+    columns, rows, depth, least = asked
     games = [opening_trees.read(text) for _, (_, text) in sorted(stored.items())] * imports
     found = opening_trees.openings(games, columns, rows, depth)
-    return opening_trees.printed(found, line, imports, len(games), columns, least)
+    return opening_trees.printed(found, f"{line} opening version {imports} games {len(games)}", columns, least)
 
 
 def main() -> int:

@@ -135,7 +135,7 @@ def record_of(games: list[PlainGame], script: str, files: int | None = None) -> 
     for number, line in enumerate(lines[2:], start=3):
         columns, rows, depth, least = map(int, line.split()[1:])
         found = opening_trees.openings(games, columns, rows, depth)
-        told += opening_trees.printed(found, number, 1, count, columns, least)
+        told += opening_trees.printed(found, f"{number} opening version 1 games {count}", columns, least)
     return told
 
 
