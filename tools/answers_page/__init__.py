@@ -9,12 +9,12 @@
     continuations  how the hits of a search went on, with their letters
     boards         patterns, bars and charts as SVG
     sections       the HTML of each answer
-    data           games, hits and players as JSON for the page's own script
+    data           games, hits, positions and players as JSON for the page's own script
     page           puts sections, data, style and script together
     command        the command line
 
-The page's own script is game.js, board.js, list.js, hits.js, viewer.js and start.js, one behind the other,
-its style page.css, and the board beside the answers viewer.html.
+The page's own script is game.js, board.js, list.js, hits.js, positions.js, openings.js, viewer.js and start.js,
+one behind the other, its style page.css, and the board beside the answers viewer.html.
 
 Texts come as bytes that need be no UTF-8. They are kept as `str` with `surrogateescape`, so that a line
 of the script can be handed back to the program as it was, and pass through `words.shown` where they

@@ -8,7 +8,7 @@ from __future__ import annotations
 import re
 from dataclasses import dataclass, field
 
-from .script import Statement
+from .script import OpeningQuestion, Statement
 
 NUMBER = r"(\d{1,20})"
 HIT = re.compile(r"hit (\d{1,10}) (\d{1,10}) (\d{1,2}) (\d{1,2}) (\d{1,2}) (?:-|([BW]) (\d{1,2}) (\d{1,2}) (now|later))$")
@@ -17,12 +17,12 @@ TOTAL = re.compile("total" + (" " + NUMBER) * 6 + "$")
 PLAYER = re.compile("player" + (" " + NUMBER) * 3 + " (.*)$", re.S)
 FOUND = re.compile(r"game (\d{1,10}) ([A-Za-z?]{12})$")
 DOUBLE = re.compile(r"double ([A-Za-z?]{12})((?: \d{1,10})+)$")
-POSITION = re.compile("position" + (" " + NUMBER) * 4 + r" (\d{1,10}) (\d{1,10})$")
-NEXT = re.compile(r"next ([BW]) (?:pass|(\d{1,2}) (\d{1,2}))" + (" " + NUMBER) * 4 + "$")
 COLLECTOR = re.compile(r"collector (\S+) (\S+)((?: \d{1,20})*)$")
 REFUSED = re.compile(r"refused ([A-Za-z]+) " + NUMBER + " (.*)$")
 FULL = re.compile("full" + (" " + NUMBER) * 2 + " (.*)$")
 UNREAD = re.compile("unread (.*)$")
+POSITION = re.compile("position" + (" " + NUMBER) * 4 + r" (\d{1,10}) (\d{1,10})$")
+NEXT = re.compile(r"next ([BW]) (?:pass|(\d{1,2}) (\d{1,2}))" + (" " + NUMBER) * 4 + "$")
 
 
 @dataclass
@@ -111,6 +111,91 @@ class Search(Answer):
 
 
 @dataclass
+class Watch(Answer):
+    """That a search is watched from now on, with the number of its hits; or that its name was taken.
+
+    With neither of both: that no search is watched under the name.
+    """
+
+    name: str = ""
+    version: int = 0
+    found: int | None = None
+    taken: bool = False
+
+
+@dataclass
+class Watched(Search):
+    """A watched search. Its first `before` hits were told in the line `since`, the further ones are new."""
+
+    name: str = ""
+    before: int | None = None
+    since: int = 0
+
+    def new_hits(self) -> int:
+        return 0 if self.before is None else max(self.expected - self.before, 0)
+
+
+@dataclass(slots=True)
+class Counts:
+    """How often something came up, and how the games of it ended."""
+
+    count: int
+    black: int
+    white: int
+    other: int
+
+
+@dataclass(slots=True)
+class NextMove:
+    """A move behind a position, where its least image lies. A pass has no point."""
+
+    colour: str
+    point: tuple[int, int] | None
+    counts: Counts
+
+
+@dataclass(slots=True)
+class Position:
+    """A position of an opening tree, with the game and the node at which it first came up."""
+
+    counts: Counts
+    game: int
+    node: int
+    nexts: list[NextMove] = field(default_factory=list)
+
+
+@dataclass
+class Opening(Answer):
+    """Positions with their next moves. How many next moves there are is not told before them."""
+
+    question: OpeningQuestion = OpeningQuestion(19, 19, 0, 1)
+    version: int = 0
+    games: int = 0
+    expected: int = 0
+    positions: list[Position] = field(default_factory=list)
+
+    def take(self, line: str) -> bool:
+        if match := POSITION.match(line):
+            *counts, game, node = map(int, match.groups())
+            self.positions.append(Position(Counts(*counts), game, node))
+            return True
+        if self.positions and (match := NEXT.match(line)):
+            colour, x, y, *counts = match.groups()
+            point = None if x is None else (int(x), int(y))
+            if point is None or self.is_on_board(*point):
+                self.positions[-1].nexts.append(NextMove(colour, point, Counts(*map(int, counts))))
+                return True
+        return False
+
+    def is_on_board(self, x: int, y: int) -> bool:
+        return x < self.question.columns and y < self.question.rows
+
+    def missing(self) -> str:
+        few = len(self.positions) < self.expected
+        return f"it has {len(self.positions):,} of its {self.expected:,} positions" if few else ""
+
+
+@dataclass
 class Kept(Answer):
     version: int = 0
     games: int = 0
@@ -180,57 +265,6 @@ class Doubles(Answer):
         return f"it has {len(self.groups):,} of its {self.expected:,} groups" if few else ""
 
 
-@dataclass(slots=True)
-class Counts:
-    """The four numbers of a position or of a next move."""
-
-    count: int
-    black: int
-    white: int
-    other: int
-
-
-@dataclass(slots=True)
-class NextMove:
-    colour: str
-    # None for a pass.
-    point: tuple[int, int] | None
-    counts: Counts
-
-
-@dataclass(slots=True)
-class Position:
-    counts: Counts
-    game: int
-    node: int
-    nexts: list[NextMove] = field(default_factory=list)
-
-
-@dataclass
-class Opening(Answer):
-    version: int = 0
-    games: int = 0
-    expected: int = 0
-    positions: list[Position] = field(default_factory=list)
-
-    def take(self, line: str) -> bool:
-        if match := POSITION.match(line):
-            *counts, game, node = map(int, match.groups())
-            self.positions.append(Position(Counts(*counts), game, node))
-            return True
-        match = NEXT.match(line)
-        if match is None or not self.positions:
-            return False
-        colour, x, y, *counts = match.groups()
-        point = None if x is None else (int(x), int(y))
-        self.positions[-1].nexts.append(NextMove(colour, point, Counts(*map(int, counts))))
-        return True
-
-    def missing(self) -> str:
-        few = len(self.positions) < self.expected
-        return f"it has {len(self.positions):,} of its {self.expected:,} positions" if few else ""
-
-
 @dataclass
 class Game(Answer):
     number: int = 0
@@ -280,15 +314,6 @@ class Report(Answer):
 class Retire(Answer):
     name: str = ""
     gone: bool = False
-
-
-@dataclass
-class Watch(Answer):
-    """That a search is watched from now on, or why it isn't. `found` is the number of its hits."""
-
-    name: str = ""
-    found: int | None = None
-    taken: bool = False
 
 
 @dataclass

@@ -86,8 +86,28 @@ function markOf(view, {x, y, width, height}) {
     width: (Math.abs(ax - bx) + 1) * CELL, height: (Math.abs(ay - by) + 1) * CELL});
 }
 
-// `stones` are those of the game, `marks` texts by point: {point, text, colour}. `data-point` and
-// `data-stone` tell each stone as it is seen.
+// Texts on one point, which share it where they are several.
+function markSvg(view, stone, point, marks) {
+  const place = view.seen(point % view.game.columns, Math.floor(point / view.game.columns));
+  const [cx, cy] = centre(...place), group = svg("g", {class: "mark", "data-mark": place.join()});
+  if (stone === EMPTY) group.append(svg("circle", {class: "patch", cx, cy, r: CELL * 0.42}));
+  marks.forEach(({text, colour, act}, i) => {
+    const by = view.colour(colour), shift = (i - (marks.length - 1) / 2) * CELL * 0.48;
+    const isWhite = stone === EMPTY ? by === WHITE : stone === BLACK;
+    const name = isWhite ? "by-white" : "by-black";
+    const small = text.length > 1 || marks.length > 1 ? " small" : "";
+    const made = svg("text", {class: `letter ${name}${small}`, x: cx + shift, y: cy}, text);
+    group.append(made);
+    // A text that has the point for itself is pressed anywhere on it.
+    const pressed = marks.length === 1 ? group : made;
+    if (act) pressed.addEventListener("click", act);
+    pressed.classList.toggle("leads", Boolean(act));
+  });
+  return group;
+}
+
+// `stones` are those of the game, `marks` texts by point: {point, text, colour}, perhaps with what a click
+// does. `data-point` and `data-stone` tell each stone as it is seen.
 function boardSvg(view, stones, {placement = null, last = null, marks = []}) {
   const width = view.columns * CELL + MARGIN + 8, height = view.rows * CELL + MARGIN + 8;
   const {columns} = view.game;
@@ -103,12 +123,34 @@ function boardSvg(view, stones, {placement = null, last = null, marks = []}) {
     board.append(svg("circle", {class: name, cx, cy, r: CELL * 0.46, "data-point": place.join(), "data-stone": name}));
     if (point === last) board.append(svg("circle", {class: `last on-${name}`, cx, cy, r: CELL * 0.2}));
   });
-  for (const {point, text, colour} of marks) {
-    const [cx, cy] = centre(...view.seen(point % columns, Math.floor(point / columns)));
-    const stone = view.colour(stones[point]), by = view.colour(colour);
-    if (stone === EMPTY) board.append(svg("circle", {class: "patch", cx, cy, r: CELL * 0.42}));
-    const name = stone === EMPTY ? (by === WHITE ? "by-white" : "by-black") : stone === BLACK ? "by-white" : "by-black";
-    board.append(svg("text", {class: `letter ${name}${text.length > 1 ? " small" : ""}`, x: cx, y: cy}, text));
+  for (const point of new Set(marks.map(mark => mark.point))) {
+    const here = marks.filter(mark => mark.point === point);
+    board.append(markSvg(view, view.colour(stones[point]), point, here));
   }
   return board;
+}
+
+// A board without names and marks, for lists.
+function smallBoardSvg({columns, rows}, stones) {
+  const across = columns - 0.5, down = rows - 0.5;
+  const lines = Array.from({length: columns}, (_, x) => `M${x + 0.5} 0.5V${down}`).join("")
+    + Array.from({length: rows}, (_, y) => `M0.5 ${y + 0.5}H${across}`).join("");
+  const board = svg("svg", {class: "board tiny", viewBox: `0 0 ${columns} ${rows}`, "aria-hidden": "true"},
+    svg("rect", {class: "wood", width: columns, height: rows}), svg("path", {class: "line thin", d: lines}));
+  stones.forEach((stone, point) => {
+    if (stone === EMPTY) return;
+    board.append(svg("circle", {class: stone === BLACK ? "black" : "white", r: 0.46,
+      cx: point % columns + 0.5, cy: Math.floor(point / columns) + 0.5}));
+  });
+  return board;
+}
+
+// How games ended: Black's from the left, White's from the right.
+function resultsBar({black, white, other}) {
+  const whole = black + white + other || 1;
+  const box = {class: "results", viewBox: "0 0 100 10", preserveAspectRatio: "none", "aria-hidden": "true"};
+  return svg("svg", box,
+    svg("rect", {class: "neither", width: 100, height: 10}),
+    svg("rect", {class: "won-black", width: 100 * black / whole, height: 10}),
+    svg("rect", {class: "won-white", x: 100 - 100 * white / whole, width: 100 * white / whole, height: 10}));
 }

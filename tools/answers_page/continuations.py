@@ -1,9 +1,10 @@
 """The continuations of a search, in order of their count, and the letters that they bear."""
 from __future__ import annotations
 
+from collections import Counter
 from dataclasses import dataclass
 
-from .answers import Hit, Search, Tally
+from .answers import Hit, Search, Tally, Watched
 from .words import letter
 
 
@@ -14,6 +15,8 @@ class Continuation:
     x: int
     y: int
     tally: Tally
+    # How many of its hits are new, in a watched search.
+    new: int = 0
 
 
 def counted(hits: list[Hit], known: set[tuple[str, int, int]]) -> list[tuple[tuple[str, int, int], Tally]]:
@@ -29,9 +32,16 @@ def counted(hits: list[Hit], known: set[tuple[str, int, int]]) -> list[tuple[tup
     return list(tallies.items())
 
 
+def new_hits(answer: Search) -> list[Hit]:
+    """The hits of a watched search that weren't told before."""
+    known = isinstance(answer, Watched) and answer.before is not None
+    return answer.hits[answer.before:] if known else []
+
+
 def continuations(answer: Search) -> list[Continuation]:
     """Those that come most often first, and those of one count as the table has them."""
     rows = [(row.move, row.tally) for row in answer.rows]
     rows += counted(answer.hits, {row.move for row in answer.rows})
     rows.sort(key=lambda row: -row[1].count)
-    return [Continuation(letter(i), *move, tally) for i, (move, tally) in enumerate(rows)]
+    new = Counter(hit.move for hit in new_hits(answer))
+    return [Continuation(letter(i), *move, tally, new[move]) for i, (move, tally) in enumerate(rows)]

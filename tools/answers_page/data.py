@@ -1,4 +1,4 @@
-"""What the page's own script works with, as JSON: games, hits and players.
+"""What the page's own script works with, as JSON: games, hits, positions and players.
 
 Names are short since a page may have 100,000 hits. JSON stands in the page as text between tags, so that
 `<` and `&` are written as escapes: no text in it can end its element.
@@ -8,7 +8,7 @@ from __future__ import annotations
 import json
 from typing import Any
 
-from .answers import Players, Search
+from .answers import Counts, Opening, Players, Position, Search, Watched
 from .continuations import continuations
 from .program import ShownGame
 from .record import Record
@@ -40,7 +40,9 @@ def search_data(answer: Search, games: dict[int, ShownGame]) -> dict[str, Any]:
         follows = 2 * place[hit.move] + hit.later if hit.move else -1
         numbers += (hit.game, hit.node, hit.x, hit.y, hit.label, follows, -1 if move is None else move)
     question = answer.statement.question
+    told = {"before": answer.before, "since": answer.since} if isinstance(answer, Watched) else {}
     return {
+        **told,
         "width": question.width if question else 0,
         "height": question.height if question else 0,
         "letters": [[one.letter, one.colour, one.x, one.y] for one in letters],
@@ -48,12 +50,36 @@ def search_data(answer: Search, games: dict[int, ShownGame]) -> dict[str, Any]:
     }
 
 
+def count_numbers(counts: Counts) -> list[int]:
+    return [counts.count, counts.black, counts.white, counts.other]
+
+
+def position_data(position: Position, columns: int) -> list[int]:
+    """Six numbers for a position and six for each next move, one behind the other.
+
+    For the position: its count, the games won by Black, by White and by neither, game and node; for a next
+    move: 0 for Black and 1 for White, the number of its point or -1 for a pass, and the same four numbers.
+    """
+    numbers = [*count_numbers(position.counts), position.game, position.node]
+    for one in position.nexts:
+        point = -1 if one.point is None else one.point[1] * columns + one.point[0]
+        numbers += ("BW".index(one.colour), point, *count_numbers(one.counts))
+    return numbers
+
+
+def opening_data(answer: Opening) -> dict[str, Any]:
+    question = answer.question
+    positions = [position_data(position, question.columns) for position in answer.positions]
+    return {"columns": question.columns, "rows": question.rows, "positions": positions}
+
+
 def page_data(record: Record, games: dict[int, ShownGame]) -> dict[str, Any]:
     searches = {a.statement.line: search_data(a, games) for a in record.answers if isinstance(a, Search)}
     players = {a.statement.line: [[p.games, p.wins, p.losses, shown(p.name)] for p in a.players]
                for a in record.answers if isinstance(a, Players)}
+    openings = {a.statement.line: opening_data(a) for a in record.answers if isinstance(a, Opening)}
     return {"labels": LABELS, "games": {n: game_data(game) for n, game in games.items()},
-            "searches": searches, "players": players}
+            "searches": searches, "openings": openings, "players": players}
 
 
 def as_text(value: Any) -> str:

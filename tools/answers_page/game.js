@@ -24,10 +24,51 @@ function columnName(x) {
   return (x < 25 ? "" : letters[Math.floor(x / 25) - 1]) + letters[x % 25];
 }
 
-class Game {
+// A board on which moves are played. Stones are a list of cells by the numbers of their points.
+class Board {
+  constructor(columns, rows) {
+    Object.assign(this, {columns, rows});
+  }
+
+  play(stones, colour, point) {
+    stones[point] = colour;
+    for (const next of this.neighbours(point))
+      if (stones[next] === 3 - colour) this.removeCaptured(stones, next);
+    this.removeCaptured(stones, point);
+  }
+
+  neighbours(point) {
+    const c = this.columns, x = point % c, found = [];
+    if (x > 0) found.push(point - 1);
+    if (x < c - 1) found.push(point + 1);
+    if (point >= c) found.push(point - c);
+    if (point < c * (this.rows - 1)) found.push(point + c);
+    return found;
+  }
+
+  // Takes the stones of a group away where it has no liberty.
+  removeCaptured(stones, point) {
+    const colour = stones[point], group = [point], seen = new Set(group);
+    for (let i = 0; i < group.length; i++)
+      for (const next of this.neighbours(group[i])) {
+        if (stones[next] === EMPTY) return;
+        if (stones[next] === colour && !seen.has(next)) {
+          seen.add(next);
+          group.push(next);
+        }
+      }
+    for (const one of group) stones[one] = EMPTY;
+  }
+
+  pointName(point) {
+    return columnName(point % this.columns) + (this.rows - Math.floor(point / this.columns));
+  }
+}
+
+class Game extends Board {
   // `text` is a game as gobase prints it, where `~abcdefgh` may stand for `;B[ab];W[cd];B[ef];W[gh]`.
   constructor(text) {
-    this.columns = this.rows = 19;
+    super(19, 19);
     this.nodes = [];
     this.read(text.replace(/~((?:[A-Za-z]{4})+)/g, (_, points) => points.replace(/(..)(..)/g, ";B[$1];W[$2]")));
     if (this.nodes.length === 0) this.addNode(-1);
@@ -102,36 +143,6 @@ class Game {
     return stones;
   }
 
-  play(stones, colour, point) {
-    stones[point] = colour;
-    for (const next of this.neighbours(point))
-      if (stones[next] === 3 - colour) this.removeCaptured(stones, next);
-    this.removeCaptured(stones, point);
-  }
-
-  neighbours(point) {
-    const c = this.columns, x = point % c, found = [];
-    if (x > 0) found.push(point - 1);
-    if (x < c - 1) found.push(point + 1);
-    if (point >= c) found.push(point - c);
-    if (point < c * (this.rows - 1)) found.push(point + c);
-    return found;
-  }
-
-  // Takes the stones of a group away where it has no liberty.
-  removeCaptured(stones, point) {
-    const colour = stones[point], group = [point], seen = new Set(group);
-    for (let i = 0; i < group.length; i++)
-      for (const next of this.neighbours(group[i])) {
-        if (stones[next] === EMPTY) return;
-        if (stones[next] === colour && !seen.has(next)) {
-          seen.add(next);
-          group.push(next);
-        }
-      }
-    for (const one of group) stones[one] = EMPTY;
-  }
-
   // The nodes behind a node by first children, as many at most.
   following(node, most) {
     const found = [];
@@ -146,10 +157,6 @@ class Game {
     return at;
   }
 
-  pointName(point) {
-    return columnName(point % this.columns) + (this.rows - Math.floor(point / this.columns));
-  }
-
   // A node in words: `12 White Q16`.
   nodeWords(node) {
     const {move, setup, number} = this.nodes[node];
@@ -162,10 +169,13 @@ class Game {
 const games = {
   texts: null,
   known: new Map(),
-  get(number) {
+  text(number) {
     this.texts ??= JSON.parse(document.getElementById("texts").textContent);
-    if (!this.known.has(number) && this.texts[number] !== undefined)
-      this.known.set(number, new Game(this.texts[number]));
+    return this.texts[number];
+  },
+  get(number) {
+    if (!this.known.has(number) && this.text(number) !== undefined)
+      this.known.set(number, new Game(this.text(number)));
     return this.known.get(number);
   },
 };

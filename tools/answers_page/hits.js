@@ -55,7 +55,13 @@ class Hits {
       ["-1", "didn’t go on inside"]];
     this.follows = select(follows, "How it went on", again);
     this.told = element("span", "told");
-    place.replaceChildren(element("div", "controls", this.filter, this.sort, this.follows, this.told), this.head());
+    const controls = element("div", "controls", this.filter, this.sort, this.follows);
+    if (this.before > 0 && this.before < this.count) {
+      this.which = select([["", "new hits and old ones"], ["new", "new hits alone"]], "New hits", again);
+      controls.append(this.which);
+    }
+    controls.append(this.told);
+    place.replaceChildren(controls, this.head());
   }
 
   head() {
@@ -73,6 +79,11 @@ class Hits {
     }
     head.append(element("span", "", "How it lies"));
     return head;
+  }
+
+  // Whether a hit of a watched search wasn't told before.
+  isNew(index) {
+    return index >= (this.before ?? Infinity);
   }
 
   hit(index) {
@@ -123,6 +134,7 @@ class Hits {
     const matching = this.matching(), follows = this.follows.value, order = [];
     for (let i = 0; i < this.count; i++) {
       if (matching && !matching.has(this.numbers[i * WORDS])) continue;
+      if (this.which?.value === "new" && !this.isNew(i)) continue;
       if (follows !== "" && this.numbers[i * WORDS + 5] >> 1 !== Number(follows)) continue;
       order.push(i);
     }
@@ -140,20 +152,26 @@ class Hits {
     const row = element("button", index === this.selected ? "row chosen" : "row");
     row.type = "button";
     row.disabled = !told;
+    if (this.isNew(index)) row.classList.add("new");
     const cell = (name, text) => {
       const made = element("bdi", name, text);
       made.title = text;
       row.append(made);
     };
     cell("players", told ? playersOf(told) : `game ${game}`);
+    if (this.isNew(index)) row.firstChild.prepend(element("span", "new-mark", "new"), " ");
     cell("event", told?.[EVENT] ?? "");
     cell("date", told?.[DATE] ?? "");
     cell("result", told?.[RESULT] ?? "");
     cell("move", move < 0 ? "" : `move ${move}`);
     cell("follows", follows < 0 ? "–" : `${this.letters[follows >> 1][0]} ${follows & 1 ? "later" : "at once"}`);
     cell("label", data.labels[label]);
-    row.addEventListener("click", () => viewer.openHit(this, index));
+    row.addEventListener("click", () => this.open(index));
     return row;
+  }
+
+  open(index) {
+    viewer.openHit(this, index);
   }
 
   select(index) {

@@ -15,6 +15,11 @@ function counted(count, what) {
   return `${formatted(count)} ${what}${count === 1 ? "" : "s"}`;
 }
 
+// Puts what is shown into the page's address. Browsers bear only so many changes of it in a time.
+function setAddress(hash) {
+  if (location.hash !== hash) history.replaceState(null, "", hash || " ");
+}
+
 // No element of a browser may be taller than some tens of millions of points. A longer list is scrolled
 // in larger steps.
 const TALLEST = 8000000;
@@ -25,7 +30,8 @@ const MOST_DRAWN = 400;
 
 class LongList {
   // `rowHeight` tells the height of a row for a width, and `makeRow` makes the row of a number.
-  constructor(place, rowHeight, makeRow) {
+  constructor(place, rowHeight, makeRow, {short = SHORT, printed = PRINTED} = {}) {
+    Object.assign(this, {short, printed});
     this.makeRow = makeRow;
     this.rowHeight = rowHeight;
     this.count = 0;
@@ -60,7 +66,7 @@ class LongList {
     this.whole = this.count * this.height;
     const tall = Math.min(this.whole, TALLEST);
     this.space.style.height = `${tall}px`;
-    this.box.style.height = this.count <= SHORT ? `${tall + 2}px` : "";
+    this.box.style.height = this.count <= this.short ? `${tall + 2}px` : "";
     this.draw();
   }
 
@@ -114,13 +120,14 @@ class LongList {
     this.box.style.height = this.space.style.height = "";
     this.rows.clear();
     const rows = [];
-    for (let i = 0; i < Math.min(this.count, PRINTED); i++) {
+    for (let i = 0; i < Math.min(this.count, this.printed); i++) {
       const row = this.makeRow(i);
       row.style.top = "";
       row.style.height = "";
       rows.push(row);
     }
-    if (this.count > PRINTED) rows.push(element("p", "", `${formatted(this.count - PRINTED)} more rows aren’t printed.`));
+    const more = this.count - this.printed;
+    if (more > 0) rows.push(element("p", "", `${formatted(more)} more rows aren’t printed.`));
     this.space.replaceChildren(...rows);
   }
 }

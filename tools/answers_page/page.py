@@ -22,7 +22,7 @@ from .sgf import replayable
 from .words import shown, times
 
 HERE = Path(__file__).parent
-SCRIPTS = ("game.js", "board.js", "list.js", "hits.js", "viewer.js", "start.js")
+SCRIPTS = ("game.js", "board.js", "list.js", "hits.js", "positions.js", "openings.js", "viewer.js", "start.js")
 # A first paragraph longer than this is no heading.
 LONGEST_HEADING = 160
 
@@ -76,13 +76,17 @@ def how_it_ended(made: Made) -> str:
     return "".join(f'<p class="warning">{text(line)}</p>' for line in lines)
 
 
+def found_words(answer: kinds.Search | kinds.Opening) -> str:
+    return times(answer.expected, "hit" if isinstance(answer, kinds.Search) else "position")
+
+
 def contents(made: Made) -> str:
-    """Links to the searches of a script that has several."""
-    searches = [a for a in made.record.answers if isinstance(a, kinds.Search)]
+    """Links to the searches and opening trees of a script that has several."""
+    searches = [a for a in made.record.answers if isinstance(a, (kinds.Search, kinds.Opening))]
     if len(searches) < 4:
         return ""
     links = "".join(f'<li><a href="#line-{a.statement.line}">line {a.statement.line}</a>: '
-                    f"{text(a.statement.lead or a.statement.text)} ({times(a.expected, 'hit')})</li>" for a in searches)
+                    f"{text(a.statement.lead or a.statement.text)} ({found_words(a)})</li>" for a in searches)
     return f"<nav><ol>{links}</ol></nav>"
 
 

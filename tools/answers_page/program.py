@@ -50,12 +50,12 @@ def wanted_games(record: Record) -> list[int]:
     for answer in record.answers:
         if isinstance(answer, Search):
             numbers.update((hit.game, None) for hit in answer.hits)
+        elif isinstance(answer, Opening):
+            numbers.update((position.game, None) for position in answer.positions)
         elif isinstance(answer, Signature):
             numbers.update((game, None) for game, _ in answer.found)
         elif isinstance(answer, Doubles):
             numbers.update((game, None) for _, games in answer.groups for game in games)
-        elif isinstance(answer, Opening):
-            numbers.update((position.game, None) for position in answer.positions)
         elif isinstance(answer, Game) and answer.place is not None:
             numbers[answer.number] = None
     return list(numbers)
@@ -96,7 +96,7 @@ def ask_for_games(program: str, script: Script, record: Record) -> Games:
     wanted = [number for number in wanted_games(record) if number not in shown]
     notes = []
     if len(wanted) > MOST_GAMES:
-        notes.append(f"Of {len(wanted):,} games with hits the first {MOST_GAMES:,} can be looked at here.")
+        notes.append(f"Of {len(wanted):,} games the first {MOST_GAMES:,} can be looked at here.")
         wanted = wanted[:MOST_GAMES]
     if not wanted:
         return Games(shown, notes)

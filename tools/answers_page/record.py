@@ -12,7 +12,7 @@ from typing import Callable
 
 from . import answers as kinds
 from .answers import Answer, NUMBER
-from .script import Script, Statement
+from .script import Script, Statement, read_opening
 
 FIRST = re.compile(r"(\d{1,10}) ([^ ]+)(?: |$)")
 OF_VERSION = r" version " + NUMBER + " games " + NUMBER
@@ -47,6 +47,19 @@ def make_game(statement: Statement, line: str, match: re.Match[str]) -> Answer:
     return kinds.Game(statement, line, number=int(number), version=int(version), place=int(place), file=file)
 
 
+def make_watched(statement: Statement, line: str, match: re.Match[str]) -> Answer:
+    name, version, games, expected = match.groups()
+    return kinds.Watched(statement, line, version=int(version), games=int(games), expected=int(expected), name=name)
+
+
+def make_opening(statement: Statement, line: str, match: re.Match[str]) -> Answer:
+    question = read_opening(statement.words)
+    if question is None:
+        return kinds.Plain(statement, line)
+    version, games, expected = map(int, match.groups())
+    return kinds.Opening(statement, line, question=question, version=version, games=games, expected=expected)
+
+
 # For each name of a first line: what stands behind it, and the answer that this makes.
 FORMS: list[tuple[str, re.Pattern[str], Maker]] = [
     (name, re.compile(pattern + "$"), maker) for name, pattern, maker in [
@@ -68,18 +81,16 @@ FORMS: list[tuple[str, re.Pattern[str], Maker]] = [
          numbers_into(kinds.Signature, "version", "games", "expected")),
         ("players", f"{OF_VERSION} names {NUMBER}", numbers_into(kinds.Players, "version", "games", "expected")),
         ("doubles", f"{OF_VERSION} groups {NUMBER}", numbers_into(kinds.Doubles, "version", "games", "expected")),
-        ("opening", f"{OF_VERSION} positions {NUMBER}",
-         numbers_into(kinds.Opening, "version", "games", "expected")),
         ("game", f" {NUMBER} version {NUMBER}(?: none| place {NUMBER} file (.*))", make_game),
         ("report", f" collectors {NUMBER}", numbers_into(kinds.Report, "expected")),
         ("retire", r" ([^ ]+)( none)?",
          lambda s, line, m: kinds.Retire(s, line, name=m[1], gone=m[2] is None)),
-        ("watch", rf" ([^ ]+) version {NUMBER} hits {NUMBER}",
-         lambda s, line, m: kinds.Watch(s, line, name=m[1], found=int(m[3]))),
-        ("watch", r" ([^ ]+) taken", lambda s, line, m: kinds.Watch(s, line, name=m[1], taken=True)),
-        ("watched", rf" [^ ]+{OF_VERSION} hits {NUMBER}",
-         numbers_into(kinds.Search, "version", "games", "expected")),
-        ("watched", r" ([^ ]+) none", lambda s, line, m: kinds.Watch(s, line, name=m[1])),
+        ("opening", f"{OF_VERSION} positions {NUMBER}", make_opening),
+        ("watch", f" ([^ ]+) version {NUMBER} hits {NUMBER}",
+         lambda s, line, m: kinds.Watch(s, line, name=m[1], version=int(m[2]), found=int(m[3]))),
+        ("watch", " ([^ ]+) taken", lambda s, line, m: kinds.Watch(s, line, name=m[1], taken=True)),
+        ("watched", f" ([^ ]+){OF_VERSION} hits {NUMBER}", make_watched),
+        ("watched", " ([^ ]+) none", lambda s, line, m: kinds.Watch(s, line, name=m[1])),
     ]
 ]
 
@@ -104,6 +115,8 @@ class Reader:
         self.next = 0
         # Imports whose report is still to come.
         self.awaited: set[int] = set()
+        # Watched searches by their names: how many hits were told, and in which line.
+        self.told: dict[str, tuple[int, int]] = {}
 
     def first_line(self, line: str) -> Answer | None:
         """The answer that the line begins, if it begins one."""
@@ -128,10 +141,20 @@ class Reader:
         answers = self.record.answers
         if answer := self.first_line(line):
             answers.append(answer)
+            self.look_at_watches(answer)
         elif not answers:
             self.record.strange.append(line)
         elif not answers[-1].take(line):
             answers[-1].extra.append(line)
+
+    def look_at_watches(self, answer: Answer) -> None:
+        """Hits stand in order of their games, so the first of a watched search are those that were told before."""
+        if isinstance(answer, kinds.Watch) and answer.found is not None:
+            self.told[answer.name] = (answer.found, answer.statement.line)
+        elif isinstance(answer, kinds.Watched):
+            if answer.name in self.told:
+                answer.before, answer.since = self.told[answer.name]
+            self.told[answer.name] = (answer.expected, answer.statement.line)
 
     def finish(self) -> Record:
         self.record.unanswered += self.statements[self.next:]

@@ -10,6 +10,7 @@ from dataclasses import dataclass
 
 WORD = re.compile(r'[ \t]*(?:"((?:[^"\\]|\\["\\])*)"|([^ \t"]+))(?=[ \t]|$)')
 PATTERN = re.compile(r"[.XOxo*]+(?:/[.XOxo*]+)*$")
+NUMBER = re.compile(r"[0-9]{1,10}$")
 
 
 @dataclass(frozen=True)
@@ -20,7 +21,7 @@ class Condition:
 
 @dataclass(frozen=True)
 class Question:
-    """What a `search` or a `kept` asks."""
+    """What a `search`, a `kept` or a `watch` asks."""
 
     rows: tuple[str, ...]
     same: bool = False
@@ -38,6 +39,16 @@ class Question:
     @property
     def height(self) -> int:
         return len(self.rows)
+
+
+@dataclass(frozen=True)
+class OpeningQuestion:
+    """What an `opening` asks: the board, up to which move, and how often a position has to come up."""
+
+    columns: int
+    rows: int
+    depth: int
+    least: int
 
 
 @dataclass(frozen=True)
@@ -84,7 +95,7 @@ def split_words(line: str) -> tuple[str, ...]:
 
 
 def read_question(words: tuple[str, ...]) -> Question | None:
-    """Options, pattern and conditions behind `search` or `kept`; nothing where they aren't understood."""
+    """Options, pattern and conditions behind the first word; nothing where they aren't understood."""
     rest = list(words[1:])
     flags: dict[str, bool] = {}
     numbers: dict[str, tuple[int, ...]] = {}
@@ -121,16 +132,20 @@ def read_question(words: tuple[str, ...]) -> Question | None:
     return Question(rows, conditions=conditions, **flags, **numbers)
 
 
-def read_conditions(words: list[str]) -> tuple[Condition, ...]:
-    """`where NAME TEXT and NAME TEXT`, as many as there are."""
-    if len(words) % 3 != 0:
-        raise ValueError("a condition is three words with its `where` or `and`")
-    return tuple(Condition(words[i + 1], words[i + 2]) for i in range(0, len(words), 3))
+def read_opening(words: tuple[str, ...]) -> OpeningQuestion | None:
+    """The four numbers behind `opening`; nothing where they aren't understood."""
+    if len(words) != 5 or not all(NUMBER.match(word) for word in words[1:]):
+        return None
+    question = OpeningQuestion(*map(int, words[1:]))
+    on_board = 1 <= question.columns <= 52 and 1 <= question.rows <= 52
+    return question if on_board else None
 
 
 def question_of(words: tuple[str, ...], watched: dict[str, Question | None]) -> Question | None:
-    """What a statement asks, if it asks something. `watched` has the questions by their names: a name stays with the
-    first one."""
+    """What a statement asks for on the board, if anything.
+
+    `watched` has the questions that are watched, by their names: a name stays with its first one.
+    """
     if words[0] in ("search", "kept"):
         return read_question(words)
     if words[0] == "watch" and len(words) > 1:
@@ -138,6 +153,13 @@ def question_of(words: tuple[str, ...], watched: dict[str, Question | None]) -> 
     if words[0] == "watched" and len(words) == 2:
         return watched.get(words[1])
     return None
+
+
+def read_conditions(words: list[str]) -> tuple[Condition, ...]:
+    """`where NAME TEXT and NAME TEXT`, as many as there are."""
+    if len(words) % 3 != 0:
+        raise ValueError("a condition is three words with its `where` or `and`")
+    return tuple(Condition(words[i + 1], words[i + 2]) for i in range(0, len(words), 3))
 
 
 def comment_text(lines: list[str]) -> str:

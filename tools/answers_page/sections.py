@@ -12,8 +12,8 @@ from .continuations import Continuation, continuations
 from .program import ShownGame
 from .record import Record
 from .script import Question
-from .words import (COLOURS, FAULTS, label_words, often, point_words, question_words, search_words, shown,
-                    times)
+from .words import (COLOURS, FAULTS, label_words, new_words, often, opening_question_words, opening_words,
+                    point_words, question_words, search_words, shown, times)
 
 # So many continuations stand in the table at once, and so many have their letters on the board.
 FIRST_ROWS, MOST_LETTERS = 8, 26
@@ -85,10 +85,11 @@ def continuation_row(question: Question, index: int, one: Continuation) -> str:
     results = (f'{results_bar(tally.black, tally.white, tally.other)}<span class="small">black {tally.black:,}, '
                f'white {tally.white:,}, neither {tally.other:,}</span>')
     more = " class=\"more\"" if index >= FIRST_ROWS else ""
+    new = f', <strong class="new">{one.new:,} new</strong>' if one.new else ""
     return (f'<tr{more}><td><button type="button" class="pick" data-letter="{index}" '
             f'title="Show the hits that go on so">{one.letter}</button></td>'
             f'<td>{move_cell(question, one)}</td><td>{often(tally.count)}<span class="small">at once {tally.now:,}, '
-            f"later {tally.later:,}</span></td><td>{results}</td></tr>")
+            f"later {tally.later:,}{new}</span></td><td>{results}</td></tr>")
 
 
 def continuation_table(question: Question, letters: list[Continuation]) -> str:
@@ -144,6 +145,33 @@ def search(answer: kinds.Search, context: Context) -> str:
     wide = " wide" if question.width > 11 else ""
     return (f'{asked}{sentence}<div class="found{wide}">{figure}<div class="side">{side}</div></div>'
             f"{hits_place(answer)}")
+
+
+def watch(answer: kinds.Watch, context: Context) -> str:
+    name = isolated(answer.name)
+    if answer.taken:
+        return f"<p>The name {name} is taken: the search that is watched under it stays, and this one wasn’t asked.</p>"
+    if answer.found is None:
+        return f"<p>No search is watched under the name {name}.</p>"
+    sentence = (f'<p class="totals">Watched from now on under the name {name}: {times(answer.found, "hit")} so far, '
+                f"in version {answer.version:,} of the base.</p>")
+    question = answer.statement.question
+    if question is None:
+        return sentence
+    figure = pattern_figure(question, [], question.board)
+    return f'<p class="asked">{text(question_words(question))}</p>{sentence}<div class="found">{figure}</div>'
+
+
+def watched(answer: kinds.Watched, context: Context) -> str:
+    new = f" <strong>{escape(new_words(answer))}</strong>" if answer.before is not None else ""
+    return f'<p class="totals">Watched under the name {isolated(answer.name)}.{new}</p>{search(answer, context)}'
+
+
+def opening(answer: kinds.Opening, context: Context) -> str:
+    place = (f'<div class="opening" data-opening="{answer.statement.line}">'
+             "<noscript>The positions need the script of this page.</noscript></div>") if answer.positions else ""
+    return (f'<p class="asked">{escape(opening_question_words(answer.question))}</p>'
+            f'<p class="totals">{escape(opening_words(answer))}</p>{place}')
 
 
 def kept(answer: kinds.Kept, context: Context) -> str:
@@ -228,45 +256,6 @@ def doubles(answer: kinds.Doubles, context: Context) -> str:
     for index, (_, games) in enumerate(answer.groups[:MOST_LINES], start=1):
         rows = [game_row(context, number) for number in games]
         parts.append(f"<h3>Group {index}: {times(len(games), 'game')}</h3>{table(GAME_HEAD, rows, 'games')}")
-    return "".join(parts) + cut_note(count)
-
-
-def asked_openings(words: tuple[str, ...]) -> str:
-    """Which openings a statement asks for, in words."""
-    if len(words) != 5:
-        return ""
-    columns, rows, depth, least = words[1:]
-    return f"Asked for, on boards of {columns} by {rows}, up to move {depth}: positions that came up {least} times or more."
-
-
-def counts_cells(counts: kinds.Counts) -> list[str]:
-    return [often(counts.count),
-            f'{results_bar(counts.black, counts.white, counts.other)}<span class="small">black {counts.black:,}, '
-            f"white {counts.white:,}, neither {counts.other:,}</span>"]
-
-
-def next_row(one: kinds.NextMove) -> list[str]:
-    stone = "black" if one.colour == "B" else "white"
-    where = "passes" if one.point is None else f"at column {one.point[0] + 1}, row {one.point[1] + 1}"
-    return [f'<span class="stone {stone}"></span>{COLOURS[one.colour]} {where}', *counts_cells(one.counts)]
-
-
-def opening_position(index: int, one: kinds.Position, context: Context) -> str:
-    often_cell, results = counts_cells(one.counts)
-    rows = [next_row(move) for move in one.nexts[:MOST_LINES]]
-    listed = table(["Next move", "How often", "Results"], rows, "continuations") if rows else "<p>Nothing was played next.</p>"
-    return (f"<h3>Position {index:,}: {often_cell}</h3><p>First in {game_words(context, one.game)}, at node {one.node:,}. "
-            f"{results}</p>{listed}{cut_note(len(one.nexts))}")
-
-
-def opening(answer: kinds.Opening, context: Context) -> str:
-    count = len(answer.positions)
-    parts = [f'<p class="asked">{text(asked_openings(answer.statement.words))}</p>',
-             f"<p class=\"totals\">{times(count, 'position')} among {times(answer.games, 'game')}. Other orders of moves and "
-             "turned boards count as one. Next moves are told for the board turned so that, read row by row, "
-             "its stones come as late as they can.</p>"]
-    parts += [opening_position(index, one, context)
-              for index, one in enumerate(answer.positions[:MOST_LINES], start=1)]
     return "".join(parts) + cut_note(count)
 
 
@@ -392,15 +381,6 @@ def retire(answer: kinds.Retire, context: Context) -> str:
     return f"<p>There is no collector {name}.</p>"
 
 
-def watch(answer: kinds.Watch, context: Context) -> str:
-    name = isolated(answer.name)
-    if answer.found is not None:
-        return f"<p>A search is watched as {name}, with {times(answer.found, 'hit')} so far.</p>"
-    if answer.taken:
-        return f"<p>A search is watched as {name} already, and stays.</p>"
-    return f"<p>No search is watched as {name}.</p>"
-
-
 def plain(answer: Answer, context: Context) -> str:
     return lines_as_they_are([answer.first, *answer.extra])
 
@@ -415,15 +395,16 @@ def lines_as_they_are(lines: list[str]) -> str:
 # For each kind of answer its section, and what it is called where no comment stands above its statement.
 SECTIONS: dict[type[Answer], tuple[str, Callable[..., str]]] = {
     kinds.Search: ("Search", search),
+    kinds.Watch: ("Watched search", watch),
+    kinds.Watched: ("Watched search", watched),
+    kinds.Opening: ("Opening tree", opening),
     kinds.Kept: ("Games that may have a pattern", kept),
     kinds.Players: ("Players", players),
     kinds.Signature: ("Games with a signature", signature),
     kinds.Doubles: ("Games that stand here twice", doubles),
-    kinds.Opening: ("Openings", opening),
     kinds.Game: ("", game),
     kinds.Report: ("All searches together", report),
     kinds.Retire: ("", retire),
-    kinds.Watch: ("", watch),
     kinds.Import: ("", begun_import),
     kinds.Imported: ("", imported),
     kinds.Make: ("", begun_make),
@@ -434,8 +415,11 @@ SECTIONS: dict[type[Answer], tuple[str, Callable[..., str]]] = {
 }
 
 # Answers of a line, which stand on the page without a heading of their own.
-QUIET = (kinds.Retire, kinds.Watch, kinds.Import, kinds.Imported, kinds.Make, kinds.Made, kinds.Wait,
-         kinds.Until)
+QUIET = (kinds.Retire, kinds.Import, kinds.Imported, kinds.Make, kinds.Made, kinds.Wait, kinds.Until)
+
+
+def is_quiet(answer: Answer) -> bool:
+    return isinstance(answer, QUIET) or (isinstance(answer, kinds.Watch) and answer.found is None)
 
 
 def is_told(answer: Answer, record: Record) -> bool:
@@ -461,7 +445,7 @@ def section(answer: Answer, context: Context) -> str:
     if answer.extra and not isinstance(answer, kinds.Plain):
         body += "<p>Lines that this page doesn’t know:</p>" + lines_as_they_are(answer.extra)
     line = answer.statement.line
-    if isinstance(answer, QUIET):
+    if is_quiet(answer):
         return f'<section class="quiet" data-line="{line}">{body}</section>'
     return (f'<section class="answer" id="line-{line}" data-line="{line}"><h2>{own_words(heading_of(answer, name))}</h2>'
             f"{body}</section>")

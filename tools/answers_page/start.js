@@ -52,17 +52,22 @@ document.querySelectorAll(".player-list").forEach(makePlayers);
 document.querySelectorAll(".small-board").forEach(makeSmallBoard);
 for (const button of document.querySelectorAll(".open"))
   button.addEventListener("click", () =>
-    viewer.openGame(Number(button.dataset.game), button.closest(".games") !== null));
+    viewer.openGame(Number(button.dataset.game), {signature: button.closest(".games") !== null}));
 for (const button of document.querySelectorAll(".all-rows"))
   button.addEventListener("click", () => {
     button.previousElementSibling.classList.add("whole");
     button.remove();
   });
 
-// The address `#12.3` opens the third hit of the search in line 12.
+for (const place of document.querySelectorAll(".opening")) {
+  const opening = new Opening(place);
+  lists.set(opening.line, opening);
+}
+
+// The address `#12.3` opens the third hit of the search in line 12, or the third position of the opening tree.
 function openAddress() {
   const match = /^#(\d+)\.(\d+)$/.exec(location.hash), list = match && lists.get(Number(match[1]));
-  if (list && Number(match[2]) >= 1 && Number(match[2]) <= list.count) viewer.openHit(list, Number(match[2]) - 1);
+  if (list && Number(match[2]) >= 1 && Number(match[2]) <= list.count) list.open(Number(match[2]) - 1);
 }
 
 viewer.listen();

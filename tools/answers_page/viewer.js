@@ -3,27 +3,28 @@
 const part = id => document.getElementById(id);
 const NEXT_MOVES = 10;
 
-// What is looked at: a game, a node of it, perhaps a hit with its list, and marks of a signature.
+// What is looked at: a game, a node of it, perhaps a hit with its list, marks of a signature, and by which label
+// the board can be turned.
 const viewer = {
-  number: -1, game: null, node: 0, hit: null, turned: false, signature: false,
+  number: -1, game: null, node: 0, hit: null, turned: false, signature: false, label: 0,
 
   openHit(list, index) {
     const hit = list.hit(index);
     const game = games.get(hit.game);
     if (!game) return;
     Object.assign(this, {number: hit.game, game, node: Math.min(hit.node, game.nodes.length - 1), signature: false,
-      hit: {...hit, list, index}});
-    history.replaceState(null, "", `#${list.line}.${index + 1}`);
+      label: hit.label, hit: {...hit, list, index}});
+    setAddress(`#${list.line}.${index + 1}`);
     this.open();
     list.select(index);
   },
 
-  openGame(number, signature) {
+  openGame(number, {signature = false, node = 0, label = 0} = {}) {
     const game = games.get(number);
     if (!game) return;
-    const node = signature ? game.last(0) : 0;
+    const at = signature ? game.last(0) : Math.min(node, game.nodes.length - 1);
     this.hit?.list.select(-1);
-    Object.assign(this, {number, game, node, hit: null, turned: false, signature});
+    Object.assign(this, {number, game, node: at, hit: null, turned: false, signature, label});
     this.open();
   },
 
@@ -38,7 +39,7 @@ const viewer = {
     document.body.classList.remove("viewing");
     this.hit?.list.select(-1);
     this.game = null;
-    history.replaceState(null, "", " ");
+    setAddress("");
   },
 
   go(node) {
@@ -85,7 +86,7 @@ const viewer = {
 
   draw() {
     const {game, node, hit} = this, {move} = game.nodes[node];
-    const view = new View(game, hit && this.turned ? hit.label : 0);
+    const view = new View(game, this.turned ? this.label : 0);
     const last = move ? move.point : null;
     Object.assign(part("viewer-board").dataset, {game: this.number, node});
     part("viewer-board").replaceChildren(boardSvg(view, game.position(node),
@@ -93,7 +94,8 @@ const viewer = {
     this.drawWords();
     this.drawVariations();
     this.drawNext();
-    part("viewer-turn").hidden = !hit || hit.label === 0;
+    part("viewer-turn").hidden = this.label === 0;
+    part("as-pattern").textContent = hit ? "Turned as drawn" : "Turned as the position";
     part("as-game").setAttribute("aria-pressed", String(!this.turned));
     part("as-pattern").setAttribute("aria-pressed", String(this.turned));
     part("step-hit").hidden = !hit;
@@ -109,7 +111,8 @@ const viewer = {
     if (!game.nodes[node].move && node > 0) where = game.nodeWords(node);
     if (hit && node === hit.node) where += ": here the pattern begins to hold.";
     part("viewer-where").textContent = where;
-    part("viewer-label").textContent = hit ? `How the pattern lies: ${data.labels[hit.label]}.` : "";
+    const isNew = hit && hit.list.isNew(hit.index) ? ` New since line ${hit.list.since} of the script.` : "";
+    part("viewer-label").textContent = hit ? `How the pattern lies: ${data.labels[hit.label]}.${isNew}` : "";
     part("viewer-hits").hidden = !hit;
     if (hit)
       part("hit-count").textContent =

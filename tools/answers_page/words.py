@@ -3,8 +3,8 @@ from __future__ import annotations
 
 import re
 
-from .answers import Search
-from .script import Question
+from .answers import Opening, Search, Watched
+from .script import OpeningQuestion, Question
 
 # A text on the page is cut behind so many letters; the whole one of a stranger may have any number.
 LONGEST_TEXT = 300
@@ -159,3 +159,26 @@ def search_words(answer: Search) -> str:
     went_on = f"play went on inside the pattern {' and '.join(when)}" if when else "play never went on inside the pattern"
     return (f"{text}: {went_on}; the pattern’s black won {total.black:,}, its white {total.white:,}, "
             f"neither {total.other:,}.")
+
+
+def new_words(answer: Watched) -> str:
+    """How many hits of a watched search are new, in one sentence."""
+    since = f"since line {answer.since} of the script"
+    new = answer.new_hits()
+    if new == 0:
+        return f"Nothing is new {since}."
+    return f"{new:,} of {times(answer.expected, 'hit')} {'is' if new == 1 else 'are'} new {since}."
+
+
+def opening_question_words(question: OpeningQuestion) -> str:
+    """What an opening tree is asked for, in one sentence."""
+    depth = f"up to move {question.depth:,}" if question.depth else "before the first move"
+    least = f", {often(question.least)} at least" if question.least > 1 else ""
+    return (f"Positions that came up on boards of {question.columns} by {question.rows}, {depth}{least}. What "
+            "differs only by turning and mirroring is one position.")
+
+
+def opening_words(answer: Opening) -> str:
+    """The totals of an opening tree in one sentence."""
+    base = f"the {times(answer.games, 'game')} of the base"
+    return f"{times(answer.expected, 'position')} from {base}." if answer.expected else f"None in {base}."

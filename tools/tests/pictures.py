@@ -32,7 +32,7 @@ def take(browser: Browser, name: str, part: tuple[int, int, int, int]) -> None:
 def main() -> None:
     PICTURES.mkdir(exist_ok=True)
     with tempfile.TemporaryDirectory() as room, Browser(960, 900) as browser:
-        for name in ("joseki", "phases"):
+        for name in ("joseki", "phases", "opening"):
             page_of(ROOT / "scripts" / f"{name}.script", Path(room, f"{name}.html"))
         browser.open(Path(room, "joseki.html"))
         x, y, width, _ = box_of(browser, "#line-12")
@@ -45,6 +45,11 @@ def main() -> None:
         browser.open(Path(room, "phases.html"))
         x, y, width, height = box_of(browser, ".collectors")
         take(browser, "page-report.png", (x, y, width, height))
+        browser.open(Path(room, "opening.html"))
+        browser.run("document.querySelector('.nexts .pick').click()")
+        browser.run("new Promise(done => setTimeout(done, 300))")
+        x, y, width, height = box_of(browser, ".found.opened")
+        take(browser, "page-opening.png", (x, y, width, height))
 
 
 if __name__ == "__main__":

@@ -26,6 +26,22 @@ def scripts() -> list[Path]:
     return sorted((ROOT / "scripts").glob("*.script"))
 
 
+def program_with_games(path: Path, reports: str, games: list[str]) -> Path:
+    """A program that prints these reports, and the games that it is asked for."""
+    path.write_text(f"""#!{sys.executable}
+import sys
+games = {games!r}
+told = {reports!r}
+for number, line in enumerate(sys.stdin, start=1):
+    if line.startswith("game "):
+        game = int(line[5:])
+        told += f"{{number}} game {{game}} version 1 place 0 file {{game}}.sgf\\n{{games[game]}}\\n"
+sys.stdout.write(told)
+""")
+    path.chmod(0o755)
+    return path
+
+
 def program_that_tells(path: Path, output: str, code: int = 0, errors: str = "") -> Path:
     """A program that prints one and the same, whatever it is asked."""
     path.write_text(f"#!{sys.executable}\nimport sys\nsys.stdin.read()\n"

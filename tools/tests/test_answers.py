@@ -6,7 +6,26 @@ import unittest
 from answers_page import answers as kinds
 from answers_page.continuations import continuations
 from answers_page.record import Record, read_record, where_it_ended
-from answers_page.script import Condition, read_question, read_script, split_words
+from answers_page.script import Condition, OpeningQuestion, read_opening, read_question, read_script, split_words
+
+
+WATCHES = "import d\nwait\nwatch w same X\nimport d\nwait\nwatched w\nwatched v\nwatch w O\n"
+WATCHED = """1 import d
+1 imported files 1 accepted 1 refused 0 full 0 unread 0 games 1 version 1
+2 wait version 1
+3 watch w version 1 hits 2
+4 import d
+4 imported files 1 accepted 1 refused 0 full 0 unread 0 games 1 version 2
+5 wait version 2
+6 watched w version 2 games 2 hits 4
+hit 0 1 2 2 0 -
+hit 0 3 2 1 0 -
+hit 1 1 2 2 0 -
+hit 1 3 2 1 0 -
+total 4 0 0 0 0 4
+7 watched v none
+8 watch w taken
+"""
 
 
 def read(script: str, output: str) -> Record:
@@ -44,6 +63,19 @@ class Scripts(unittest.TestCase):
     def test_what_is_no_question(self) -> None:
         for text in ("search", "search same", "search board 9 X", "search XX/X", "search y", "search X O", "kept at 1 X"):
             self.assertIsNone(read_question(split_words(text)), text)
+
+
+    def test_opening_trees(self) -> None:
+        self.assertEqual(read_opening(split_words("opening 19 13 20 5")), OpeningQuestion(19, 13, 20, 5))
+        for text in ("opening", "opening 19 19 20", "opening 53 19 1 1", "opening 0 19 1 1", "opening 19 19 1 x",
+                     "opening 9 9 1 1 1", "opening 9 9 -1 1"):
+            self.assertIsNone(read_opening(split_words(text)), text)
+
+    def test_a_name_stays_with_its_first_search(self) -> None:
+        script = read_script("watched w\nwatch w same X where player \"Lee\"\nwatch v O\nwatched w\nwatch w\n")
+        questions = [s.question and s.question.rows for s in script.statements]
+        self.assertEqual(questions, [None, ("X",), ("O",), ("X",), ("X",)])
+        self.assertEqual(script.statements[3].question.conditions, (Condition("player", "Lee"),))
 
 
 class Outputs(unittest.TestCase):
@@ -114,27 +146,76 @@ total 3 2 1 1 1 1
         found = self.one("doubles", "1 doubles version 1 games 15 groups 1\ndouble ddhh??df???? 3 14\n")
         self.assertEqual(found.groups, [("ddhh??df????", (3, 14))])
 
-    def test_opening(self) -> None:
-        found = self.one("opening 3 3 1 1", """1 opening version 1 games 2 positions 2
-position 2 1 0 1 0 0
-next B 0 0 2 1 0 1
-next W pass 1 1 0 0
-position 2 1 0 1 0 1
-""")
-        self.assertEqual(found.positions, [
-            kinds.Position(kinds.Counts(2, 1, 0, 1), 0, 0, [
-                kinds.NextMove("B", (0, 0), kinds.Counts(2, 1, 0, 1)),
-                kinds.NextMove("W", None, kinds.Counts(1, 1, 0, 0))]),
-            kinds.Position(kinds.Counts(2, 1, 0, 1), 0, 1)])
-        self.assertEqual(found.missing(), "")
-        record = read("opening 3 3 1 1", "1 opening version 1 games 2 positions 2\nposition 2 1 0 1 0 0\n")
-        self.assertEqual(record.answers[0].missing(), "it has 1 of its 2 positions")
-
     def test_game(self) -> None:
         text = "(;GM[1]FF[4]SZ[3];B[bb](;B[cc])(;W[aa];AE[aa]))"
         game = self.one("game 0", f"1 game 0 version 1 place 2 file my a.sgf\n{text}\n")
         self.assertEqual((game.number, game.place, game.file, game.sgf), (0, 2, "my a.sgf", text))
         self.assertIsNone(self.one("game 9", "1 game 9 version 1 none\n").place)
+
+    def test_opening(self) -> None:
+        tree = self.one("opening 3 3 1 1", """1 opening version 1 games 2 positions 2
+position 2 1 0 1 0 0
+next B 0 0 2 1 0 1
+position 2 1 0 1 0 1
+next W 0 0 1 0 0 1
+next W 1 1 1 1 0 0
+""")
+        self.assertEqual((tree.version, tree.games, tree.question), (1, 2, OpeningQuestion(3, 3, 1, 1)))
+        first, second = tree.positions
+        self.assertEqual((first.counts, first.game, first.node), (kinds.Counts(2, 1, 0, 1), 0, 0))
+        self.assertEqual(first.nexts, [kinds.NextMove("B", (0, 0), kinds.Counts(2, 1, 0, 1))])
+        self.assertEqual([(one.point, one.counts.count) for one in second.nexts], [((0, 0), 1), ((1, 1), 1)])
+
+    def test_passes_of_an_opening(self) -> None:
+        tree = self.one("opening 9 9 0 2", "1 opening version 4 games 3 positions 1\nposition 3 2 1 0 0 0\n"
+                        "next B 4 4 2 2 0 0\nnext B pass 1 0 1 0\nnext W pass 4 2 2 0\n")
+        self.assertEqual([(one.colour, one.point) for one in tree.positions[0].nexts],
+                         [("B", (4, 4)), ("B", None), ("W", None)])
+
+    def test_an_opening_that_is_not_whole_or_is_none(self) -> None:
+        record = read("opening 3 3 1 1", "1 opening version 1 games 2 positions 2\nposition 2 1 0 1 0 0\n")
+        self.assertIn("it has 1 of its 2 positions", where_it_ended(record))
+        # A move before the first position, one beside the board, and a position without all its numbers.
+        record = read("opening 3 3 1 1", "1 opening version 1 games 2 positions 1\nnext B 0 0 2 1 0 1\n"
+                      "position 2 1 0 1 0 0\nnext B 3 0 2 1 0 1\nposition 2 1 0 1 0\n")
+        self.assertEqual(record.answers[0].extra, ["next B 0 0 2 1 0 1", "next B 3 0 2 1 0 1", "position 2 1 0 1 0"])
+        self.assertEqual(record.answers[0].positions[0].nexts, [])
+        record = read("opening 3 0 1 1", "1 opening version 1 games 2 positions 0\n")
+        self.assertIsInstance(record.answers[0], kinds.Plain)
+
+    def test_watched_searches(self) -> None:
+        record = read(WATCHES, WATCHED)
+        self.assertEqual(where_it_ended(record), "")
+        begun, told, none, taken = [a for a in record.answers if isinstance(a, (kinds.Watch, kinds.Watched))]
+        self.assertEqual((begun.name, begun.version, begun.found, begun.taken), ("w", 1, 2, False))
+        self.assertEqual((told.name, told.version, told.games, len(told.hits)), ("w", 2, 2, 4))
+        self.assertEqual((told.before, told.since, told.new_hits()), (2, 3, 2))
+        self.assertEqual([answer.statement.question.rows for answer in (begun, told)], [("X",)] * 2)
+        self.assertTrue(told.statement.question.same)
+        self.assertEqual((taken.name, taken.found, taken.taken), ("w", None, True))
+        self.assertEqual((none.name, none.found, none.taken, none.statement.question), ("v", None, False, None))
+
+    def test_each_look_tells_what_is_new_since_the_one_before(self) -> None:
+        record = read("watch w X\nwatched w\nwatched w\nwatch none O\nwatched none", """1 watch w version 0 hits 0
+2 watched w version 1 games 1 hits 1
+hit 0 1 2 2 0 B 0 0 now
+row B 0 0 1 1 0 0 0 1
+total 1 1 0 0 0 1
+3 watched w version 1 games 1 hits 1
+hit 0 1 2 2 0 B 0 0 now
+row B 0 0 1 1 0 0 0 1
+total 1 1 0 0 0 1
+4 watch none version 1 hits 0
+5 watched none version 1 games 1 hits 0
+total 0 0 0 0 0 0
+""")
+        looks = [a for a in record.answers if isinstance(a, kinds.Watched)]
+        self.assertEqual([(a.name, a.before, a.since) for a in looks], [("w", 0, 1), ("w", 1, 2), ("none", 0, 4)])
+        self.assertEqual([[one.new for one in continuations(a)] for a in looks], [[1], [0], []])
+
+    def test_a_watched_search_whose_beginning_is_not_told(self) -> None:
+        told = self.one("watched w", "1 watched w version 1 games 1 hits 0\ntotal 0 0 0 0 0 0\n")
+        self.assertEqual((told.before, told.new_hits()), (None, 0))
 
     def test_file_names_with_line_feeds(self) -> None:
         game = self.one("game 0", "1 game 0 version 1 place 0 file a\nplayer 1 1 1 b.sgf\n(;GM[1])\n")
@@ -151,21 +232,6 @@ collector nexts nexts 0 0 2
         self.assertEqual(report.collectors, [kinds.Collector("hits", "total", (2,)),
                                              kinds.Collector("nexts", "nexts", (0, 0, 2))])
         self.assertEqual((gone.gone, none.gone), (True, False))
-
-    def test_watched_searches(self) -> None:
-        record = read("watch w same XO\nwatched w\nwatch w X\nwatched v\n", """1 watch w version 1 hits 1
-2 watched w version 2 games 7 hits 1
-hit 3 5 1 2 0 -
-total 1 0 0 0 0 1
-3 watch w taken
-4 watched v none
-""")
-        begun, told, taken, none = record.answers
-        self.assertEqual((begun.name, begun.found, begun.taken), ("w", 1, False))
-        self.assertEqual((told.version, told.games, len(told.hits)), (2, 7, 1))
-        self.assertEqual([answer.statement.question.rows for answer in (begun, told, taken)], [("XO",)] * 3)
-        self.assertEqual((taken.found, taken.taken), (None, True))
-        self.assertEqual((none.found, none.taken, none.statement.question), (None, False, None))
 
     def test_reports_of_imports(self) -> None:
         record = read("import damaged\nimport none\nimport many\nwait", """1 import damaged

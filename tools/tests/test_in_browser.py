@@ -13,13 +13,14 @@ import unittest
 from pathlib import Path
 from typing import Any
 
-from answers_page.answers import Hit, Search
+from answers_page.answers import Hit, Search, Watched
 from answers_page.record import read_record
 from answers_page.script import Question, read_script
 
 from .browser import Browser, find_browser
-from .samples import NATIVE, ROOT, page_of, program, program_that_tells, scripts
-from .test_page import ENDING, MARKUP, hostile_page
+from .samples import NATIVE, ROOT, page_of, program, program_that_tells, program_with_games, scripts
+from .test_answers import WATCHED, WATCHES
+from .test_page import ENDING, FIRST_GAME, MARKUP, hostile_page
 
 # Opens a hit by its address, and tells the stones of the board at its node, with the pattern turned back,
 # and at the node before.
@@ -256,6 +257,26 @@ class InBrowser(unittest.TestCase):
             return Math.max(...ends) - box.getBoundingClientRect().bottom;
         })()""")
         self.assertLess(abs(below), 4, "the last row isn't at the lower end")
+
+    def test_what_is_new_in_a_watched_search(self) -> None:
+        (self.folder / "w.record").write_text(WATCHED)
+        (self.folder / "w.script").write_text(WATCHES)
+        asked = program_with_games(self.folder / "w", WATCHED.split("3 watch")[0], [FIRST_GAME] * 2)
+        page_of(self.folder / "w.script", self.folder / "w.html", "--output", str(self.folder / "w.record"), asked=asked,
+                folder=self.folder)
+        self.browser.open(self.folder / "w.html")
+        watched = next(a for a in read_record(WATCHED, read_script(WATCHES)).answers if isinstance(a, Watched))
+        for number, hit in enumerate(watched.hits, start=1):
+            told = self.browser.run(f"({LOOK})(6, {number})")
+            self.check_hit(watched.statement.question, hit, told)
+            self.assertEqual("New since line 3 of the script." in told["label"], hit.game == 1)
+        marks = "[...document.querySelectorAll('.hits .rows .row')].map(row => row.querySelector('.new-mark') !== null)"
+        self.assertEqual(sorted(self.browser.run(marks)), [False, False, True, True])
+        self.browser.run("""(() => { const which = document.querySelector(".hits [aria-label='New hits']");
+            which.value = "new"; which.dispatchEvent(new Event("change")); })()""")
+        self.assertEqual(self.browser.run(marks), [True, True])
+        self.assertEqual(self.browser.run("document.querySelector('.hits .told').textContent"), "2 of 4 hits")
+        self.assertEqual(self.browser.complaints(), [])
 
     def test_a_letter_picks_its_hits(self) -> None:
         page = self.folder / "letters.html"

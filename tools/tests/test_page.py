@@ -7,7 +7,8 @@ import unittest
 from html.parser import HTMLParser
 from pathlib import Path
 
-from .samples import page_of, program_that_tells, scripts
+from .samples import page_of, program_that_tells, program_with_games, scripts
+from .test_answers import WATCHED, WATCHES
 
 MARKUP = """<img src=x onerror="document.title='ran'"><script>document.title='ran'</script>"""
 ENDING = "</script></title></style><!--<svg onload=alert(1)>"
@@ -23,6 +24,9 @@ HOSTILE = (
     f"6 report collectors 1\ncollector <b>x {MARKUP.split(' ')[0]} 1 2\n7 something <i>{MARKUP}</i>\n{ENDING}\n")
 HOSTILE_SCRIPT = (f"# {MARKUP}\n".encode() + b'import "a"\nwait\n# ' + ENDING.encode()
                   + b'\nsearch X where player "\xff<b>"\nplayers\ngame 0\nreport\nsomething <i>\n')
+
+
+FIRST_GAME = "(;GM[1]FF[4]SZ[5];B[cc];W[bc];B[cb])"
 
 
 class Tags(HTMLParser):
@@ -85,6 +89,32 @@ class Pages(unittest.TestCase):
         tags = Tags()
         tags.feed(text)
         self.assertEqual([tag for tag, _ in tags.found if tag in ("img", "i", "b", "svg")], [])
+
+    def test_watched_searches_in_plain_words(self) -> None:
+        (self.folder / "record").write_text(WATCHED)
+        program = program_with_games(self.folder / "program", WATCHED.split("3 watch")[0], [FIRST_GAME] * 2)
+        text = self.page(WATCHES, "--output", str(self.folder / "record"), asked=program)
+        self.assertIn("Watched from now on under the name <bdi>w</bdi>: 2 hits so far, in version 1 of the base.", text)
+        self.assertIn("Watched under the name <bdi>w</bdi>. <strong>2 of 4 hits are new since line 3 of the script.</strong>",
+                      text)
+        self.assertIn("No search is watched under the name <bdi>v</bdi>.", text)
+        self.assertIn("The name <bdi>w</bdi> is taken: the search that is watched under it stays, and this one wasn’t asked.",
+                      text)
+        self.assertNotIn('class="plain"', text)
+
+    def test_hostile_names_of_watched_searches(self) -> None:
+        name = "<img/src=x><script>" + "\u202e" + "W" * 2_000
+        script = f"watch {name} X\nwatched {name}\nwatch {name} O\nwatched </title><b>\nopening 3 3 1 1\n"
+        (self.folder / "record").write_text(
+            f"1 watch {name} version 0 hits 0\n2 watched {name} version 0 games 0 hits 0\ntotal 0 0 0 0 0 0\n"
+            f"3 watch {name} taken\n4 watched </title><b> none\n5 opening version 0 games 0 positions 0\n")
+        text = self.page(script, "--output", str(self.folder / "record"))
+        tags = Tags()
+        tags.feed(text)
+        self.assertEqual([tag for tag, _ in tags.found if tag in ("img", "b", "i")], [])
+        self.assertEqual([tag for tag, _ in tags.found].count("script"), 3)
+        self.assertIn("None in the 0 games of the base.", text)
+        self.assertNotIn("\u202e", text)
 
     def test_nothing_but_the_page_is_written(self) -> None:
         (self.folder / "record").write_text("1 wait version 0\n")

@@ -6,7 +6,7 @@ import unittest
 from answers_page import words
 from answers_page.boards import Edges, edges_of, phases_chart, pattern_svg, results_bar
 from answers_page.record import read_record
-from answers_page.script import read_question, read_script, split_words
+from answers_page.script import read_opening, read_question, read_script, split_words
 from answers_page.sections import signature_words
 from answers_page.sgf import day_of, read_game
 
@@ -65,6 +65,22 @@ class Questions(unittest.TestCase):
         self.assertEqual(words.search_words(record.answers[0]),
                          "Found twice, in 1 of 15 games: play went on inside the pattern at once in 1 hit; "
                          "the pattern’s black won 0, its white 1, neither 1.")
+
+    def test_what_is_new(self) -> None:
+        def told(before: int, now: int) -> str:
+            text = f"1 watch w version 1 hits {before}\n2 watched w version 2 games 2 hits {now}\n"
+            return words.new_words(read_record(text, read_script("watch w X\nwatched w")).answers[1])
+        self.assertEqual(told(2, 4), "2 of 4 hits are new since line 1 of the script.")
+        self.assertEqual(told(0, 1), "1 of 1 hit is new since line 1 of the script.")
+        self.assertEqual(told(3, 3), "Nothing is new since line 1 of the script.")
+
+    def test_opening_trees(self) -> None:
+        for text, expected in (
+                ("opening 19 13 20 5", "Positions that came up on boards of 19 by 13, up to move 20, 5 times at least."),
+                ("opening 9 9 1 2", "Positions that came up on boards of 9 by 9, up to move 1, twice at least."),
+                ("opening 9 9 0 1", "Positions that came up on boards of 9 by 9, before the first move.")):
+            asked = words.opening_question_words(read_opening(split_words(text)))
+            self.assertEqual(asked, expected + " What differs only by turning and mirroring is one position.")
 
     def test_signature(self) -> None:
         self.assertEqual(signature_words("dfhb********"), "move 20: column 4, row 6; move 40: column 8, row 2")
