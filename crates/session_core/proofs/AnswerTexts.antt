@@ -1,5 +1,5 @@
 -- The texts of answers, from what was printed.
-use Rattle.std.proofs.Common.{◌≡◌, ◌≢◌, ℕ, ◌≤◌, inl, inr, Some, None, List, [], ◌∷◌, ◌++◌, All, length, map, take, slice_get, refl, subst, sym, ap, ◌∙◌}
+use Rattle.std.proofs.Common.{◌≡◌, ◌≢◌, ℕ, ◌≤◌, inl, inr, Some, None, List, [], ◌∷◌, ◌++◌, All, length, map, take, slice_get, subst, sym, ap, ◌∙◌}
 use Rattle.std.proofs.Math.Seq.{take-append_seam}
 use Rattle.std.proofs.lemmas.List.Elements.{All-map}
 use Rattle.std.specs.Prelude.{Result, Ok, Err, OnErr, OnOk}

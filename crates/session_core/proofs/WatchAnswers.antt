@@ -7,7 +7,7 @@ use Rattle.node_position.specs.Games.{Game}
 use Rattle.pattern_images.specs.declared.hit.Hit.{Hit}
 use Rattle.pattern_images.specs.declared.query.Query.{Query}
 use Rattle.info_filter.specs.declared.filter.Filter.{Filter}
-use Rattle.continuation_table.specs.Table.{IsTable, TableView}
+use Rattle.continuation_table.specs.Table.{IsTable}
 use Rattle.continuation_table.proofs.OneTable.{one_table}
 use Rattle.continuation_table.proofs.SomeTable.{some_table}
 use Rattle.query_script.specs.declared.statement.Statement.{Statement}

@@ -1,6 +1,6 @@
 -- What is done with watched searches, step by step: one is added, or goes on, its text is printed, and its new hits are
 -- given to the boxes.
-use Rattle.std.proofs.Common.{◌≡◌, ◌⊎◌, inl, inr, ℕ, suc, ◌+◌, ◌<◌, ◌≤◌, List, [], ◌∷◌, ◌++◌, drop, get_or, length, length-take, set, take, refl, sym, ap, ◌∙◌, subst, arith}
+use Rattle.std.proofs.Common.{◌≡◌, ◌⊎◌, inl, inr, ℕ, suc, ◌+◌, ◌<◌, List, [], ◌∷◌, ◌++◌, drop, get_or, length, length-take, set, take, refl, sym, ap, ◌∙◌, subst, arith}
 use Rattle.std.specs.Prelude.{IfOk, OnErr, OnOk, Result, Ok, Err}
 use Rattle.std.proofs.Math.Seq.{get_or-append_seam, split_at}
 use Rattle.std.proofs.lemmas.List.{get_or_default, set_split, set-get_or}
@@ -16,7 +16,7 @@ use Rattle.hit_collectors.specs.Tallies.{BoxTally}
 use Rattle.search_engine.specs.Hits.{AreHits, AreHitsFrom}
 use Rattle.session_core.specs.Answers.{FeedsHits, IsAnswer, IsLeft, IsLeftBehind, IsWatchTold, View}
 use Rattle.session_core.specs.SessionState.{SessionState, Watched, fed_with, session_of, with_boxes, with_watches}
-use Rattle.session_core.specs.Watches.{IsFree, IsWatch, IsWatchAdded, IsWatchAdvanced, covering, watch_over}
+use Rattle.session_core.specs.Watches.{IsFree, IsWatch, IsWatchAdded, IsWatchAdvanced, watch_over}
 use Rattle.session_core.specs.Watching.{IsAdvanced, IsAdvancedAt, IsWatchAt}
 
 -- what holds anyway holds after an error

@@ -1,8 +1,7 @@
 -- Words of the private functions that keep watched searches.
-use Rattle.std.specs.Prelude.{◌≡◌, ◌≢◌, ◌+◌, ◌<◌, ◌≤◌, ℕ, List, ◌∷◌, ◌++◌, length, slice_index_or, take, drop}
+use Rattle.std.specs.Prelude.{◌≡◌, ◌+◌, ◌<◌, ◌≤◌, ℕ, List, ◌∷◌, ◌++◌, length, slice_index_or, take, drop}
 use Rattle.info_filter.specs.declared.filter.Filter.{Filter}
 use Rattle.node_position.specs.Games.{Game}
-use Rattle.pattern_images.specs.declared.hit.Hit.{Hit}
 use Rattle.pattern_images.specs.declared.query.Query.{Query}
 use Rattle.search_engine.specs.Hits.{AreHits}
 use Rattle.session_core.specs.SessionState.{Watched}

@@ -71,7 +71,7 @@ returns-in_err-write_all-clause-stopped g c = λ before written.
     after_error _ _ stops
 
 pub version_text-requires-clause-fit : goal.version_text-requires-clause-fit
-version_text-requires-clause-fit g c =
+version_text-requires-clause-fit g c = λ lifetimes bounds.
     let before = c.args.searchers.now.own.seen in
     let now = c.version_for.new.searchers.own.seen in
     let of = rw c.in-Some.is at c.in_ok-version.ensures.version in

@@ -26,4 +26,4 @@ returns-clause-stopped g c = λ files told before written.
     (rw c.new-session.ensures at (run.ensures.ran files told before written)) (rw c.new-session.ensures at (run.ensures.stopped files told before written)) c.close.ensures.part
 
 pub run_all-requires-clause-unwatched : goal.run_all-requires-clause-unwatched
-run_all-requires-clause-unwatched g c = ap (λ (s : SessionState). s.watches) c.new-session.ensures
+run_all-requires-clause-unwatched g c = λ lifetimes bounds. ap (λ (s : SessionState). s.watches) c.new-session.ensures

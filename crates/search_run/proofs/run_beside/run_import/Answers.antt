@@ -66,7 +66,7 @@ returns-clause-stopped g c = λ files told.
     (c.into_version-held.ensures.number ∙ c.requires.stands.version) stop (λ whole longer. seen_longer now.own now.block.items publisher.log whole longer c.join-outcome.ensures.seen))
 
 pub import_beside-requires-clause-fit : goal.import_beside-requires-clause-fit
-import_beside-requires-clause-fit g c =
+import_beside-requires-clause-fit g c = λ lifetimes bounds.
     subst (λ games. WatchesFit games c.args.session.now) (c.requires.stands.games ∙ ap items_in (sym c.requires.stands.own_seen)) c.requires.fit
 
 pub returns-clause-fit : goal.returns-clause-fit

@@ -12,10 +12,10 @@ returns-in-Wait-clause-text g c =
     c.wait_text.ensures
 
 pub version_text-requires-clause-leaves : goal.version_text-requires-clause-leaves
-version_text-requires-clause-leaves g c = leaves-base c.args.placed.now.statement c.requires.no_import c.in_default.not-Wait
+version_text-requires-clause-leaves g c = λ lifetimes bounds. leaves-base c.args.placed.now.statement c.requires.no_import c.in_default.not-Wait
 
 pub version_text-requires-clause-fit : goal.version_text-requires-clause-fit
-version_text-requires-clause-fit g c = subst (λ (k : Kept). WatchesFit k.games c.args.session.now) (sym c.self.view_is) c.requires.fit
+version_text-requires-clause-fit g c = λ lifetimes bounds. subst (λ (k : Kept). WatchesFit k.games c.args.session.now) (sym c.self.view_is) c.requires.fit
 
 pub returns-in_default-clause-text : goal.returns-in_default-clause-text
 returns-in_default-clause-text g c =

@@ -1,6 +1,5 @@
 use Rattle.std.proofs.Common.{subst, sym}
 use Rattle.version_publisher.specs.Contents.{items_in}
-use Rattle.session_core.specs.SessionState.{Watched}
 use Rattle.session_core.specs.Watches.{IsWatchOf}
 use Rattle.session_core.proofs.WatchSteps.{is-advanced}
 use Rattle.session_core.proofs.watch.Watch.advance_counted.Goals as goal
