@@ -3,7 +3,6 @@ use Rattle.std.proofs.Common.{◌≡◌, ◌∙◌, ℕ, List, All, refl, sym, a
 use Rattle.kb_geometry.specs.declared.shape.Shape.{Shape}
 use Rattle.game_tree.specs.Tree.{IsTree}
 use Rattle.node_position.specs.Games.{Game}
-use Rattle.opening_tree.specs.declared.answer.Opening.{Opening}
 use Rattle.opening_tree.proofs.OneOpening.{openings-unique}
 use Rattle.opening_tree.proofs.OpeningsExist.{openings-found}
 use Rattle.session_core.specs.Answers.{IsOpeningText, View, openings_text}
