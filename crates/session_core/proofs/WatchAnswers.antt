@@ -124,6 +124,7 @@ answer-fits line view session after (statement.Signature pattern) text fit of = 
 answer-fits line view session after statement.Players text fit of = subst (WatchesFit view.games) (sym of.1) fit
 answer-fits line view session after statement.Doubles text fit of = subst (WatchesFit view.games) (sym of.1) fit
 answer-fits line view session after (statement.Game number) text fit of = subst (WatchesFit view.games) (sym of.1) fit
+answer-fits line view session after (statement.Opening shape depth least) text fit of = subst (WatchesFit view.games) (sym of.1) fit
 answer-fits line view session after statement.Report text fit of = subst (WatchesFit view.games) (sym of.1) fit
 answer-fits line view session after (statement.Retire name) text fit of = retired-fits view.games line name session after text fit of
 answer-fits line view session after (statement.Watch name query filter) text fit (inl of) =
