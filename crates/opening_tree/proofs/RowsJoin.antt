@@ -10,7 +10,7 @@ use Rattle.opening_tree.specs.declared.answer.NextMove.{NextMove}
 use Rattle.opening_tree.specs.Groups.{IsRowWithin, row_order, row_with, with_more_row, with_more_rows}
 use Rattle.opening_tree.specs.NextMoves.{NextAt}
 use Rattle.opening_tree.specs.Openings.{is_black_win, is_no_win, is_same_play, is_white_win, nexts_by, row_of}
-use Rattle.opening_tree.proofs.RowsGrow.{AreBehind, AreInOrder, IsHeadBehind, head-behind, no_eq, no_length, no_lt, order_of, rows_over}
+use Rattle.opening_tree.proofs.RowsGrow.{AreBehind, AreInOrder, IsHeadBehind, any_default, head-behind, no_eq, no_length, no_lt, order_of, rows_over}
 use Rattle.opening_tree.proofs.SamePositions.{count_by-append}
 
 -- all of some rows come behind this order
@@ -168,16 +168,14 @@ drop-one [] k x lt is = absurd (omega (arith, lt))
 drop-one (y ∷ ys) zero x lt is = ap (λ z. z ∷ ys) (sym is)
 drop-one (y ∷ ys) (suc k) x lt is = let e : suc (k + 1) ≡ suc k + 1 = omega arith in drop-one ys k x (omega (arith, lt)) is ∙ ap (λ j. x ∷ drop j (y ∷ ys)) e
 
-pub drop-past : {X : Type 0} (xs : List X) → drop (length xs) xs ≡ []
-drop-past [] = refl
-drop-past (x ∷ xs) = drop-past xs
-
 -- the row that comes next can be counted
-pub rows-room : (most : ℕ) (before rows more : List NextMove) (k : ℕ) (row : NextMove) → All (IsRowWithin most) (with_more_rows before more) → with_more_rows rows (drop k more) ≡ with_more_rows before more → k < length more → row ≡ get_or more k row → All (IsRowWithin most) (with_more_row rows row)
-rows-room most before rows more k row all same lt is =
-    rows-fewer most (with_more_row rows row) (drop (k + 1) more)
-    (subst (λ (rs : List NextMove). All (IsRowWithin most) rs) (sym same ∙ ap (with_more_rows rows) (drop-one more k row lt is)) all)
+pub rows-room : (most : ℕ) (before rows more : List NextMove) (k : ℕ) (d : NextMove) → All (IsRowWithin most) (with_more_rows before more) → with_more_rows rows (drop k more) ≡ with_more_rows before more → k < length more → All (IsRowWithin most) (with_more_row rows (get_or more k d))
+rows-room most before rows more k d all same lt =
+    rows-fewer most (with_more_row rows (get_or more k d)) (drop (k + 1) more)
+    (subst (λ (rs : List NextMove). All (IsRowWithin most) rs) (sym same ∙ ap (with_more_rows rows) (drop-one more k (get_or more k d) lt (any_default more k d (get_or more k d) lt))) all)
 
-pub rows-next : (before rows new more : List NextMove) (k : ℕ) (row : NextMove) → with_more_rows rows (drop k more) ≡ with_more_rows before more → k < length more → row ≡ get_or more k row → new ≡ with_more_row rows row → with_more_rows new (drop (k + 1) more) ≡ with_more_rows before more
-rows-next before rows new more k row same lt is made =
-    ap (λ rs. with_more_rows rs (drop (k + 1) more)) made ∙ sym (ap (with_more_rows rows) (drop-one more k row lt is)) ∙ same
+pub rows-next : (before rows new more : List NextMove) (k : ℕ) (d : NextMove) → with_more_rows rows (drop k more) ≡ with_more_rows before more → k < length more → new ≡ with_more_row rows (get_or more k d) → with_more_rows new (drop (k + 1) more) ≡ with_more_rows before more
+rows-next before rows new more k d same lt made =
+    ap (λ rs. with_more_rows rs (drop (k + 1) more)) made
+    ∙ sym (ap (with_more_rows rows) (drop-one more k (get_or more k d) lt (any_default more k d (get_or more k d) lt)))
+    ∙ same

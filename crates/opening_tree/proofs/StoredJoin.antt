@@ -3,7 +3,7 @@ use Rattle.std.proofs.Common.{◌≡◌, ℕ, ◌+◌, ◌*◌, ◌≤◌, Bool,
 use Rattle.std.proofs.Math.Nat.{mul-le-mul_left}
 use Rattle.std.proofs.Math.Seq.{take-add}
 use Rattle.std.specs.Fork.{IsChunk}
-use Rattle.std.specs.Prelude.{All}
+use Rattle.std.specs.Prelude.{All, Any}
 use Rattle.std.proofs.lemmas.List.{length-map, length-take, map-append}
 use Rattle.std.proofs.lemmas.List.Elements.{All-append, All-cons, All-head, All-nil, All-tail}
 use Rattle.kb_geometry.specs.declared.shape.Shape.{Shape}
@@ -106,7 +106,7 @@ module _ (first : ℕ) (shape : Shape) (depth : ℕ) (games more : List Game) (f
       keys = keys;
       groups = made ∙ (λ i. with_groups (are.so_far.groups i) (are_more.so_far.groups i)) ∙ groups-join shape are.entries are_more.entries are.nexts are_more.nexts are.following are_more.following;
     };
-    following = All-append _ are.nexts are_more.nexts (following-longer are.entries are_more.entries are.nexts are.following) (following-behind are.entries are_more.entries are_more.nexts are_more.following);
+    following = All-append (λ (n : NextAt). Any (λ (e : Entry). e.canonical ≡ n.canonical) (are.entries ++ are_more.entries)) are.nexts are_more.nexts (following-longer are.entries are_more.entries are.nexts are.following) (following-behind are.entries are_more.entries are_more.nexts are_more.following);
     entries_fit = omega (arith, length-append are.entries are_more.entries, length-append games more, are.entries_fit, are_more.entries_fit);
     nexts_fit = omega (arith, length-append are.nexts are_more.nexts, length-append games more, are.nexts_fit, are_more.nexts_fit);
   }
@@ -118,7 +118,7 @@ few_mapped v k xs le = omega (arith, length-map (take k xs) v, length-take k xs,
 
 module _ {X : Type 0} (v : X → Game) (shape : Shape) (depth : ℕ) (games : List X) (size n : ℕ) (few : length games ≤ 400000) (chunk : List X) (is : IsChunk games size (n * size) chunk) (stored others : List Stored) (are : AreOpeningsOf 0 shape depth (map v (take (n * size) games)) stored) (are_more : AreOpeningsOf (n * size) shape depth (map v chunk) others) where
   begins : 0 + length (map v (take (n * size) games)) ≡ n * size
-  begins = few_mapped v (n * size) games (omega (arith, is.in_bounds))
+  begins = let e = few_mapped v (n * size) games (omega (arith, is.in_bounds)) in omega (arith, e)
 
   behind : AreOpeningsOf (0 + length (map v (take (n * size) games))) shape depth (map v chunk) others
   behind = subst (λ (k : ℕ). AreOpeningsOf k shape depth (map v chunk) others) (sym begins) are_more

@@ -127,26 +127,26 @@ fn add_rows(rows: &mut Vec<NextMove>, more: &[NextMove]) -> Result<(), NoMemory>
     ensures { OnOk result (rows.new.items ≡ with_more_rows rows.old.items more.now) }
 {
     for row in more {
-        add_row(rows, *row)?;
+        add_row(rows, row)?;
     }
     Ok(())
 }
 
 // Adds the next moves of a row. The only error is `NoMemory`.
-fn add_row(rows: &mut Vec<NextMove>, more: NextMove) -> Result<(), NoMemory>
-    requires { All (IsRowWithin 18446744073709551615) (with_more_row rows.old.items more) }
-    ensures { OnOk result (rows.new.items ≡ with_more_row rows.old.items more) }
+fn add_row(rows: &mut Vec<NextMove>, more: &NextMove) -> Result<(), NoMemory>
+    requires { All (IsRowWithin 18446744073709551615) (with_more_row rows.old.items more.now) }
+    ensures { OnOk result (rows.new.items ≡ with_more_row rows.old.items more.now) }
 {
     let order = play_order(more.colour, more.point);
     let at = rows_before(rows.as_slice(), order);
     if at < rows.len() {
         let row = rows[at];
         if play_order(row.colour, row.point) == order {
-            rows[at] = row_with(row, more);
+            rows[at] = row_with(row, *more);
             return Ok(());
         }
     }
-    rows.insert(at, more)?;
+    rows.insert(at, *more)?;
     Ok(())
 }
 

@@ -12,34 +12,34 @@ pub row_with-requires : goal.row_with-requires
 row_with-requires c =
     let rows = c.args.rows.now.items in
     let at = c.rows_before-at.result in
-    let order = row_order c.args.more in
+    let order = row_order c.args.more.now in
     let row = c.index-row.result.now in
     let first : (k : ℕ) (d : NextMove) → k < at → row_order (get_or rows k d) < c.play_order-order.result =
     subst (λ (xs : List NextMove). (k : ℕ) (d : NextMove) → k < at → row_order (get_or xs k d) < c.play_order-order.result) c.as_slice.ensures.value c.rows_before-at.ensures.before in
     let before : (k : ℕ) (d : NextMove) → k < at → row_order (get_or rows k d) < order = subst (λ o. (k : ℕ) (d : NextMove) → k < at → row_order (get_or rows k d) < o) c.play_order-order.ensures first in
     let lt : at < length rows = omega (arith, c.if-at-len.true, c.len.ensures) in
     let same : row_order row ≡ order = sym c.play_order.ensures ∙ c.if-play_order-order.true ∙ c.play_order-order.ensures in
-    row-here 18446744073709551615 rows at (row_with row c.args.more) lt
-    (subst (λ (xs : List NextMove). All (IsRowWithin 18446744073709551615) xs) (sym (more_counted rows at c.args.more row lt before c.index-row.ensures same)) c.requires)
+    row-here 18446744073709551615 rows at (row_with row c.args.more.now) lt
+    (subst (λ (xs : List NextMove). All (IsRowWithin 18446744073709551615) xs) (sym (more_counted rows at c.args.more.now row lt before c.index-row.ensures same)) c.requires)
 
 pub returns-then-play_order-order : goal.returns-then-play_order-order
 returns-then-play_order-order c =
     let rows = c.args.rows.now.items in
     let at = c.rows_before-at.result in
-    let order = row_order c.args.more in
+    let order = row_order c.args.more.now in
     let row = c.index-row.result.now in
     let first : (k : ℕ) (d : NextMove) → k < at → row_order (get_or rows k d) < c.play_order-order.result =
     subst (λ (xs : List NextMove). (k : ℕ) (d : NextMove) → k < at → row_order (get_or xs k d) < c.play_order-order.result) c.as_slice.ensures.value c.rows_before-at.ensures.before in
     let before : (k : ℕ) (d : NextMove) → k < at → row_order (get_or rows k d) < order = subst (λ o. (k : ℕ) (d : NextMove) → k < at → row_order (get_or rows k d) < o) c.play_order-order.ensures first in
     let lt : at < length rows = omega (arith, c.if-at-len.true, c.len.ensures) in
     let same : row_order row ≡ order = sym c.play_order.ensures ∙ c.if-play_order-order.true ∙ c.play_order-order.ensures in
-    ap (set rows at) c.row_with.ensures ∙ more_counted rows at c.args.more row lt before c.index-row.ensures same
+    ap (set rows at) c.row_with.ensures ∙ more_counted rows at c.args.more.now row lt before c.index-row.ensures same
 
 pub returns : goal.returns
 returns c =
     let rows = c.args.rows.now.items in
     let at = c.rows_before-at.result in
-    let order = row_order c.args.more in
+    let order = row_order c.args.more.now in
     let first : (k : ℕ) (d : NextMove) → k < at → row_order (get_or rows k d) < c.play_order-order.result =
     subst (λ (xs : List NextMove). (k : ℕ) (d : NextMove) → k < at → row_order (get_or xs k d) < c.play_order-order.result) c.as_slice.ensures.value c.rows_before-at.ensures.before in
     let before : (k : ℕ) (d : NextMove) → k < at → row_order (get_or rows k d) < order = subst (λ o. (k : ℕ) (d : NextMove) → k < at → row_order (get_or rows k d) < o) c.play_order-order.ensures first in
@@ -54,4 +54,4 @@ returns c =
           omega (arith, there d lt, own, other, c.play_order-order.ensures)
       | else-at-len w ↦ absurd (omega (arith, lt, w.if-at-len.false, c.len.ensures))
     ] in
-    c.in_ok-insert.ensures.items ∙ more_begun rows at c.args.more within before behind
+    c.in_ok-insert.ensures.items ∙ more_begun rows at c.args.more.now within before behind
