@@ -38,7 +38,7 @@ or_end : (a : Bool) → (a || false) ≡ true → a ≡ true
 or_end true e = refl
 or_end false e = e
 
-pub second_of : (a d : Bool) → a ≡ false → (a || d) ≡ false → d ≡ false
+second_of : (a d : Bool) → a ≡ false → (a || d) ≡ false → d ≡ false
 second_of false d f e = e
 second_of true d f e = absurd (false≢true (sym f))
 

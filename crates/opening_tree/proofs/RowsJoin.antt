@@ -1,6 +1,6 @@
 -- The rows of some next moves with those of more of them.
 use Rattle.std.proofs.Common.{◌≡◌, ℕ, zero, suc, ◌+◌, ◌<◌, ◌≤◌, Bool, true, false, cond, List, [], ◌∷◌, ◌++◌, drop, get_or, length, length-append, set, refl, sym, ap, ◌∙◌, subst, arith}
-use Rattle.std.specs.Prelude.{All, filter, nat_eq, nat_lt}
+use Rattle.std.specs.Prelude.{All, nat_eq, nat_lt}
 use Rattle.std.specs.List.{insert}
 use Rattle.std.proofs.lemmas.Bool.{eq-eqb, lt-ltb, ltb-true}
 use Rattle.std.proofs.lemmas.List.{append-nil}
@@ -83,7 +83,7 @@ rows-join (q ∷ qs) order xs ys =
 
     by : (b c : Bool) → nat_lt 0 (length (nexts_by q xs)) ≡ b → nat_lt 0 (length (nexts_by q ys)) ≡ c → with_more_rows (rows_over qs xs) (rows_over qs ys) ≡ rows_over qs (xs ++ ys)
         → with_more_rows (cond b (row_of q (nexts_by q xs) ∷ rows_over qs xs) (rows_over qs xs)) (cond c (row_of q (nexts_by q ys) ∷ rows_over qs ys) (rows_over qs ys))
-            ≡ cond (nat_lt 0 (length (nexts_by q xs ++ nexts_by q ys))) (row_of q (nexts_by q xs ++ nexts_by q ys) ∷ rows_over qs (xs ++ ys)) (rows_over qs (xs ++ ys))
+        ≡ cond (nat_lt 0 (length (nexts_by q xs ++ nexts_by q ys))) (row_of q (nexts_by q xs ++ nexts_by q ys) ∷ rows_over qs (xs ++ ys)) (rows_over qs (xs ++ ys))
     by true true some more rest =
         let there : nat_lt 0 (length (nexts_by q xs ++ nexts_by q ys)) ≡ true = lt-ltb 0 (length (nexts_by q xs ++ nexts_by q ys)) (omega (arith, length-append (nexts_by q xs) (nexts_by q ys), ltb-true 0 (length (nexts_by q xs)) some)) in
         ap (λ rs. with_more_rows rs (rows_over qs ys)) (more_row-here (row_of q (nexts_by q xs)) (rows_over qs xs) (row_of q (nexts_by q ys)) refl)

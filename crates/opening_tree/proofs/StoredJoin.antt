@@ -11,7 +11,7 @@ use Rattle.kb_geometry.specs.Board.{point_count}
 use Rattle.node_position.specs.Games.{Game}
 use Rattle.opening_tree.specs.declared.answer.Opening.{Opening}
 use Rattle.opening_tree.specs.Entries.{Entry}
-use Rattle.opening_tree.specs.Groups.{AreFollowing, Grouped, IsGroupWithin, groups_of, opening_with, with_group, with_groups}
+use Rattle.opening_tree.specs.Groups.{Grouped, IsGroupWithin, opening_with, with_group, with_groups}
 use Rattle.opening_tree.specs.NextMoves.{NextAt}
 use Rattle.opening_tree.specs.Openings.{is_same_position}
 use Rattle.opening_tree.specs.Packing.{AreCells}

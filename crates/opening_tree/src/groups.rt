@@ -104,11 +104,7 @@ pub(crate) fn add_openings(openings: &mut OpeningMap, more: OpeningMap) -> Resul
 }
 
 // Adds the opening of more games that has this key. The only error is `NoMemory`.
-fn add_opening(
-    openings: &mut OpeningMap,
-    key: Vec<u64>,
-    more: OpeningSoFar,
-) -> Result<(), NoMemory>
+fn add_opening(openings: &mut OpeningMap, key: Vec<u64>, more: OpeningSoFar) -> Result<(), NoMemory>
     requires { (points : ℕ) × IsReadyForGroup points (key, more) openings.old.entries }
     ensures { OnOk result ((points : ℕ) →
         IsReadyForGroup points (key, more) openings.old.entries →

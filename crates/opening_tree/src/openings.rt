@@ -143,7 +143,11 @@ fn add_nexts(openings: &mut OpeningMap, nexts: &[FoundNext]) -> Result<(), NoMem
 
 // Those of the openings that have at least so many entries, as they are answered. The only error is
 // `NoMemory`.
-pub(crate) fn listed(alloc: Global, openings: &OpeningMap, least: u32) -> Result<Vec<Opening>, NoMemory>
+pub(crate) fn listed(
+    alloc: Global,
+    openings: &OpeningMap,
+    least: u32,
+) -> Result<Vec<Opening>, NoMemory>
     ensures { IfOk result (λ listed. listed.items ≡ filter (λ (o : Opening). nat_le least o.count)
         (map opening_shown (values_of openings.now.entries))) }
 {

@@ -1,5 +1,5 @@
 // The openings of the games of a version, which are gone through in pieces, side by side.
-ghost use Rattle.std.specs.Prelude.{◌≡◌, ◌<◌, ◌≤◌, ◌+◌, ◌*◌, IfOk, length, map};
+ghost use Rattle.std.specs.Prelude.{◌<◌, ◌≤◌, ◌+◌, ◌*◌, IfOk, length, map};
 ghost use Rattle.version_publisher.specs.Contents.{items_in};
 ghost use Rattle.opening_tree.specs.Openings.{IsOpenings};
 ghost use Rattle.opening_tree.specs.StoredGames.{AreOpeningsOf};

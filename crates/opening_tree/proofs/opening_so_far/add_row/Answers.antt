@@ -1,5 +1,4 @@
 use Rattle.std.proofs.Common.{◌≡◌, ◌≢◌, ◌∙◌, ◌<◌, ◌≤◌, ℕ, List, ap, arith, get_or, length, set, subst, sym}
-use Rattle.std.specs.List.{insert}
 use Rattle.std.specs.Prelude.{All}
 use Rattle.opening_tree.specs.declared.answer.NextMove.{NextMove}
 use Rattle.opening_tree.specs.Groups.{IsRowWithin, row_order, row_with}
