@@ -19,7 +19,7 @@ use Rattle.opening_tree.specs.declared.answer.Opening.{Opening}
 use Rattle.opening_tree.specs.declared.opening_so_far.OpeningSoFar.{OpeningSoFar}
 use Rattle.opening_tree.specs.Canonical.{IsBefore}
 use Rattle.opening_tree.specs.Entries.{Entry}
-use Rattle.opening_tree.specs.Groups.{Grouped, none_yet, with_entry, with_next, with_one, with_row, with_rows}
+use Rattle.opening_tree.specs.Groups.{Grouped, none_yet, opening_with, with_entry, with_group, with_next, with_one, with_row, with_rows}
 use Rattle.opening_tree.specs.StoredGroups.{AreKeys, Stored, group_shown, groups_shown, opening_shown}
 use Rattle.opening_tree.specs.NextMoves.{NextAt}
 use Rattle.opening_tree.specs.Openings.{is_same_position}
@@ -138,6 +138,43 @@ module _ (points : ℕ) (words : List ℕ) (are : AreCells points words) where
 
     pub next_nowhere : (es : List Stored) → AreKeys points es → IsAbsent test es → groups_shown points es ≡ with_next (groups_shown points es) n
     next_nowhere es keys absent = sym (unchanged (λ gs. with_next gs n) (λ o. with_rows o (with_row o.nexts n.played n.outcome)) own_next pass_next es keys absent refl)
+
+  -- ---- an opening of more games
+
+  module _ (more : Opening) where
+    abbrev group : Grouped
+    group = record { canonical = cells_of points words; opening = more }
+
+    own_group : (g : Grouped) (gs : List Grouped) → is_same_position (cells_of points words) g.canonical ≡ true → with_group (g ∷ gs) group ≡ record { canonical = g.canonical; opening = opening_with g.opening more } ∷ gs
+    own_group g gs t = ap (λ b. cond b (record { canonical = g.canonical; opening = opening_with g.opening more } ∷ gs) (g ∷ with_group gs group)) t
+
+    pass_group : (g : Grouped) (gs : List Grouped) → is_same_position (cells_of points words) g.canonical ≡ false → with_group (g ∷ gs) group ≡ g ∷ with_group gs group
+    pass_group g gs f = ap (λ b. cond b (record { canonical = g.canonical; opening = opening_with g.opening more } ∷ gs) (g ∷ with_group gs group)) f
+
+    pub group_counted : (es : List Stored) (at : ℕ) (old new : OpeningSoFar) → AreKeys points es → IsFirst test es at → slice_get (values_of es) at ≡ Some old → opening_shown new ≡ opening_with (opening_shown old) more → groups_shown points (set_value_at es at new) ≡ with_group (groups_shown points es) group
+    group_counted = changed_at (λ gs. with_group gs group) (λ o. opening_with o more) own_group pass_group
+
+    -- what is said of all openings once it is added is said of that with its key
+    pub said_with : (P : Opening → Type 0) (es : List Stored) (at : ℕ) (old : OpeningSoFar) → AreKeys points es → IsFirst test es at → slice_get (values_of es) at ≡ Some old → All (λ (g : Grouped). P g.opening) (with_group (groups_shown points es) group) → P (opening_with (opening_shown old) more)
+    said_with P [] at old keys first is all = absurd first
+    said_with P (x ∷ xs) zero old keys first is all =
+        let value : x.1 ≡ old = cc (is) in
+        let e : is_same_position (cells_of points words) (cells_of points x.0.items) ≡ true = sym (same_key x (All-head (λ (y : Stored). AreCells points y.0.items) x xs keys)) ∙ first in
+        let own : All (λ (g : Grouped). P g.opening) (record { canonical = cells_of points x.0.items; opening = opening_with (opening_shown x.1) more } ∷ groups_shown points xs) = subst (λ (gs : List Grouped). All (λ (g : Grouped). P g.opening) gs) (own_group (group_shown points x) (groups_shown points xs) e) all in
+        subst (λ (o : OpeningSoFar). P (opening_with (opening_shown o) more)) value (All-head (λ (g : Grouped). P g.opening) (record { canonical = cells_of points x.0.items; opening = opening_with (opening_shown x.1) more }) (groups_shown points xs) own)
+    said_with P (x ∷ xs) (suc at) old keys first is all =
+        let e : is_same_position (cells_of points words) (cells_of points x.0.items) ≡ false = sym (same_key x (All-head (λ (y : Stored). AreCells points y.0.items) x xs keys)) ∙ first.0 in
+        let passed : All (λ (g : Grouped). P g.opening) (group_shown points x ∷ with_group (groups_shown points xs) group) = subst (λ (gs : List Grouped). All (λ (g : Grouped). P g.opening) gs) (pass_group (group_shown points x) (groups_shown points xs) e) all in
+        said_with P xs at old (All-tail (λ (y : Stored). AreCells points y.0.items) x xs keys) first.1 is (All-tail (λ (g : Grouped). P g.opening) (group_shown points x) (with_group (groups_shown points xs) group) passed)
+
+  pub group_begun : (same : Key → Key → Bool) → ((a b : Key) → same a b ≡ pointwise nat_eq a.items b.items) → (es : List Stored) (key : Key) (new : OpeningSoFar) → AreKeys points es → IsAbsent test es → key.items ≡ words → groups_shown points (insert_entry same es key new) ≡ with_group (groups_shown points es) (group_shown points (key, new))
+  group_begun same is_same [] key new keys absent is = refl
+  group_begun same is_same (x ∷ xs) key new keys absent is =
+      let no : same key x.0 ≡ false = is_same key x.0 ∙ ap (λ (ws : List ℕ). pointwise nat_eq ws x.0.items) is ∙ absent.0 in
+      let other : is_same_position (cells_of points key.items) (cells_of points x.0.items) ≡ false = ap (λ (ws : List ℕ). is_same_position (cells_of points ws) (cells_of points x.0.items)) is ∙ sym (same_key x (All-head (λ (y : Stored). AreCells points y.0.items) x xs keys)) ∙ absent.0 in
+      ap (λ b. groups_shown points (cond b ((x.0, new) ∷ xs) (x ∷ insert_entry same xs key new))) no
+      ∙ ap (λ gs. group_shown points x ∷ gs) (group_begun same is_same xs key new (All-tail (λ (y : Stored). AreCells points y.0.items) x xs keys) absent.1 is)
+      ∙ sym (ap (λ b. cond b (record { canonical = cells_of points x.0.items; opening = opening_with (opening_shown x.1) (opening_shown new) } ∷ groups_shown points xs) (group_shown points x ∷ with_group (groups_shown points xs) (group_shown points (key, new)))) other)
 
 -- ---- keys and bounds
 

@@ -16,7 +16,7 @@ use Rattle.opening_tree.proofs.RowsGrow.{AreInOrder, IsOneOf, rows-grow, rows-no
 use Rattle.opening_tree.proofs.SamePositions.{count_by-push, filter-push, same_position, told}
 
 -- two positions are one or not, whichever way round they are asked for
-same_or_other : (a b : Position) → ((is_same_position a b ≡ true) × (is_same_position b a ≡ true) × (a ≡ b)) ⊎ ((is_same_position a b ≡ false) × (is_same_position b a ≡ false))
+pub same_or_other : (a b : Position) → ((is_same_position a b ≡ true) × (is_same_position b a ≡ true) × (a ≡ b)) ⊎ ((is_same_position a b ≡ false) × (is_same_position b a ≡ false))
 same_or_other a b = elim (told (is_same_position a b)) [
   | inl t ↦ let e = (same_position a b).0 t in inl (t, (same_position b a).1 (sym e), e)
   | inr f ↦ inr (f, false_from_ne_true (is_same_position b a) (λ t. false≢true (sym f ∙ (same_position a b).1 (sym ((same_position b a).0 t)))))
@@ -26,7 +26,7 @@ same_or_other a b = elim (told (is_same_position a b)) [
 abbrev pub is_seen : Position → List Entry → Bool
 is_seen c es = list_any (λ (b : Entry). is_same_position c b.canonical) es
 
-seen-push : (c : Position) (es : List Entry) (x : Entry) → is_seen c (es ++ x ∷ []) ≡ (is_seen c es || (is_same_position c x.canonical || false))
+pub seen-push : (c : Position) (es : List Entry) (x : Entry) → is_seen c (es ++ x ∷ []) ≡ (is_seen c es || (is_same_position c x.canonical || false))
 seen-push c es x = list_any-append (λ (b : Entry). is_same_position c b.canonical) es (x ∷ [])
 
 or_moved : (a b d : Bool) → (a || (b || d)) ≡ true → ((a || (b || false)) || d) ≡ true
@@ -68,7 +68,7 @@ module _ (c : Position) (G H : Entry → Grouped) where
 
   module _ (W : List Grouped → List Grouped) (own : (f : Entry) (gs : List Grouped) → is_same_position c f.canonical ≡ true → W (G f ∷ gs) ≡ H f ∷ gs) (pass : (f : Entry) (gs : List Grouped) → is_same_position c f.canonical ≡ false → W (G f ∷ gs) ≡ G f ∷ W gs) (stay : (f : Entry) → is_same_position c f.canonical ≡ false → G f ≡ H f) where
     -- the one whose canonical position is seen
-    changed : (before es : List Entry) → is_seen c before ≡ false → (is_seen c es ≡ false → W [] ≡ []) → W (map G (first_entries_behind before es)) ≡ map H (first_entries_behind before es)
+    pub changed : (before es : List Entry) → is_seen c before ≡ false → (is_seen c es ≡ false → W [] ≡ []) → W (map G (first_entries_behind before es)) ≡ map H (first_entries_behind before es)
     changed before [] unseen end = end refl
     changed before (x ∷ xs) unseen end = elim (same_or_other c x.canonical) [
       | inl same ↦
@@ -98,7 +98,7 @@ module _ (c : Position) (G H : Entry → Grouped) where
 
     -- a new one at the end
     module _ (e : Entry) (is : e.canonical ≡ c) (first : W [] ≡ H e ∷ []) where
-      begun : (before es : List Entry) → is_seen c before ≡ false → is_seen c es ≡ false → W (map G (first_entries_behind before es)) ≡ map H (first_entries_behind before (es ++ e ∷ []))
+      pub begun : (before es : List Entry) → is_seen c before ≡ false → is_seen c es ≡ false → W (map G (first_entries_behind before es)) ≡ map H (first_entries_behind before (es ++ e ∷ []))
       begun before [] unseen none =
           let new : is_seen e.canonical before ≡ false = subst (λ (p : Position). is_seen p before ≡ false) (sym is) unseen in
           first ∙ sym (ap (λ b. map H (cond b (first_entries_behind (before ++ e ∷ []) []) (e ∷ first_entries_behind (before ++ e ∷ []) []))) new)
@@ -122,7 +122,7 @@ module _ (c : Position) (G H : Entry → Grouped) where
       ]
 
 -- an entry whose canonical position is seen is the first of none
-first_entries-seen : (c : Position) (e : Entry) → e.canonical ≡ c → (before es : List Entry) → (is_seen c before || is_seen c es) ≡ true → first_entries_behind before (es ++ e ∷ []) ≡ first_entries_behind before es
+pub first_entries-seen : (c : Position) (e : Entry) → e.canonical ≡ c → (before es : List Entry) → (is_seen c before || is_seen c es) ≡ true → first_entries_behind before (es ++ e ∷ []) ≡ first_entries_behind before es
 first_entries-seen c e is before [] seen =
     let old : is_seen e.canonical before ≡ true = subst (λ (p : Position). is_seen p before ≡ true) (sym is) (or_end (is_seen c before) seen) in
     ap (λ b. cond b (first_entries_behind (before ++ e ∷ []) []) (e ∷ first_entries_behind (before ++ e ∷ []) [])) old
@@ -134,7 +134,7 @@ first_entries-seen c e is before (x ∷ xs) seen =
 -- ---- one entry more
 
 module _ (shape : Shape) where
-  abbrev group_in : List Entry → List NextAt → Entry → Grouped
+  abbrev pub group_in : List Entry → List NextAt → Entry → Grouped
   group_in es ns f = record { canonical = f.canonical; opening = opening_of shape f (entries_at f.canonical es) (nexts_at f.canonical ns) }
 
   opening-push : (f : Entry) (es : List Entry) (ns : List NextAt) (e : Entry) → opening_of shape f (es ++ e ∷ []) ns ≡ with_one (opening_of shape f es ns) e.outcome
@@ -146,7 +146,7 @@ module _ (shape : Shape) where
       λ i. record { count = count i; black = black i; white = white i; other = other i; game = f.game; node = f.node; nexts = rows_of shape ns }
 
   -- no entry has a canonical position that isn't seen
-  no_entries : (c : Position) (es : List Entry) → is_seen c es ≡ false → entries_at c es ≡ []
+  pub no_entries : (c : Position) (es : List Entry) → is_seen c es ≡ false → entries_at c es ≡ []
   no_entries c [] none = refl
   no_entries c (x ∷ xs) none = elim (told (is_same_position c x.canonical)) [
     | inl t ↦ absurd (false≢true (sym none ∙ ap (λ b. b || is_seen c xs) t))

@@ -16,8 +16,11 @@ pub mod RowsGrow
 pub mod PlaysInOrder
 pub mod GroupsGrow
 pub mod NextsFollow
+pub mod RowsJoin
+pub mod GroupsJoin
 pub mod GroupBounds
 pub mod GroupEntries
 pub mod VersionGames
 pub mod GamesRead
 pub mod StoredSteps
+pub mod StoredJoin

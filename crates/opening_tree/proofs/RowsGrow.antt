@@ -49,11 +49,11 @@ rows_over plays nexts =
     (map (λ (play : Move). row_of play (nexts_by play nexts)) plays)
 
 -- the first row, if there is one, comes behind this order
-abbrev IsHeadBehind : ℕ → List NextMove → Type 0
+abbrev pub IsHeadBehind : ℕ → List NextMove → Type 0
 IsHeadBehind k [] = Unit
 IsHeadBehind k (r ∷ rs) = k < row_order r
 
-head-behind : (k : ℕ) (qs : List Move) (nexts : List NextAt) → AreBehind k qs → IsHeadBehind k (rows_over qs nexts)
+pub head-behind : (k : ℕ) (qs : List Move) (nexts : List NextAt) → AreBehind k qs → IsHeadBehind k (rows_over qs nexts)
 head-behind k [] nexts behind = tt
 head-behind k (q ∷ qs) nexts behind = by (nat_lt 0 (length (nexts_by q nexts))) behind.0 (head-behind k qs nexts behind.1)
   where
@@ -61,10 +61,10 @@ head-behind k (q ∷ qs) nexts behind = by (nat_lt 0 (length (nexts_by q nexts))
     by true less rest = less
     by false less rest = rest
 
-no_eq : (a b : ℕ) → a ≢ b → nat_eq a b ≡ false
+pub no_eq : (a b : ℕ) → a ≢ b → nat_eq a b ≡ false
 no_eq a b ne = false_from_ne_true (nat_eq a b) (λ e. ne (eqb-true a b e))
 
-no_lt : (a b : ℕ) → ¬ (a < b) → nat_lt a b ≡ false
+pub no_lt : (a b : ℕ) → ¬ (a < b) → nat_lt a b ≡ false
 no_lt a b not = false_from_ne_true (nat_lt a b) (λ e. not (ltb-true a b e))
 
 -- a new row in front of rows that come behind it
@@ -107,7 +107,7 @@ rows-same (q ∷ qs) nexts n behind =
     let rest = rows-same qs nexts n behind.1 in
     λ i. cond (nat_lt 0 (length (same i))) (row_of q (same i) ∷ rest i) (rest i)
 
-no_length : (xs : List NextAt) → nat_lt 0 (length xs) ≡ false → xs ≡ []
+pub no_length : (xs : List NextAt) → nat_lt 0 (length xs) ≡ false → xs ≡ []
 no_length [] e = refl
 no_length (x ∷ xs) e = absurd (false≢true (sym e ∙ lt-ltb 0 (suc (length xs)) (omega arith)))
 

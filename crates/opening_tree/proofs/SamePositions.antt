@@ -82,6 +82,13 @@ module _ {X : Type 0} (p : X → Bool) where
       one true = refl
       one false = refl
 
+  pub count_by-append : (xs ys : List X) → count_by p (xs ++ ys) ≡ count_by p xs + count_by p ys
+  count_by-append xs ys =
+      sym (length-filter p (xs ++ ys))
+      ∙ ap length (filter-append p xs ys)
+      ∙ length-append (filter p xs) (filter p ys)
+      ∙ (λ i. length-filter p xs i + length-filter p ys i)
+
   -- a list with one element more, of those that pass
   pub filter-push : (xs : List X) (x : X) (b : Bool) → p x ≡ b → filter p (xs ++ x ∷ []) ≡ filter p xs ++ cond b (x ∷ []) []
   filter-push xs x b e = filter-append p xs (x ∷ []) ∙ ap (λ t. filter p xs ++ cond t (x ∷ []) []) e

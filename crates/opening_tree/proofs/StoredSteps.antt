@@ -33,10 +33,10 @@ few_taken (suc k) [] = omega arith
 few_taken (suc k) (x ∷ xs) = omega (arith, few_taken k xs)
 
 -- next moves follow the entries that there are, and more
-following-longer : (es more : List Entry) (ns : List NextAt) → AreFollowing es ns → AreFollowing (es ++ more) ns
+pub following-longer : (es more : List Entry) (ns : List NextAt) → AreFollowing es ns → AreFollowing (es ++ more) ns
 following-longer es more ns follow k d lt = any-front (λ (e : Entry). e.canonical ≡ (get_or ns k d).canonical) es more (follow k d lt)
 
-following-behind : (es more : List Entry) (ns : List NextAt) → AreFollowing more ns → AreFollowing (es ++ more) ns
+pub following-behind : (es more : List Entry) (ns : List NextAt) → AreFollowing more ns → AreFollowing (es ++ more) ns
 following-behind es more ns follow k d lt = any-behind (λ (e : Entry). e.canonical ≡ (get_or ns k d).canonical) es more (follow k d lt)
 
 -- no count of the map is at its end
@@ -87,8 +87,8 @@ module _ (shape : Shape) (es : List Entry) (ns more : List NextAt) (old stored :
 -- ---- one game
 
 -- no game, no opening
-pub openings-start : (shape : Shape) (depth : ℕ) → AreOpeningsOf shape depth [] []
-openings-start shape depth = record {
+pub openings-start : (first : ℕ) (shape : Shape) (depth : ℕ) → AreOpeningsOf first shape depth [] []
+openings-start first shape depth = record {
   entries = [];
   nexts = [];
   are_all = AreOfGames.nothing;
@@ -98,7 +98,7 @@ openings-start shape depth = record {
   nexts_fit = omega arith;
 }
 
-module _ (shape : Shape) (depth number : ℕ) (game : Game) (is_tree : IsTree game.tree) (more : List Entry) (others : List NextAt) (on : AreOnBoard shape depth number game.tree more others) (games : List Game) (count : length games ≡ number) (few : number < 400000) (stored : List Stored) (are : AreOpeningsOf shape depth games stored) where
+module _ (shape : Shape) (depth number : ℕ) (game : Game) (is_tree : IsTree game.tree) (more : List Entry) (others : List NextAt) (on : AreOnBoard shape depth number game.tree more others) (first : ℕ) (games : List Game) (count : first + length games ≡ number) (few : number < 400000) (stored : List Stored) (are : AreOpeningsOf first shape depth games stored) where
   read : IsGameRead shape more others
   read = game-read shape depth number game.tree is_tree more others on
 
@@ -119,9 +119,9 @@ module _ (shape : Shape) (depth number : ℕ) (game : Game) (is_tree : IsTree ga
     nexts_fit = omega (arith, ap length f, are.nexts_fit, read.nexts_few, count, few);
   }
 
-  pub openings-more : (xs : List Entry) (ys : List NextAt) (last : List Stored) → xs ≡ more → ys ≡ others → AreStored shape (are.entries ++ xs) (are.nexts ++ ys) last → AreOpeningsOf shape depth (games ++ game ∷ []) last
+  pub openings-more : (xs : List Entry) (ys : List NextAt) (last : List Stored) → xs ≡ more → ys ≡ others → AreStored shape (are.entries ++ xs) (are.nexts ++ ys) last → AreOpeningsOf first shape depth (games ++ game ∷ []) last
   openings-more xs ys last e f is =
-      let here : number ≡ 0 + length games = omega (arith, count) in
+      let here : number ≡ first + length games = sym count in
       let kept : AreStored shape (are.entries ++ more) (are.nexts ++ others) last = subst (λ (x : List Entry). AreStored shape (are.entries ++ x) (are.nexts ++ others) last) e (subst (λ (y : List NextAt). AreStored shape (are.entries ++ xs) (are.nexts ++ y) last) f is) in
       record {
         entries = are.entries ++ more;
@@ -156,7 +156,7 @@ groups-openings shape es ns = by (first_entries es)
     by [] = refl
     by (f ∷ fs) = ap (λ os. one f ∷ os) (by fs)
 
-pub openings-answered : (shape : Shape) (depth least : ℕ) (games all : List Game) (stored : List Stored) (os : List Opening) → games ≡ all → AreOpeningsOf shape depth games stored → os ≡ filter (λ (o : Opening). nat_le least o.count) (map opening_shown (values_of stored)) → IsOpenings shape depth least all os
+pub openings-answered : (shape : Shape) (depth least : ℕ) (games all : List Game) (stored : List Stored) (os : List Opening) → games ≡ all → AreOpeningsOf 0 shape depth games stored → os ≡ filter (λ (o : Opening). nat_le least o.count) (map opening_shown (values_of stored)) → IsOpenings shape depth least all os
 openings-answered shape depth least games all stored os e are is = subst (λ (gs : List Game). IsOpenings shape depth least gs os) e (record {
   entries = are.entries;
   nexts = are.nexts;

@@ -134,6 +134,60 @@ with_next (g ∷ gs) n =
     } ∷ gs
     else g ∷ with_next gs n
 
+-- ---- the openings of more entries and next moves
+
+-- a row with the next moves of another one
+abbrev pub row_with : NextMove → NextMove → NextMove
+row_with row more = record {
+  colour = row.colour;
+  point = row.point;
+  count = row.count + more.count;
+  black = row.black + more.black;
+  white = row.white + more.white;
+  other = row.other + more.other;
+}
+
+-- the rows with one row more: it is counted in the row of its order, or stands there
+abbrev pub with_more_row : List NextMove → NextMove → List NextMove
+with_more_row [] more = more ∷ []
+with_more_row (r ∷ rs) more =
+    if nat_eq (row_order r) (row_order more) then row_with r more ∷ rs
+    else if nat_lt (row_order r) (row_order more) then r ∷ with_more_row rs more
+    else more ∷ r ∷ rs
+
+-- the rows with more rows
+abbrev pub with_more_rows : List NextMove → List NextMove → List NextMove
+with_more_rows rows [] = rows
+with_more_rows rows (m ∷ more) = with_more_rows (with_more_row rows m) more
+
+-- an opening with the entries and next moves of another one
+abbrev pub opening_with : Opening → Opening → Opening
+opening_with o more = record {
+  count = o.count + more.count;
+  black = o.black + more.black;
+  white = o.white + more.white;
+  other = o.other + more.other;
+  game = o.game;
+  node = o.node;
+  nexts = with_more_rows o.nexts more.nexts;
+}
+
+-- the openings with one more: it is counted where its canonical position stands, or stands at the end
+abbrev pub with_group : List Grouped → Grouped → List Grouped
+with_group [] more = more ∷ []
+with_group (g ∷ gs) more =
+    if is_same_position more.canonical g.canonical
+    then record {
+      canonical = g.canonical;
+      opening = opening_with g.opening more.opening;
+    } ∷ gs
+    else g ∷ with_group gs more
+
+-- the openings with more openings
+abbrev pub with_groups : List Grouped → List Grouped → List Grouped
+with_groups groups [] = groups
+with_groups groups (m ∷ more) = with_groups (with_group groups m) more
+
 -- each next move was played from the canonical position of an entry
 abbrev pub AreFollowing : List Entry → List NextAt → Type 0
 AreFollowing entries nexts =

@@ -42,12 +42,12 @@ pub record IsReadyForNexts (shape : Shape) (es : List Entry) (ns : List NextAt)
   pub entries_fit : length es ≤ 18446744073709551614
   pub nexts_fit : length ns + length more ≤ 18446744073709551614
 
--- The map keeps the openings of these games.
-pub record AreOpeningsOf (shape : Shape) (depth : ℕ) (games : List Game)
+-- The map keeps the openings of these games, which are numbered from a first number on.
+pub record AreOpeningsOf (first : ℕ) (shape : Shape) (depth : ℕ) (games : List Game)
     (stored : List Stored) : Type 0 where
   pub entries : List Entry
   pub nexts : List NextAt
-  pub are_all : AreOfGames 0 shape depth games entries nexts
+  pub are_all : AreOfGames first shape depth games entries nexts
   pub so_far : AreStored shape entries nexts stored
   pub following : AreFollowing entries nexts
   pub entries_fit : length entries ≤ 65536 * length games

@@ -4,7 +4,7 @@ use Rattle.std.specs.declared.alloc.Global.{Global}
 use Rattle.std.specs.declared.vec.Vec.{Vec}
 use Rattle.opening_tree.specs.declared.answer.Opening.{Opening}
 use Rattle.opening_tree.specs.declared.opening_so_far.OpeningSoFar.{OpeningSoFar}
-use Rattle.opening_tree.specs.Groups.{Grouped}
+use Rattle.opening_tree.specs.Groups.{Grouped, IsGroupWithin, with_group, with_groups}
 use Rattle.opening_tree.specs.Packing.{AreCells, cells_of}
 
 -- the opening that is stored
@@ -37,3 +37,18 @@ groups_shown points entries = map (group_shown points) entries
 -- the keys of the map are positions of so many points
 abbrev pub AreKeys : ℕ → List Stored → Type 0
 AreKeys points entries = All (λ (e : Stored). AreCells points e.0.items) entries
+
+-- An opening of more games can be added to those of the map: it has a key, and no count comes to its
+-- end.
+pub record IsReadyForGroup (points : ℕ) (more : Stored) (stored : List Stored) : Type 0 where
+  pub keys : AreKeys points stored
+  pub key : AreCells points more.0.items
+  pub room : All (λ (g : Grouped). IsGroupWithin 18446744073709551615 g.opening)
+      (with_group (groups_shown points stored) (group_shown points more))
+
+-- the same for all openings of more games
+pub record IsReadyForGroups (points : ℕ) (more stored : List Stored) : Type 0 where
+  pub keys : AreKeys points stored
+  pub more_keys : AreKeys points more
+  pub room : All (λ (g : Grouped). IsGroupWithin 18446744073709551615 g.opening)
+      (with_groups (groups_shown points stored) (groups_shown points more))

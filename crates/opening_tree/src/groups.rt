@@ -23,10 +23,18 @@ ghost use Rattle.opening_tree.specs.Groups.{
   IsGroupWithin,
   groups_of,
   with_entry,
+  with_group,
+  with_groups,
   with_next,
 };
 ghost use Rattle.opening_tree.specs.NextMoves.{NextAt};
-ghost use Rattle.opening_tree.specs.StoredGroups.{AreKeys, groups_shown};
+ghost use Rattle.opening_tree.specs.StoredGroups.{
+  AreKeys,
+  IsReadyForGroup,
+  IsReadyForGroups,
+  group_shown,
+  groups_shown,
+};
 
 use crate::found::{FoundEntry, FoundNext};
 use crate::opening_so_far::{OpeningSoFar, add_to_rows};
@@ -80,8 +88,42 @@ pub(crate) fn add_next(openings: &mut OpeningMap, next: &FoundNext) -> Result<()
     Ok(())
 }
 
+// Adds the openings of more games to openings. The only error is `NoMemory`.
+pub(crate) fn add_openings(openings: &mut OpeningMap, more: OpeningMap) -> Result<(), NoMemory>
+    requires { (points : ℕ) × IsReadyForGroups points more.entries openings.old.entries }
+    ensures { OnOk result ((points : ℕ) →
+        IsReadyForGroups points more.entries openings.old.entries →
+        AreKeys points openings.new.entries
+        × (groups_shown points openings.new.entries ≡ with_groups
+        (groups_shown points openings.old.entries) (groups_shown points more.entries))) }
+{
+    for (key, opening) in more {
+        add_opening(openings, key, opening)?;
+    }
+    Ok(())
+}
+
+// Adds the opening of more games that has this key. The only error is `NoMemory`.
+fn add_opening(openings: &mut OpeningMap, key: Vec<u64>, more: OpeningSoFar) -> Result<(), NoMemory>
+    requires { (points : ℕ) × IsReadyForGroup points (key, more) openings.old.entries }
+    ensures { OnOk result ((points : ℕ) →
+        IsReadyForGroup points (key, more) openings.old.entries →
+        AreKeys points openings.new.entries
+        × (groups_shown points openings.new.entries ≡ with_group
+        (groups_shown points openings.old.entries) (group_shown points (key, more)))) }
+{
+    match openings.get_index_of(key.as_slice()) {
+        Some(at) => openings[at].add(&more)?,
+        None => {
+            openings.insert(key, more)?;
+        }
+    }
+    Ok(())
+}
+
 // One entry more, and one next move more, make of the openings of some entries and next moves those
-// of one more. No opening counts more of them than there are.
+// of one more, and the openings of more entries and next moves those of all. No opening counts more
+// of them than there are.
 fn openings_grow_one_by_one()
     ensures entry { (shape : Shape) (entries : List Entry) (nexts : List NextAt) (e : Entry) →
         AreFollowing entries nexts →
@@ -89,6 +131,10 @@ fn openings_grow_one_by_one()
     ensures next { (shape : Shape) (entries : List Entry) (nexts : List NextAt) (n : NextAt) →
         IfSome n.played.point (λ (p : Point). IsOnBoard shape p) →
         with_next (groups_of shape entries nexts) n ≡ groups_of shape entries (nexts ++ n ∷ []) }
+    ensures join { (shape : Shape) (entries more : List Entry) (nexts others : List NextAt) →
+        AreFollowing entries nexts → AreFollowing more others →
+        with_groups (groups_of shape entries nexts) (groups_of shape more others)
+        ≡ groups_of shape (entries ++ more) (nexts ++ others) }
     ensures bounds { (most : ℕ) (shape : Shape) (entries : List Entry) (nexts : List NextAt) →
         length entries ≤ most → length nexts ≤ most →
         All (λ (g : Grouped). IsGroupWithin most g.opening) (groups_of shape entries nexts) }

@@ -20,6 +20,7 @@ mod laws;
 mod opening_so_far;
 mod openings;
 mod packed;
+mod pieces;
 
 pub use answer::{NextMove, NextMoves, Opening};
 pub use laws::{
@@ -27,3 +28,4 @@ pub use laws::{
     images_alone_have_one_canonical_position,
 };
 pub use openings::opening;
+pub use pieces::{WantedOpenings, opening_in_pieces};

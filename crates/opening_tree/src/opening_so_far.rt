@@ -2,13 +2,18 @@
 ghost use Rattle.std.specs.Prelude.{◌≡◌, ◌<◌, ◌≤◌, ℕ, All, IfOk, OnOk, length, slice_index_or};
 ghost use Rattle.opening_tree.specs.declared.answer.NextMove.{NextMove};
 ghost use Rattle.opening_tree.specs.Groups.{
+  IsGroupWithin,
   IsRowWithin,
   no_row,
   none_yet,
+  opening_with,
   place_order,
   play_order,
   row_order,
+  row_with,
   row_with_one,
+  with_more_row,
+  with_more_rows,
   with_one,
   with_row,
 };
@@ -63,6 +68,20 @@ impl OpeningSoFar {
         self.other += u64::from(is_no_win(outcome));
     }
 
+    // Counts the entries and next moves of another one too. The only error is `NoMemory`.
+    pub(crate) fn add(&mut self, more: &OpeningSoFar) -> Result<(), NoMemory>
+        requires { IsGroupWithin 18446744073709551615
+            (opening_with (opening_shown self.old) (opening_shown more.now)) }
+        ensures { OnOk result (opening_shown self.new
+            ≡ opening_with (opening_shown self.old) (opening_shown more.now)) }
+    {
+        self.count += more.count;
+        self.black += more.black;
+        self.white += more.white;
+        self.other += more.other;
+        add_rows(&mut self.rows, more.rows.as_slice())
+    }
+
     // The opening as it is answered. The only error is `NoMemory`.
     pub(crate) fn shown(&self, alloc: Global) -> Result<Opening, NoMemory>
         ensures { IfOk result (λ opening. opening ≡ opening_shown self.now) }
@@ -100,6 +119,50 @@ pub(crate) fn add_to_rows(
     }
     rows.insert(at, row_with_one(no_row(played), outcome))?;
     Ok(())
+}
+
+// Adds the next moves of more rows. The only error is `NoMemory`.
+fn add_rows(rows: &mut Vec<NextMove>, more: &[NextMove]) -> Result<(), NoMemory>
+    requires { All (IsRowWithin 18446744073709551615) (with_more_rows rows.old.items more.now) }
+    ensures { OnOk result (rows.new.items ≡ with_more_rows rows.old.items more.now) }
+{
+    for row in more {
+        add_row(rows, row)?;
+    }
+    Ok(())
+}
+
+// Adds the next moves of a row. The only error is `NoMemory`.
+fn add_row(rows: &mut Vec<NextMove>, more: &NextMove) -> Result<(), NoMemory>
+    requires { All (IsRowWithin 18446744073709551615) (with_more_row rows.old.items more.now) }
+    ensures { OnOk result (rows.new.items ≡ with_more_row rows.old.items more.now) }
+{
+    let order = play_order(more.colour, more.point);
+    let at = rows_before(rows.as_slice(), order);
+    if at < rows.len() {
+        let row = rows[at];
+        if play_order(row.colour, row.point) == order {
+            rows[at] = row_with(row, *more);
+            return Ok(());
+        }
+    }
+    rows.insert(at, *more)?;
+    Ok(())
+}
+
+// A row with the next moves of another one.
+fn row_with(row: NextMove, more: NextMove) -> NextMove
+    requires { IsRowWithin 18446744073709551615 (row_with row more) }
+    ensures { result ≡ row_with row more }
+{
+    NextMove {
+        colour: row.colour,
+        point: row.point,
+        count: row.count + more.count,
+        black: row.black + more.black,
+        white: row.white + more.white,
+        other: row.other + more.other,
+    }
 }
 
 // How many rows come before the first that doesn't stand before this order.

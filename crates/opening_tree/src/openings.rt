@@ -3,9 +3,11 @@ ghost use Rattle.std.specs.Prelude.{
   ◌≡◌,
   ◌<◌,
   ◌≤◌,
+  ◌+◌,
   ◌++◌,
   ◌∷◌,
   [],
+  ℕ,
   IfOk,
   List,
   OnOk,
@@ -53,26 +55,33 @@ pub fn opening(
         IsOpenings shape depth least (items_in version.now.parts) openings.items) }
 {
     let games = games_of(alloc, version)?;
-    let openings = openings_in(alloc, Asked { shape, depth }, games.as_slice())?;
+    let openings = openings_in(alloc, Asked { shape, depth }, 0, games.as_slice())?;
     listed(alloc, &openings, least)
 }
 
 // On which boards openings are asked for, and down to which move number.
 #[derive(Clone, Copy, Debug)]
-struct Asked {
-    shape: Shape,
-    depth: u32,
+pub(crate) struct Asked {
+    pub(crate) shape: Shape,
+    pub(crate) depth: u32,
 }
 
-// The openings of these games, those with few entries too.
-fn openings_in(alloc: Global, asked: Asked, games: &[&FinishedGame]) -> Result<OpeningMap, NoMemory>
-    requires { length games.now ≤ 400000 }
+// The openings of these games, which are numbered from a first number on, those with few entries
+// too. The only error is `NoMemory`.
+pub(crate) fn openings_in(
+    alloc: Global,
+    asked: Asked,
+    first: u32,
+    games: &[&FinishedGame],
+) -> Result<OpeningMap, NoMemory>
+    requires { first + length games.now ≤ 400000 }
     ensures { IfOk result (λ openings.
-        AreOpeningsOf asked.shape asked.depth (map (λ g. g.now) games.now) openings.entries) }
+        AreOpeningsOf first asked.shape asked.depth (map (λ g. g.now) games.now)
+        openings.entries) }
 {
     let mut openings = IndexMap::new(alloc);
-    for number in 0..games.len() {
-        add_game(alloc, &mut openings, asked, number as u32, games[number])?;
+    for at in 0..games.len() {
+        add_game(alloc, &mut openings, asked, first + at as u32, games[at])?;
     }
     Ok(openings)
 }
@@ -86,11 +95,12 @@ fn add_game(
     game: &FinishedGame,
 ) -> Result<(), NoMemory>
     requires most { number < 400000 }
-    requires so_far { (games : List Game) × (length games ≡ number)
-        × AreOpeningsOf asked.shape asked.depth games openings.old.entries }
-    ensures { OnOk result ((games : List Game) → length games ≡ number →
-        AreOpeningsOf asked.shape asked.depth games openings.old.entries →
-        AreOpeningsOf asked.shape asked.depth (games ++ game.now ∷ []) openings.new.entries) }
+    requires so_far { (first : ℕ) × (games : List Game) × (first + length games ≡ number)
+        × AreOpeningsOf first asked.shape asked.depth games openings.old.entries }
+    ensures { OnOk result ((first : ℕ) (games : List Game) → first + length games ≡ number →
+        AreOpeningsOf first asked.shape asked.depth games openings.old.entries →
+        AreOpeningsOf first asked.shape asked.depth (games ++ game.now ∷ [])
+        openings.new.entries) }
 {
     let _nodes = game.tree().node_count();
     let found = found_in(alloc, asked.shape, asked.depth, number, game)?;
@@ -131,8 +141,13 @@ fn add_nexts(openings: &mut OpeningMap, nexts: &[FoundNext]) -> Result<(), NoMem
     Ok(())
 }
 
-// Those of the openings that have at least so many entries, as they are answered.
-fn listed(alloc: Global, openings: &OpeningMap, least: u32) -> Result<Vec<Opening>, NoMemory>
+// Those of the openings that have at least so many entries, as they are answered. The only error is
+// `NoMemory`.
+pub(crate) fn listed(
+    alloc: Global,
+    openings: &OpeningMap,
+    least: u32,
+) -> Result<Vec<Opening>, NoMemory>
     ensures { IfOk result (λ listed. listed.items ≡ filter (λ (o : Opening). nat_le least o.count)
         (map opening_shown (values_of openings.now.entries))) }
 {
