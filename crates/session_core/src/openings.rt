@@ -11,37 +11,30 @@ ghost use Rattle.session_core.specs.OpeningLines.{
 };
 ghost use Rattle.session_core.specs.Stores.{view_of};
 
-use kb_geometry::{NoMemory, Shape};
-use opening_tree::{NextMove, Opening, opening};
+use kb_geometry::NoMemory;
+use opening_tree::{NextMove, Opening, WantedOpenings, opening_in_pieces};
 use query_script::{NodeCounts, print_next_move, print_opening_head, print_position};
 use search_engine::game_count;
 use segment_store::Segment;
 use std::alloc::Global;
+use std::thread::Threads;
 use version_publisher::Version;
 
-// Which openings are asked for: on which boards, down to which move number, and with how many
-// entries at least.
-#[derive(Clone, Copy, Debug)]
-pub(crate) struct Asked {
-    pub(crate) shape: Shape,
-    pub(crate) depth: u32,
-    pub(crate) least: u32,
-}
-
 // Appends the text of the openings that are asked for.
-pub(crate) fn append_opening(
+pub(crate) fn append_opening<R: Threads + Sync>(
+    rt: &R,
     alloc: Global,
     line: u32,
-    asked: Asked,
+    wanted: WantedOpenings,
     version: &Version<Segment>,
     out: &mut Vec<u8>,
 ) -> Result<(), NoMemory>
     ensures ok { OnOk result ((text : List ℕ)
-        × IsOpeningText line (view_of version.now) asked.shape asked.depth asked.least text
+        × IsOpeningText line (view_of version.now) wanted.shape wanted.depth wanted.least text
         × (out.new.items ≡ out.old.items ++ text)) }
     ensures refused { OnErr result (IsPrefix out.old.items out.new.items) }
 {
-    let openings = opening(alloc, version, asked.shape, asked.depth, asked.least)?;
+    let openings = opening_in_pieces(rt, alloc, version, wanted)?;
     append_openings(line, version, openings.as_slice(), out)
 }
 

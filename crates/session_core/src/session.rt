@@ -37,13 +37,14 @@ ghost use Rattle.session_core.specs.Watching.{IsWatchAt};
 
 use crate::boxes::{append_report, feed_boxes, retire_box};
 use crate::lists::{append_doubles, append_players, append_signature};
-use crate::openings::{Asked, append_opening};
+use crate::openings::append_opening;
 use crate::watch::Watch;
 use crate::watches::{advance_at, feed_from, find_watch};
 use continuation_table::Table;
 use hit_collectors::Collector;
 use info_filter::Filter;
 use kb_geometry::{NoMemory, Text, cut_back};
+use opening_tree::WantedOpenings;
 use pattern_images::Query;
 use query_script::{
     Statement, print_game, print_hits, print_kept, print_no_game, print_no_watch, print_taken,
@@ -134,12 +135,12 @@ impl<C: Collector> Session<C> {
                 depth,
                 least,
             } => {
-                let asked = Asked {
+                let wanted = WantedOpenings {
                     shape: *shape,
                     depth: *depth,
                     least: *least,
                 };
-                append_opening(alloc, line, asked, version, out)
+                append_opening(rt, alloc, line, wanted, version, out)
             }
             Statement::Report => append_report(line, &self.boxes, out),
             Statement::Retire { name } => retire_box(line, name.as_str(), &mut self.boxes, out),
