@@ -70,6 +70,7 @@ impl Gate for HoldsOne {
 
 // A script over so many files that make one version each, of which the one with number `held` is
 // published once the line was taken; and what it writes.
+#[derive(Clone, Copy)]
 struct Beside<'a> {
     files: u32,
     held: u64,
@@ -193,40 +194,36 @@ fn append_watched(
     Ok(())
 }
 
-// Three searches are watched between two of the 200 versions of an import, and told at its end: each
-// has all its hits, and each hit was counted once.
+// Three searches that are watched between two of the 200 versions of an import, and told at its end.
+const WATCH: &str = "import d\nuntil 100\n\
+    watch black same X\nwatch white same O\nwatch pair same fixed OX\n\
+    wait\nwatched black\nwatched white\nwatched pair\nreport\n";
+
+const WATCH_BEGUN: &str = "1 import d\n\
+    2 until 100 version 100\n\
+    3 watch black version 100 hits 200\n\
+    4 watch white version 100 hits 100\n\
+    5 watch pair version 100 hits 100\n\
+    1 imported files 200 accepted 200 refused 0 full 0 unread 0 games 200 version 200\n\
+    6 wait version 200\n";
+
+// Each has all hits of the last version, and each hit was counted once.
 #[test]
 fn watched_searches_beside_an_import(rt: HostRuntime) -> Result<(), Fail> {
     let alloc = rt.alloc();
     let counter = Counter::new(String::from_str(alloc, "all")?, Kind::Total)?;
     let mut boxes: Vec<Box<dyn Collector>> = Vec::new(alloc);
     boxes.push(Box::new(alloc, counter)?)?;
-    let mut written = String::from_str(
-        alloc,
-        "1 import d\n\
-         2 until 100 version 100\n\
-         3 watch black version 100 hits 200\n\
-         4 watch white version 100 hits 100\n\
-         5 watch pair version 100 hits 100\n\
-         1 imported files 200 accepted 200 refused 0 full 0 unread 0 games 200 version 200\n\
-         6 wait version 200\n",
-    )?;
-    append_watched(
-        alloc,
-        &mut written,
-        "7 watched black",
-        400,
-        &["1 2 2 0", "3 2 1 0"],
-    )?;
+    let mut written = String::from_str(alloc, WATCH_BEGUN)?;
+    let black = ["1 2 2 0", "3 2 1 0"];
+    append_watched(alloc, &mut written, "7 watched black", 400, &black)?;
     append_watched(alloc, &mut written, "8 watched white", 200, &["2 1 2 0"])?;
     append_watched(alloc, &mut written, "9 watched pair", 200, &["2 1 2 0"])?;
     written.push_str("10 report collectors 1\ncollector all total 800\n")?;
     let watched = Beside {
         files: 200,
         held: 101,
-        script: "import d\nuntil 100\n\
-             watch black same X\nwatch white same O\nwatch pair same fixed OX\n\
-             wait\nwatched black\nwatched white\nwatched pair\nreport\n",
+        script: WATCH,
         line: b"5 watch pair version 100 hits 100\n",
         written: &written,
     };

@@ -25,5 +25,5 @@ returns-clause-stopped g c = λ files told before written.
     closed-stopped run.result.outcome c.close.result (beside_rules c.args.batch) files (map (λ b. g.C.Collector.tally b) c.args.boxes.items) run.new.session c.args.placed.now run.result.importer.owned.publisher.log before _ _ (g.F.Folder.faults c.args.importer.folder) (g.F.Folder.faults run.result.importer.folder)
     (rw c.new-session.ensures at (run.ensures.ran files told before written)) (rw c.new-session.ensures at (run.ensures.stopped files told before written)) c.close.ensures.part
 
-pub run_all-requires-clause-unwatched : goal.run_all-requires-clause-unwatched
-run_all-requires-clause-unwatched g c = λ lifetimes bounds. ap (λ (s : SessionState). s.watches) c.new-session.ensures
+pub run_all-importer-requires-clause-unwatched : goal.run_all-importer-requires-clause-unwatched
+run_all-importer-requires-clause-unwatched g c = λ lifetimes bounds. ap (λ (s : SessionState). s.watches) c.new-session.ensures

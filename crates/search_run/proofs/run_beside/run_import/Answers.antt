@@ -65,8 +65,8 @@ returns-clause-stopped g c = λ files told.
     joined-stopped files c.args.batch c.args.line c.args.source c.in-Ok.begun.0 c.args.state c.args.importer.owned.publisher.log publisher.log first (g.F.Folder.faults c.args.importer.folder) (g.F.Folder.faults ended.importer.folder) c.in-Ok.ensures.job (c.import_beside-joined.ensures.ended.first files told) start done c.args.rest.now c.args.session.now before _ _ (HaveSeen at.own at.block.items) (HaveSeen now.own now.block.items) c.into_version-held.result.number h
     (c.into_version-held.ensures.number ∙ c.requires.stands.version) stop (λ whole longer. seen_longer now.own now.block.items publisher.log whole longer c.join-outcome.ensures.seen))
 
-pub import_beside-requires-clause-fit : goal.import_beside-requires-clause-fit
-import_beside-requires-clause-fit g c = λ lifetimes bounds.
+pub import_beside-joined-requires-clause-fit : goal.import_beside-joined-requires-clause-fit
+import_beside-joined-requires-clause-fit g c = λ lifetimes bounds.
     subst (λ games. WatchesFit games c.args.session.now) (c.requires.stands.games ∙ ap items_in (sym c.requires.stands.own_seen)) c.requires.fit
 
 pub returns-clause-fit : goal.returns-clause-fit
