@@ -1,28 +1,25 @@
 #!/usr/bin/env bash
-# What `watched` takes after one file more, in bases of so many made games, and what the same search takes
-# over that file alone, in instructions. In the first two columns the text is left out: it is what a second
-# `watched` takes, which finds nothing new.
+# What a watched search takes for one file more, in bases of so many made games, and what the same search takes
+# where that file is all that there is: in instructions of the search alone, without the text that is printed.
 #
 #     PROGRAM=/path/to/gobase bash bench/watched.sh 8000 100000
 PATTERN='....../....../.....O/...X../....../..X...'
 ONE=$(mktemp -d ./one.XXXXXX)
 printf 'make 1 5\nwait\ngame 0\n' | $PROGRAM | tail -1 > "$ONE/a.sgf"
 
-# The instructions of a script of these lines.
+# The instructions that watched searches take in a script of these lines.
 count() {
-    printf '%s\n' "$@" | valgrind --tool=callgrind --callgrind-out-file=/dev/null $PROGRAM --serial 2>&1 >/dev/null \
+    printf '%s\n' "$@" | valgrind --tool=callgrind --callgrind-out-file=/dev/null \
+        --toggle-collect='session_core::watch::Watch::advance' $PROGRAM --serial 2>&1 >/dev/null \
         | awk '/Collected/ { print $NF }'
 }
 
-alone=$(count "import $ONE" wait)
-echo "the file alone: watch $(($(count "import $ONE" wait "watch w $PATTERN") - alone))," \
-    "search $(($(count "import $ONE" wait "search $PATTERN") - alone))"
+echo "the file alone: $(count "import $ONE" wait "watch w $PATTERN")"
 for games in "$@"; do
     script=("make $games 1" wait "watch w $PATTERN" "import $ONE" wait)
-    without=$(count "${script[@]}")
-    once=$(count "${script[@]}" 'watched w')
+    before=$(count "${script[@]}")
+    behind=$(count "${script[@]}" 'watched w')
     twice=$(count "${script[@]}" 'watched w' 'watched w')
-    echo "$games games: watched $((once - without)), its text $((twice - once))," \
-        "its search $((2 * once - without - twice))"
+    echo "$games games, one file more: $((behind - before)); with nothing new: $((twice - behind))"
 done
 rm -r "$ONE"
