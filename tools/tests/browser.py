@@ -10,6 +10,7 @@ import socket
 import subprocess
 import tempfile
 import time
+import unittest
 from pathlib import Path
 from typing import Any
 
@@ -189,3 +190,22 @@ class Browser:
 
     def __exit__(self, *_: object) -> None:
         self.close()
+
+
+@unittest.skipUnless(find_browser(), "tools/install_browser.sh installs the browser")
+class BrowserTest(unittest.TestCase):
+    """Tests that share one browser, and a folder for their pages."""
+
+    folder: Path
+    browser: Browser
+
+    @classmethod
+    def setUpClass(cls) -> None:
+        cls.browser = Browser()
+        cls.room = tempfile.TemporaryDirectory()
+        cls.folder = Path(cls.room.name)
+
+    @classmethod
+    def tearDownClass(cls) -> None:
+        cls.browser.close()
+        cls.room.cleanup()

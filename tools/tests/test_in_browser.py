@@ -8,7 +8,6 @@ from __future__ import annotations
 
 import random
 import subprocess
-import tempfile
 import unittest
 from pathlib import Path
 from typing import Any
@@ -17,7 +16,7 @@ from answers_page.answers import Hit, Search, Watched
 from answers_page.record import read_record
 from answers_page.script import Question, read_script
 
-from .browser import Browser, find_browser
+from .browser import BrowserTest
 from .samples import NATIVE, ROOT, page_of, program, program_that_tells, program_with_games, scripts
 from .test_answers import WATCHED, WATCHES
 from .test_page import ENDING, FIRST_GAME, MARKUP, hostile_page
@@ -89,21 +88,7 @@ def game_at_random(numbers: random.Random, columns: int, rows: int) -> str:
     return f"(;SZ[{columns}:{rows}]AB{point()};AW{point()}{line(26, 0)})"
 
 
-@unittest.skipUnless(find_browser(), "tools/install_browser.sh installs the browser")
-class InBrowser(unittest.TestCase):
-    browser: Browser
-
-    @classmethod
-    def setUpClass(cls) -> None:
-        cls.browser = Browser()
-        cls.room = tempfile.TemporaryDirectory()
-        cls.folder = Path(cls.room.name)
-
-    @classmethod
-    def tearDownClass(cls) -> None:
-        cls.browser.close()
-        cls.room.cleanup()
-
+class InBrowser(BrowserTest):
     def check_hit(self, question: Question, hit: Hit, told: dict[str, Any]) -> None:
         cells = cells_of(question, hit)
         self.assertEqual((told["game"], told["node"]), (hit.game, hit.node))

@@ -7,7 +7,6 @@ from __future__ import annotations
 
 import random
 import subprocess
-import tempfile
 import unittest
 from pathlib import Path
 from typing import Any
@@ -17,7 +16,7 @@ from answers_page.record import read_record
 from answers_page.script import read_script
 
 from . import opening_trees
-from .browser import Browser, find_browser
+from .browser import BrowserTest
 from .opening_trees import PlainGame, played
 from .samples import NATIVE, ROOT, page_of, program, program_with_games
 from .stand_in import stored_games
@@ -139,21 +138,7 @@ def record_of(games: list[PlainGame], script: str, files: int | None = None) -> 
     return told
 
 
-@unittest.skipUnless(find_browser(), "tools/install_browser.sh installs the browser")
-class Openings(unittest.TestCase):
-    browser: Browser
-
-    @classmethod
-    def setUpClass(cls) -> None:
-        cls.browser = Browser()
-        cls.room = tempfile.TemporaryDirectory()
-        cls.folder = Path(cls.room.name)
-
-    @classmethod
-    def tearDownClass(cls) -> None:
-        cls.browser.close()
-        cls.room.cleanup()
-
+class Openings(BrowserTest):
     def open_page(self, script: str, record: str, games: list[str]) -> list[Opening]:
         """Opens a page of a record, and tells its opening trees."""
         (self.folder / "a.script").write_text(script)
