@@ -143,6 +143,15 @@ class InBrowser(BrowserTest):
         record = read_record(output.decode(), read_script(script.read_text()))
         return [answer for answer in record.answers if isinstance(answer, Search)]
 
+    def test_lists_of_games_on_a_phone(self) -> None:
+        page_of(ROOT / "scripts" / "players.script", self.folder / "phone.html")
+        self.browser.open(self.folder / "phone.html")
+        self.browser.size(390, 844)
+        beside = self.browser.run("[...document.querySelectorAll('.games')].map(list => "
+                                  "list.parentElement.scrollWidth - list.parentElement.clientWidth)")
+        self.browser.size(1280, 900)
+        self.assertEqual(beside, [0, 0], "a list of games doesn't fit")
+
     def test_hostile_texts_do_nothing(self) -> None:
         page = hostile_page(self.folder)
         self.browser.open(page)
