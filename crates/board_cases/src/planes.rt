@@ -118,7 +118,7 @@ fn put_all(planes: &Planes, out: &mut Vec<u8>) -> Result<(), CaseError> {
     put(out, " games, present")?;
     put_bits(out, planes.present())?;
     put(out, "; always empty")?;
-    put_bits(out, planes.always_empty())
+    put_bits(out, planes.ever_empty())
 }
 
 // The games that had each cell on a point.

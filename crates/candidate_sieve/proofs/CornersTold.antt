@@ -64,7 +64,7 @@ module _ (shape : Shape) (placement : Placement) (placed : IsPlacedOn shape plac
   -- the cell that lies on a place of the frame
   lies-cell : (column row dx dy : ℕ) → column < 6 → row < 6 → LiesOn shape placement corner column row dx dy → cell_over placement (moved corner shape (point_of column row)) ≡ cell_in placement.grid dx dy
   lies-cell column row dx dy left high lies =
-      let same = number_same shape (point_of (placement.x + dx) (placement.y + dy)) (moved corner shape (point_of column row)) (under-on_board dx dy lies.in_cols lies.in_rows) (frame-on_board column row left high) lies.there in
+      let same = number_same shape (point_of (placement.x + dx) (placement.y + dy)) (moved corner shape (point_of column row)) (under-on_board dx dy lies.in_cols lies.in_rows) (frame-on_board column row left high) lies.on_point in
       cell_over-in placement (moved corner shape (point_of column row)) dx dy lies.in_cols lies.in_rows (sym same.0) (sym same.1)
 
   -- an empty, black or white cell over a place of the frame lies there
@@ -73,7 +73,7 @@ module _ (shape : Shape) (placement : Placement) (placed : IsPlacedOn shape plac
       let p = moved corner shape (point_of column row) in
       let at = cell_over-exact placement p exact in
       let same : point_of (placement.x + at.0) (placement.y + at.1) ≡ p = same_point (point_of (placement.x + at.0) (placement.y + at.1)) p (sym at.4) (sym at.5) in
-      (at.0, at.1, record { in_cols = at.2; in_rows = at.3; there = ap (number_of shape) same }, cell_over-in placement p at.0 at.1 at.2 at.3 at.4 at.5)
+      (at.0, at.1, record { in_cols = at.2; in_rows = at.3; on_point = ap (number_of shape) same }, cell_over-in placement p at.0 at.1 at.2 at.3 at.4 at.5)
 
   frame-place : (column row : ℕ) → column < 6 → moved corner shape (point_of column row) ≡ frame_point corner shape (row * 6 + column)
   frame-place column row left =
@@ -130,7 +130,7 @@ module _ (shape : Shape) (placement : Placement) (placed : IsPlacedOn shape plac
         let over : frame_cell shape placement corner (row * 6 + column) ≡ cell_in placement.grid dx dy =
         ap (cell_over placement) (sym place) ∙ lies-cell column row dx dy left high lies in
         let exact : IsExact (cell_in placement.grid dx dy) = subst IsExact over (is.exact (row * 6 + column) within) in
-        let point : point_on corner shape (row * 6 + column) ≡ number_under shape placement dx dy = ap (number_of shape) (sym place) ∙ sym lies.there in
+        let point : point_on corner shape (row * 6 + column) ≡ number_under shape placement dx dy = ap (number_of shape) (sym place) ∙ sym lies.on_point in
         let stands : cell_at position (number_under shape placement dx dy) ≡ wanted_cell (cell_in placement.grid dx dy) =
         ap (cell_at position) (sym point) ∙ number-cells same (row * 6 + column) within ∙ ap wanted_cell over in
         (allows-wanted (cell_in placement.grid dx dy) exact (cell_at position (number_under shape placement dx dy))).1 stands
@@ -142,7 +142,7 @@ module _ (shape : Shape) (placement : Placement) (placed : IsPlacedOn shape plac
         let lies = exact-lies (k % 6) (k / 6) (is.exact k lt) in
         let allowed = has (k % 6) (k / 6) lies.0 lies.1 left high lies.2 in
         let exact : IsExact (cell_in placement.grid lies.0 lies.1) = subst IsExact lies.3 (is.exact k lt) in
-        ap (cell_at position) (sym lies.2.there)
+        ap (cell_at position) (sym lies.2.on_point)
         ∙ (allows-wanted (cell_in placement.grid lies.0 lies.1) exact (cell_at position (number_under shape placement lies.0 lies.1))).0 allowed
         ∙ ap wanted_cell (sym lies.3))
 

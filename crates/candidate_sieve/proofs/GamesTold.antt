@@ -22,7 +22,7 @@ use Rattle.capture_index.proofs.WantsOfPlacements.{number_under-base}
 use Rattle.final_index.specs.declared.ever_sets.EverSets.{EverSets}
 use Rattle.final_index.specs.Ever.{set_of}
 use Rattle.final_index.specs.Planes.{PlaneGames}
-use Rattle.candidate_sieve.specs.BlockGames.{AreAlwaysEmpty, HadEach, HadWanted, HaveEach, wants_all}
+use Rattle.candidate_sieve.specs.BlockGames.{AreEverEmpty, HadEach, HadWanted, HaveEach, wants_all}
 use Rattle.candidate_sieve.specs.Candidates.{IsPossibleIn, MeetsCells}
 
 -- ---- the first wants
@@ -77,10 +77,10 @@ each-settled games base wants there count n word so_far few settled g lt = (
 )
 
 -- where each point was empty in the games of the word, wants that allow an empty point are met
-pub always_empty-settled : (planes : PlaneGames) (always_empty base : ℕ) (wants : List Want) (there count word : ℕ) (want : Want) → slice_index_or wants count no_want ≡ want → AreAlwaysEmpty planes always_empty → AreStonesFirst wants → ((k : ℕ) → k < length wants → base + (slice_index_or wants k no_want).offset < point_count planes.shape) →
-    HaveEach planes.games base wants there count word → count < length wants → ((g : ℕ) → bit_at word g ≡ 1 → (bit_at always_empty g ≡ 1) × IsTrue want.empty) →
+pub ever_empty-settled : (planes : PlaneGames) (ever_empty base : ℕ) (wants : List Want) (there count word : ℕ) (want : Want) → slice_index_or wants count no_want ≡ want → AreEverEmpty planes ever_empty → AreStonesFirst wants → ((k : ℕ) → k < length wants → base + (slice_index_or wants k no_want).offset < point_count planes.shape) →
+    HaveEach planes.games base wants there count word → count < length wants → ((g : ℕ) → bit_at word g ≡ 1 → (bit_at ever_empty g ≡ 1) × IsTrue want.empty) →
     HaveEach planes.games base wants there (length wants) word
-always_empty-settled planes always_empty base wants there count word want is are first on_board so_far within settled =
+ever_empty-settled planes ever_empty base wants there count word want is are first on_board so_far within settled =
     each-settled planes.games base wants there count (length wants) word so_far (omega (arith, within))
     (λ g lt e k from below asks.
     let here : IsTrue (slice_index_or wants count no_want).empty = subst (λ (w : Want). IsTrue w.empty) (sym is) (settled g e).1 in

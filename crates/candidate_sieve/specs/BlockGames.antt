@@ -1,4 +1,4 @@
--- The games of a block that have the cells of a placement: words for private functions.
+-- The games of a block that have the cells of a placement: definitions for private functions.
 use Rattle.std.specs.Prelude.{◌≡◌, ◌⊎◌, ◌&&◌, ◌↔◌, ℕ, ◌+◌, ◌<◌, ◌++◌, ◌∷◌, [], Bool, IsTrue, false, List, Option, length, slice_index, slice_index_or}
 use Rattle.std.specs.Int.{bit_at}
 use Rattle.kb_geometry.specs.declared.stone.Cell.{Cell}
@@ -32,8 +32,8 @@ HaveEach games base wants among count word =
     × HadEach games base wants count g)
 
 -- in the games of the word each point of the board was empty at some node
-abbrev pub AreAlwaysEmpty : PlaneGames → ℕ → Type 0
-AreAlwaysEmpty planes word = (g p : ℕ) → g < 64 → bit_at word g ≡ 1 →
+abbrev pub AreEverEmpty : PlaneGames → ℕ → Type 0
+AreEverEmpty planes word = (g p : ℕ) → g < 64 → bit_at word g ≡ 1 →
     p < point_count planes.shape → HadThere planes.games g cell.Empty p
 
 -- the list has gained a candidate with these games, if there is one

@@ -1,4 +1,4 @@
--- The cells of a placement as a corner's frame has them: words for private functions.
+-- The cells of a placement as a corner's frame has them: definitions for private functions.
 use Rattle.std.specs.Prelude.{◌≡◌, ℕ, ◌-◌, ◌*◌, ◌/◌, ◌%◌, ◌^◌, ◌<◌, ◌&&◌, Bool, nat_le, nat_lt, if◌then◌else◌}
 use Rattle.kb_geometry.specs.declared.shape.Shape.{Shape}
 use Rattle.kb_geometry.specs.declared.shape.Point.{Point}

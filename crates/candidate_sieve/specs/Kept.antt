@@ -37,7 +37,7 @@ pub record LiesOn (shape : Shape) (placement : Placement)
     (corner column row dx dy : ℕ) : Type 0 where
   pub in_cols : dx < placement.grid.cols
   pub in_rows : dy < placement.grid.rows
-  pub there : number_under shape placement dx dy ≡ point_in_frame corner shape column row
+  pub on_point : number_under shape placement dx dy ≡ point_in_frame corner shape column row
 
 -- the placement covers the corner, with empty, black and white cells alone
 abbrev pub CoversCorner : Shape → Placement → ℕ → Type 0

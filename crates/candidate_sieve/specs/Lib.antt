@@ -1,8 +1,8 @@
--- Words that contracts of public functions rest on.
+-- Definitions that contracts of public functions rest on.
 pub mod Candidates
 pub mod Kept
 pub mod NodeCandidates
--- Words of private functions.
+-- Definitions of private functions.
 pub mod BlockGames
 pub mod FrameCells
 pub mod Noting

@@ -1,4 +1,4 @@
--- How points and nodes are noted: words for private functions.
+-- How points and nodes are noted: definitions for private functions.
 use Rattle.std.specs.Prelude.{◌≡◌, ℕ, ◌+◌, ◌<◌, ◌⊎◌, ◌↔◌, List, length, slice_index_or, Contains}
 use Rattle.kb_geometry.specs.declared.stone.Cell.{Cell}
 use Rattle.kb_geometry.specs.Board.{point_count}

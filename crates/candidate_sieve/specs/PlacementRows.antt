@@ -1,4 +1,4 @@
--- Placements in rows: words of private functions.
+-- Placements in rows: definitions of private functions.
 use Rattle.std.specs.Prelude.{◌≡◌, ◌≢◌, ◌⊎◌, ℕ, ◌+◌, ◌<◌, ◌≤◌, ◌++◌, ◌∷◌, [], List, length, slice_index, slice_index_or}
 use Rattle.pattern_images.specs.ImageList.{ImageList, grid_at, placement_at}
 use Rattle.capture_index.specs.Wants.{base_of}

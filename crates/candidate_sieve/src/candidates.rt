@@ -22,7 +22,7 @@ ghost use Rattle.capture_index.specs.Wants.{AreStonesFirst};
 ghost use Rattle.final_index.specs.Planes.{HadThere};
 ghost use Rattle.candidate_sieve.specs.BlockGames.{
   AreAddedFor,
-  AreAlwaysEmpty,
+  AreEverEmpty,
   HadWanted,
   HaveEach,
   IsAddedFor,
@@ -44,10 +44,11 @@ pub struct Candidate {
     pub games: u64,
 }
 
-/// Adds, for each placement that some game of the block may have, these games of those that are
-/// asked for: the games on boards of the shape of which each cell of the placement but wildcards
-/// was allowed at some node. The candidates come class by class. `room` is written over. The only
-/// error is `NoMemory`. After it the list begins with what was in it before.
+/// Adds, for each placement that some of these games of the block may have, those that may have it:
+/// the games on boards of the shape of which each cell of the placement but wildcards was allowed at
+/// some node. `games` has a bit for each game of the block, by its number. The candidates come class
+/// by class. `room` is written over. The only error is `NoMemory`. After it the list begins with what
+/// was in it before.
 pub fn add_candidates(
     planes: &Planes,
     rows: &PlacementRows,
@@ -66,31 +67,24 @@ pub fn add_candidates(
     ensures refused { OnErr result (IsPrefix found.old.items found.new.items) }
 {
     let among = games & planes.present();
-    let always_empty = planes.always_empty();
+    let ever_empty = planes.ever_empty();
     let _count = rows.images.len();
     for row in &rows.rows {
         let wants = wants.of_class(row.class).wants;
         let numbers = &rows.numbers[row.start..row.start + row.count];
         sieve_row(
-            planes,
-            always_empty,
-            row.base,
-            wants,
-            numbers,
-            among,
-            room,
-            found,
+            planes, ever_empty, row.base, wants, numbers, among, room, found,
         )?;
     }
     Ok(())
 }
 
 // Adds a candidate for each placement of a row that some of the games `among` may have: the first has
-// its upper left point on the base. In the games `always_empty` each point was empty at some node.
+// its upper left point on the base. In the games `ever_empty` each point was empty at some node.
 // Many rows have one placement, whose word needs no room.
 fn sieve_row(
     planes: &Planes,
-    always_empty: u64,
+    ever_empty: u64,
     base: u16,
     wants: &[Want],
     numbers: &[u32],
@@ -98,7 +92,7 @@ fn sieve_row(
     room: &mut Vec<u64>,
     found: &mut Vec<Candidate>,
 ) -> Result<(), NoMemory>
-    requires always_empty { AreAlwaysEmpty planes.now always_empty }
+    requires ever_empty { AreEverEmpty planes.now ever_empty }
     requires stones_first { AreStonesFirst wants.now }
     requires on_board { All (λ (w : Want). base + w.offset + length numbers.now
         ≤ point_count planes.now.shape) wants.now }
@@ -109,28 +103,20 @@ fn sieve_row(
     if let [number] = numbers {
         add_games(
             *number,
-            games_at(planes, always_empty, base, wants, among),
+            games_at(planes, ever_empty, base, wants, among),
             found,
         )?;
         return Ok(());
     }
-    fill_room(
-        planes,
-        always_empty,
-        base,
-        wants,
-        among,
-        numbers.len(),
-        room,
-    )?;
+    fill_room(planes, ever_empty, base, wants, among, numbers.len(), room)?;
     add_row(numbers, room, found)?;
     Ok(())
 }
 
 // Those of the games `among` that had, for each want, a cell that it allows on its point behind the
 // base.
-fn games_at(planes: &Planes, always_empty: u64, base: u16, wants: &[Want], among: u64) -> u64
-    requires always_empty { AreAlwaysEmpty planes.now always_empty }
+fn games_at(planes: &Planes, ever_empty: u64, base: u16, wants: &[Want], among: u64) -> u64
+    requires ever_empty { AreEverEmpty planes.now ever_empty }
     requires stones_first { AreStonesFirst wants.now }
     requires on_board { All (λ (w : Want). base + w.offset + 1 ≤ point_count planes.now.shape)
         wants.now }
@@ -138,7 +124,7 @@ fn games_at(planes: &Planes, always_empty: u64, base: u16, wants: &[Want], among
 {
     let mut games = among;
     for k in 0..wants.len() {
-        if is_settled(wants[k], always_empty, games) {
+        if is_settled(wants[k], ever_empty, games) {
             return games;
         }
         games = games_with(planes, wants[k], base + wants[k].offset, games);
@@ -148,12 +134,12 @@ fn games_at(planes: &Planes, always_empty: u64, base: u16, wants: &[Want], among
 
 // Whether a want and those behind it ask nothing of the games of a word: there are none, or in each
 // every point was empty at some node and the want allows an empty point, as then the others do too.
-fn is_settled(want: Want, always_empty: u64, games: u64) -> bool
+fn is_settled(want: Want, ever_empty: u64, games: u64) -> bool
     ensures { IsTrue result → (g : ℕ) → bit_at games g ≡ 1 →
-        (bit_at always_empty g ≡ 1) × IsTrue want.empty }
+        (bit_at ever_empty g ≡ 1) × IsTrue want.empty }
 {
     if want.empty {
-        return are_among(games, always_empty);
+        return are_among(games, ever_empty);
     }
     games == 0
 }
@@ -206,14 +192,14 @@ fn games_with_either(planes: &Planes, one: Cell, other: Cell, point: u16, games:
 // may have it.
 fn fill_room(
     planes: &Planes,
-    always_empty: u64,
+    ever_empty: u64,
     base: u16,
     wants: &[Want],
     among: u64,
     count: usize,
     room: &mut Vec<u64>,
 ) -> Result<(), NoMemory>
-    requires always_empty { AreAlwaysEmpty planes.now always_empty }
+    requires ever_empty { AreEverEmpty planes.now ever_empty }
     requires stones_first { AreStonesFirst wants.now }
     requires on_board { All (λ (w : Want). base + w.offset + count ≤ point_count planes.now.shape)
         wants.now }
@@ -223,7 +209,7 @@ fn fill_room(
 {
     room.clear();
     room.resize(count, among)?;
-    keep_wanted(planes, always_empty, base, wants, room);
+    keep_wanted(planes, ever_empty, base, wants, room);
     Ok(())
 }
 
@@ -231,8 +217,8 @@ fn fill_room(
 // stands behind the base for the first word, behind the next point for the next, and so on. In most
 // games each point was empty at some node, and then wants that allow an empty point ask nothing. The
 // others stand first.
-fn keep_wanted(planes: &Planes, always_empty: u64, base: u16, wants: &[Want], words: &mut [u64])
-    requires always_empty { AreAlwaysEmpty planes.now always_empty }
+fn keep_wanted(planes: &Planes, ever_empty: u64, base: u16, wants: &[Want], words: &mut [u64])
+    requires ever_empty { AreEverEmpty planes.now ever_empty }
     requires stones_first { AreStonesFirst wants.now }
     requires on_board { All (λ (w : Want). base + w.offset + length words.old
         ≤ point_count planes.now.shape) wants.now }
@@ -241,7 +227,7 @@ fn keep_wanted(planes: &Planes, always_empty: u64, base: u16, wants: &[Want], wo
         (slice_index words.old k) (length wants.now) (slice_index words.new k) }
 {
     for k in 0..wants.len() {
-        if are_settled(wants[k], always_empty, words) {
+        if are_settled(wants[k], ever_empty, words) {
             return;
         }
         keep_want(planes, wants[k], base + wants[k].offset, words);
@@ -250,14 +236,14 @@ fn keep_wanted(planes: &Planes, always_empty: u64, base: u16, wants: &[Want], wo
 
 // Whether a want and those behind it ask nothing of the games of some words. Mostly the first word
 // alone tells that they ask something.
-fn are_settled(want: Want, always_empty: u64, words: &[u64]) -> bool
+fn are_settled(want: Want, ever_empty: u64, words: &[u64]) -> bool
     ensures { IsTrue result → (k g : ℕ) → k < length words.now →
-        bit_at (slice_index words.now k) g ≡ 1 → (bit_at always_empty g ≡ 1) × IsTrue want.empty }
+        bit_at (slice_index words.now k) g ≡ 1 → (bit_at ever_empty g ≡ 1) × IsTrue want.empty }
 {
-    if words.len() > 0 && !is_settled(want, always_empty, words[0]) {
+    if words.len() > 0 && !is_settled(want, ever_empty, words[0]) {
         return false;
     }
-    is_settled(want, always_empty, joined(words))
+    is_settled(want, ever_empty, joined(words))
 }
 
 // All games that are in some of the words. Each word is looked at, so the loop has no branch.

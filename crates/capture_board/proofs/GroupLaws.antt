@@ -1,4 +1,4 @@
--- Laws of the words of the capture rule: neighbours come in pairs, and groups divide the points of a board.
+-- Laws of the definitions of the capture rule: neighbours come in pairs, and groups divide the points of a board.
 use Rattle.std.proofs.Common.{◌≡◌, ℕ, ◌⊎◌, ◌↔◌, inl, inr, List, refl, sym}
 use Rattle.std.specs.Prelude.{Contains}
 use Rattle.kb_geometry.specs.declared.shape.Shape.{Shape}

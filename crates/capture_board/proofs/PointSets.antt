@@ -128,22 +128,22 @@ pub All-from_contains : (P : ℕ → Type 0) (xs : List ℕ) → ((q : ℕ) → 
 All-from_contains P xs h k d lt = h (get_or xs k d) (Contains-get_or xs k d lt)
 
 -- a set to which the first points of another one have been added
-pub record IsJoined (before others after : List ℕ) (count : ℕ) : Type 0 where
+pub record AreInserted (before others after : List ℕ) (count : ℕ) : Type 0 where
   pub only : (q : ℕ) → Contains after q → Contains before q ⊎ Contains others q
   pub kept : (q : ℕ) → Contains before q → Contains after q
   pub added : (k : ℕ) → k < count → Contains after (get_or others k 0)
 
 module _ (before others : List ℕ) where
-  pub IsJoined-none : IsJoined before others before 0
-  IsJoined-none = record { only = λ q h. inl h; kept = λ q h. h; added = λ k lt. absurd (omega arith) }
+  pub AreInserted-none : AreInserted before others before 0
+  AreInserted-none = record { only = λ q h. inl h; kept = λ q h. h; added = λ k lt. absurd (omega arith) }
 
-  module _ (after : List ℕ) (n : ℕ) (so_far : IsJoined before others after n) where
+  module _ (after : List ℕ) (n : ℕ) (so_far : AreInserted before others after n) where
     joined_only : n < length others → (q : ℕ) → Contains after q ⊎ (get_or others n 0 ≡ q) → Contains before q ⊎ Contains others q
     joined_only lt q (inl h) = so_far.only q h
     joined_only lt q (inr e) = inr (rw (← e) (Contains-get_or others n 0 lt))
 
-    pub IsJoined-more : n < length others → (grown : List ℕ) → IsWithPoint after (get_or others n 0) grown → IsJoined before others grown (n + 1)
-    IsJoined-more lt grown with = record {
+    pub AreInserted-more : n < length others → (grown : List ℕ) → IsWithPoint after (get_or others n 0) grown → AreInserted before others grown (n + 1)
+    AreInserted-more lt grown with = record {
       only = λ q h. joined_only lt q (IsWithPoint-only after (get_or others n 0) grown with q h);
       kept = λ q h. IsWithPoint-keeps after (get_or others n 0) grown with q (so_far.kept q h);
       added = below_more _ _ (λ k below. IsWithPoint-keeps after (get_or others n 0) grown with (get_or others k 0) (so_far.added k below)) (IsWithPoint-has after (get_or others n 0) grown with);
@@ -155,5 +155,5 @@ module _ (before others : List ℕ) where
         let here : get_or others m.0 0 ≡ q = get_or_default others m.0 0 q m.1 ∙ m.2 in
         rw (← here) (so_far.added m.0 (omega (arith, m.1)))
 
-    pub IsJoined-all : length others ≤ n → (q : ℕ) → Contains after q ↔ (Contains before q ⊎ Contains others q)
-    IsJoined-all all q = (so_far.only q, joined_all all q)
+    pub AreInserted-all : length others ≤ n → (q : ℕ) → Contains after q ↔ (Contains before q ⊎ Contains others q)
+    AreInserted-all all q = (so_far.only q, joined_all all q)

@@ -1,5 +1,5 @@
--- The points that a list of changes has noted, and the list. These words mirror the fields, which
--- no public clause names.
+-- The points that a list of changes has noted, and the list. These definitions mirror the fields,
+-- which no public clause names.
 use Rattle.std.specs.Prelude.{◌≡◌, ◌≢◌, ℕ, ◌<◌, ◌≤◌, ◌↔◌, List, length, take, slice_index_or, All, AllPairs, Any, Contains}
 use Rattle.kb_geometry.specs.declared.stone.Change.{Change}
 use Rattle.kb_geometry.specs.Capture.{Position, cell_at}

@@ -1,10 +1,10 @@
--- Words that contracts of public functions rest on.
+-- Definitions that contracts of public functions rest on.
 pub mod Board
 pub mod Changes
 pub mod Deltas
 pub mod PointSet
 pub mod Walking
--- Words of private functions.
+-- Definitions of private functions.
 pub mod ChangedPoints
 pub mod Runs
 pub mod StoredDeltas

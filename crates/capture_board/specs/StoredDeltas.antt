@@ -1,4 +1,4 @@
--- How the changes at the nodes are stored: words for the private functions of `NodeDeltas`.
+-- How the changes at the nodes are stored: definitions for the private functions of `NodeDeltas`.
 use Rattle.std.specs.Prelude.{◌≡◌, ℕ, ◌+◌, ◌*◌, ◌≤◌, List, length, map, slice_index_or}
 use Rattle.std.specs.List.{range_with_len, between}
 use Rattle.node_paths.specs.StoredNodes.{AreParts, part_start, stored_parent}

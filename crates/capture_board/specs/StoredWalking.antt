@@ -1,4 +1,4 @@
--- What a walker keeps: words for its private functions.
+-- What a walker keeps: definitions for its private functions.
 use Rattle.std.specs.Prelude.{◌≡◌, ℕ, ◌<◌, ◌↔◌, List, [], ◌∷◌, slice_set, Contains}
 use Rattle.kb_geometry.specs.declared.stone.Cell.{Cell}
 use Rattle.kb_geometry.specs.declared.stone.Cell.TheVariants as cell

@@ -1,4 +1,4 @@
--- The nodes of stretches at which something begins: words for the private functions.
+-- The nodes of stretches at which something begins: definitions for the private functions.
 use Rattle.std.specs.Prelude.{◌≡◌, ℕ, ◌<◌, ◌≤◌, ◌⊎◌, ◌↔◌, List, Some, Contains, length, slice_index_or}
 use Rattle.capture_index.specs.declared.run.Branch.{Branch}
 use Rattle.capture_index.specs.declared.stretch.Stretch.{Stretch}

@@ -1,4 +1,4 @@
--- Bounds of the nodes at which something is wanted: words for the private functions.
+-- Bounds of the nodes at which something is wanted: definitions for the private functions.
 use Rattle.std.specs.Prelude.{◌≡◌, ℕ, ◌/◌, ◌<◌, ◌≤◌, false}
 use Rattle.capture_index.specs.declared.bounds.Bounds.{Bounds}
 use Rattle.capture_index.specs.declared.hull.Hull.{Hull}

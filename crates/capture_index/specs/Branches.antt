@@ -1,4 +1,4 @@
--- The nodes at which the text goes back: words for the private functions.
+-- The nodes at which the text goes back: definitions for the private functions.
 use Prim.Native.Nat.{zero}
 use Rattle.std.specs.Prelude.{◌≡◌, ◌≢◌, ℕ, suc, ◌-◌, ◌==◌, ◌<◌, ◌≤◌, List, [], ◌∷◌, if◌then◌else◌, length, slice_index_or, Option, Some, None}
 use Rattle.capture_board.specs.Deltas.{Deltas, parent_of}

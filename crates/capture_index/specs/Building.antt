@@ -1,4 +1,4 @@
--- The runs of a game while they are made, node by node: words for the private functions.
+-- The runs of a game while they are made, node by node: definitions for the private functions.
 use Rattle.std.specs.Prelude.{◌≡◌, ℕ, ◌<◌, ◌≤◌, List, length}
 use Rattle.kb_geometry.specs.declared.stone.Cell.{Cell}
 use Rattle.kb_geometry.specs.Board.{point_count}

@@ -1,8 +1,8 @@
--- Words that contracts of public functions rest on.
+-- Definitions that contracts of public functions rest on.
 pub mod NodePositions
 pub mod Stretches
 pub mod Wants
--- Words of private functions.
+-- Definitions of private functions.
 pub mod Begins
 pub mod Bounds
 pub mod Branches

@@ -1,4 +1,4 @@
--- How the runs are linked while they are made: words for the private functions.
+-- How the runs are linked while they are made: definitions for the private functions.
 use Prim.Native.Nat.{zero}
 use Rattle.std.specs.Prelude.{ℕ, ◌<◌, ◌≤◌, suc, List, [], ◌∷◌, length, slice_index_or, All}
 use Rattle.kb_geometry.specs.declared.stone.Cell.TheVariants as stone

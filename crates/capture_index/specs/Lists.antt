@@ -1,4 +1,4 @@
--- The words of points and the lists of their runs: words for the private functions.
+-- The words of points and the lists of their runs: definitions for the private functions.
 use Rattle.std.specs.Prelude.{◌≡◌, ℕ, ◌-◌, ◌/◌, ◌%◌, ◌<◌, ◌≤◌, ◌==◌, nat_le, Bool, IsTrue, List, [], ◌∷◌, if◌then◌else◌, length, slice_index_or, slice_range}
 use Rattle.kb_geometry.specs.declared.stone.Cell.TheVariants as stone
 use Rattle.capture_index.specs.declared.run.Run.{Run}

@@ -1,4 +1,4 @@
--- The runs of a game as words and lists: words for the private functions that pack them.
+-- The runs of a game as words and lists: definitions for the private functions that pack them.
 use Rattle.std.specs.Prelude.{◌≡◌, ℕ, ◌<◌, ◌≤◌, List, [], ◌∷◌, length}
 use Rattle.capture_index.specs.declared.growing.Few.{Few}
 use Rattle.capture_index.specs.declared.growing.Few.TheVariants as few

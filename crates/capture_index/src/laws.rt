@@ -1,4 +1,4 @@
-// Laws of the words of `specs/`, as contracts of functions that do nothing.
+// Laws of the definitions of `specs/`, as contracts of functions that do nothing.
 ghost use Rattle.std.specs.Prelude.{◌≡◌, ◌+◌, ◌<◌, ◌↔◌, ℕ, All, Contains, IsTrue, List};
 ghost use Rattle.kb_geometry.specs.declared.shape.Shape.{Shape};
 ghost use Rattle.kb_geometry.specs.declared.stone.Cell.{Cell};

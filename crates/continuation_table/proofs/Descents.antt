@@ -8,7 +8,7 @@ use Rattle.kb_geometry.specs.declared.shape.Point.{Point}
 use Rattle.kb_geometry.specs.declared.stone.Colour.{Colour}
 use Rattle.kb_geometry.specs.Symmetry.{point_of}
 use Rattle.game_tree.specs.declared.node.Move.{Move}
-use Rattle.game_tree.specs.Stored.{one_if}
+use Rattle.kb_geometry.specs.Counts.{one_if}
 use Rattle.game_tree.specs.Tree.{Tree, IsTree, first_child_of, move_number_of, node_at, parent_of}
 use Rattle.game_tree.proofs.Paths.{move_number-parent}
 use Rattle.capture_board.specs.Deltas.{Deltas}

@@ -14,8 +14,8 @@ use Rattle.pattern_images.specs.declared.hit.Hit.{Hit}
 use Rattle.pattern_images.specs.declared.hit.Next.{Next}
 use Rattle.continuation_table.specs.declared.table.Row.{Row}
 use Rattle.continuation_table.specs.declared.tally.Tally.{Tally}
-use Rattle.continuation_table.specs.Counting.{HaveSameNext, IsPlaceIn, IsRowAdded, IsWithinCount, absent, counted, there}
-use Rattle.game_tree.specs.Stored.{one_if}
+use Rattle.continuation_table.specs.Counting.{HaveSameNext, IsPlaceIn, IsRowAdded, IsWithinCount, absent, counted, one_more}
+use Rattle.kb_geometry.specs.Counts.{one_if}
 use Rattle.continuation_table.specs.Table.{AreRows, IsRowOf, IsTold, going_on, goes_on, is_colour, is_later, is_no_win, is_now, is_win, tally_of}
 use Rattle.continuation_table.proofs.RowOrder.{at_above, at_below, at_place, new_before, no_same, only_one, ordered_insert, ordered_set, same_self, set_same}
 
@@ -242,7 +242,7 @@ module _ (hits : List Hit) (rows : List Row) (hit : Hit) (are : AreRows hits row
     }
 
   pub AreRows-added : (after : List Row) → new.tally ≡ counted (tally_of []) hit → IsRowAdded hit rows new after → AreRows (hits ++ hit ∷ []) after
-  AreRows-added after first (there i d place lt same) = rows_set i d lt same
+  AreRows-added after first (one_more i d place lt same) = rows_set i d lt same
   AreRows-added after first (absent i place missing) = rows_inserted i place missing first
 
 -- as the code sets a row
@@ -250,7 +250,7 @@ pub row_there : (hit : Hit) (old : List Row) (new : Row) (i : ℕ) (row : Row) (
 row_there hit old new i row tally place lt is same told =
     subst (λ (r : Row). IsRowAdded hit old new (set old i r))
     (ap (λ (r : Row). record { colour = r.colour; x = r.x; y = r.y; tally = counted r.tally hit }) (sym is) ∙ ap (λ (t : Tally). record { colour = row.colour; x = row.x; y = row.y; tally = t }) (sym told))
-    (there i row place lt (subst (λ (r : Row). HaveSameNext r new) is same))
+    (one_more i row place lt (subst (λ (r : Row). HaveSameNext r new) is same))
 
 -- no hit has no row
 pub AreRows-start : AreRows [] []

@@ -9,7 +9,7 @@ use Rattle.pattern_images.specs.declared.hit.Hit.{Hit}
 use Rattle.pattern_images.specs.declared.hit.Next.{Next}
 use Rattle.pattern_images.proofs.Tellings.{Told, least_below}
 use Rattle.continuation_table.specs.declared.table.Row.{Row}
-use Rattle.continuation_table.specs.Counting.{HaveSameNext, IsPlaceIn, IsRowAdded, absent, counted, there}
+use Rattle.continuation_table.specs.Counting.{HaveSameNext, IsPlaceIn, IsRowAdded, absent, counted, one_more}
 use Rattle.continuation_table.specs.Table.{AreRows, IsRowBefore, IsTable, TableView, tally_of}
 use Rattle.continuation_table.proofs.KeptRows.{AreRows-added, AreRows-none, AreRows-start}
 use Rattle.continuation_table.proofs.RowOrder.{not_before_from}
@@ -115,7 +115,7 @@ module _ (rows : List Row) (ordered : AllPairs IsRowBefore rows) (new : Row) whe
       elim (cases_lt i (length rows)) [
         | inr past ↦ (_, absent i place (λ d lt. absurd (omega arith)))
         | inl lt ↦ elim (told_same (get_or rows i new) new) [
-          | inl same ↦ (_, there i new place lt same)
+          | inl same ↦ (_, one_more i new place lt same)
           | inr other ↦ (
             _,
             absent i place (λ d less same.

@@ -1,8 +1,8 @@
--- Words of the private functions that count hits and keep the rows.
+-- Definitions of the private functions that count hits and keep the rows.
 use Rattle.std.specs.Prelude.{◌≡◌, ℕ, ◌+◌, ◌<◌, ◌≤◌, List, length, slice_index_or, slice_set}
 use Rattle.std.specs.List.{insert}
 use Rattle.kb_geometry.specs.declared.stone.Colour.TheVariants as colour
-use Rattle.game_tree.specs.Stored.{one_if}
+use Rattle.kb_geometry.specs.Counts.{one_if}
 use Rattle.pattern_images.specs.declared.hit.Hit.{Hit}
 use Rattle.continuation_table.specs.declared.table.Row.{Row}
 use Rattle.continuation_table.specs.declared.tally.Tally.{Tally}
@@ -42,7 +42,7 @@ pub record IsPlaceIn (rows : List Row) (new : Row) (i : ℕ) : Type 0 where
 -- The rows with one hit more, which goes on as the new row tells: that row's tally has one hit
 -- more, or the new row is put in.
 pub data IsRowAdded (hit : Hit) (old : List Row) (new : Row) : List Row → Type 0 where
-  there : (i : ℕ) (d : Row) → IsPlaceIn old new i → i < length old →
+  one_more : (i : ℕ) (d : Row) → IsPlaceIn old new i → i < length old →
       HaveSameNext (slice_index_or old i d) new →
       IsRowAdded hit old new (slice_set old i (record {
         colour = (slice_index_or old i d).colour;

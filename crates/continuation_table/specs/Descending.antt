@@ -1,4 +1,4 @@
--- Words of the private functions that go down from a node.
+-- Definitions of the private functions that go down from a node.
 use Rattle.std.specs.Prelude.{◌≡◌, ℕ, ◌+◌, ◌-◌, ◌<◌, ◌≤◌, ◌↔◌, suc, Bool, IsTrue, List, All, Some, None}
 use Rattle.kb_geometry.specs.declared.shape.Shape.{Shape}
 use Rattle.kb_geometry.specs.declared.shape.Point.{Point}

@@ -1,8 +1,8 @@
--- Words that contracts of public functions rest on.
+-- Definitions that contracts of public functions rest on.
 pub mod Continuation
 pub mod Places
 pub mod Table
--- Words of private functions.
+-- Definitions of private functions.
 pub mod Counting
 pub mod Descending
 pub mod Rebuilding

@@ -1,4 +1,4 @@
--- Words of the private functions that rebuild the position at a node.
+-- Definitions of the private functions that rebuild the position at a node.
 use Rattle.std.specs.Prelude.{ℕ, List, Option, Some, None, is_some, slice_index_or, slice_set, if◌then◌else◌}
 use Rattle.std.specs.Option.{option_map_or}
 use Rattle.kb_geometry.specs.declared.stone.Cell.{Cell}

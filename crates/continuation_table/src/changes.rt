@@ -61,14 +61,14 @@ fn is_outside(span: Span, number: u16) -> bool
 }
 
 // Whether a placement still holds at a node. It is known to hold at the parent, and at the node itself
-// if that stands before `known`. The place and the span are those of the placement.
+// if that stands before `held_to`. The place and the span are those of the placement.
 pub(crate) fn still_holds(
     deltas: &NodeDeltas,
     images: &Images,
     i: usize,
     place: Place,
     span: Span,
-    known: u32,
+    held_to: u32,
     node: u32,
 ) -> bool
     requires shape { images.now.shape ≡ deltas.now.shape }
@@ -78,13 +78,13 @@ pub(crate) fn still_holds(
     requires span { IsSpan images.now.shape (placement_at images.now.placements i) span.first
         span.last }
     requires node { node < node_count deltas.now }
-    requires known { node < known →
+    requires held_to { node < held_to →
         HoldsAt deltas.now (placement_at images.now.placements i) node }
     ensures { (above : ℕ) → parent_of deltas.now node ≡ Some above →
         HoldsAt deltas.now (placement_at images.now.placements i) above →
         (IsTrue result ↔ HoldsAt deltas.now (placement_at images.now.placements i) node) }
 {
-    if node < known {
+    if node < held_to {
         return true;
     }
     are_allowed(images, i, place, span, deltas.changes(node))

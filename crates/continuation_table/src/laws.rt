@@ -1,4 +1,4 @@
-// Laws of the words for continuations and tables, for who reads a contract of this crate.
+// Laws of the definitions for continuations and tables, for who reads a contract of this crate.
 ghost use Rattle.std.specs.Prelude.{◌≡◌, ◌⊎◌, ℕ, List};
 ghost use Rattle.game_tree.specs.Tree.{IsTree, Tree};
 ghost use Rattle.capture_board.specs.Deltas.{Deltas};
@@ -12,7 +12,7 @@ ghost use Rattle.continuation_table.specs.Table.{IsTable, TableView};
 /// A placement has a continuation at a node of a tree or has none there, and has one only: that of
 /// [`next_below`](crate::next_below).
 pub fn a_placement_has_one_continuation_or_none()
-    ensures told { (tree : Tree) (changes : Deltas) (placement : Placement) (n : ℕ) →
+    ensures one_or_none { (tree : Tree) (changes : Deltas) (placement : Placement) (n : ℕ) →
         IsTree tree → IsPlacedOn changes.shape placement →
         ((next : Next) × IsContinuation tree changes placement n next)
         ⊎ ((next : Next) → ¬ IsContinuation tree changes placement n next) }

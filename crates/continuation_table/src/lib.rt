@@ -1,7 +1,7 @@
 //! How games go on where a pattern was found, and a table of that.
 //!
 //! Stands on the trees of games, the changes of their nodes and the images of a query. In `specs/`
-//! are the words for the continuation of a placement at a node, and for the table of a list of
+//! are the definitions for the continuation of a placement at a node, and for the table of a list of
 //! hits. The layer above uses that [`next_of`] gives the continuation, and that [`Table::of`] gives
 //! the table.
 #![tactic(auto)]

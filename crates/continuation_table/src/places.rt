@@ -18,7 +18,7 @@ use pattern_images::{Images, Place};
 /// placement has the place, the number is that of another one, or the count of placements. It takes
 /// as many comparisons as the logarithm of that count.
 pub fn number_of_place(images: &Images, place: Place) -> usize
-    ensures there { (i : ℕ) → i < length images.now.placements →
+    ensures value { (i : ℕ) → i < length images.now.placements →
         IsPlaceOf (placement_at images.now.placements i) place → result ≡ i }
     ensures before { AreBeforePlace images.now.placements place result }
 {

@@ -42,8 +42,8 @@ use pattern_images::{Images, Next, Place};
 /// holds as far as to the parent of its node. `None` exactly where there is none.
 ///
 /// The deltas are those of the tree, and the images are for its board. It is known that the placement
-/// holds at each node from this one up to before `known`, so their changes aren't looked at. A caller
-/// who knows only that it holds at the node passes the node itself as `known`. Nothing is allocated,
+/// holds at each node from this one up to before `held_to`, so their changes aren't looked at. A caller
+/// who knows only that it holds at the node passes the node itself as `held_to`. Nothing is allocated,
 /// and no position is built: the cost is that of the nodes down to the move, or to the first one where
 /// the placement doesn't hold.
 pub fn next_below(
@@ -52,14 +52,14 @@ pub fn next_below(
     images: &Images,
     i: usize,
     node: u32,
-    known: u32,
+    held_to: u32,
 ) -> Option<Next>
     requires deltas { AreNodeChanges tree.now deltas.now }
     requires shape { images.now.shape ≡ tree.now.shape }
     requires placement { i < length images.now.placements }
     requires node { node < node_count tree.now }
     requires holds { HoldsAt deltas.now (placement_at images.now.placements i) node }
-    requires known { (k : ℕ) → node ≤ k → k < known →
+    requires held_to { (k : ℕ) → node ≤ k → k < held_to →
         HoldsAt deltas.now (placement_at images.now.placements i) k }
     ensures some { IfSome result
         (λ next. IsContinuation tree.now deltas.now (placement_at images.now.placements i) node
@@ -69,14 +69,14 @@ pub fn next_below(
 {
     let place = images.place(i);
     let span = span_of(tree.shape(), place);
-    let mut here = passed_to(tree, place, node, known);
+    let mut here = passed_to(tree, place, node, held_to);
     while let Some(child) = tree.first_child(here) {
         if let Some(Inside { colour, point }) = move_inside(tree, place, child) {
             // None played between if the path to here has no more moves than that to the node.
             let now = tree.move_number(here) == tree.move_number(node);
             return Some(next_by(images, i, colour, point, now));
         }
-        if !still_holds(deltas, images, i, place, span, known, child) {
+        if !still_holds(deltas, images, i, place, span, held_to, child) {
             return None;
         }
         here = child;
@@ -84,10 +84,10 @@ pub fn next_below(
     None
 }
 
-// The last node on the way down the main line from a node, among those before `known`, before a move
+// The last node on the way down the main line from a node, among those before `held_to`, before a move
 // in the rectangle of the place comes; the node itself off the main line. Most hits are on the main
-// line, and most nodes below them stand before `known`: here only their moves are looked at.
-fn passed_to(tree: &GameTree, place: Place, node: u32, known: u32) -> u32
+// line, and most nodes below them stand before `held_to`: here only their moves are looked at.
+fn passed_to(tree: &GameTree, place: Place, node: u32, held_to: u32) -> u32
     requires node { node < node_count tree.now }
     requires columns { place.x + place.cols ≤ 256 }
     requires rows { place.y + place.rows ≤ 256 }
@@ -96,15 +96,15 @@ fn passed_to(tree: &GameTree, place: Place, node: u32, known: u32) -> u32
     ensures moves { move_number_of tree.now node ≤ move_number_of tree.now result }
     ensures way { (deltas : Deltas) → (placement : Placement) → IsPlaceOf placement place →
         HoldsAt deltas placement node →
-        ((k : ℕ) → node ≤ k → k < known → HoldsAt deltas placement k) →
+        ((k : ℕ) → node ≤ k → k < held_to → HoldsAt deltas placement k) →
         IsWayDown tree.now deltas placement node result
         (move_number_of tree.now result == move_number_of tree.now node) }
-    ensures stopped { result + 1 < known → IsOnMainLine tree.now (result + 1) →
+    ensures stopped { result + 1 < held_to → IsOnMainLine tree.now (result + 1) →
         (placement : Placement) → IsPlaceOf placement place →
         HasMoveInside tree.now placement (result + 1) }
 {
     let _count = tree.node_count();
-    let end = known.min(tree.main_count());
+    let end = held_to.min(tree.main_count());
     let mut here = node;
     while here + 1 < end {
         if has_move_inside(tree, place, here + 1) {

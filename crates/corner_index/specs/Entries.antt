@@ -1,4 +1,4 @@
--- How the entries of a corner are kept: words for private functions.
+-- How the entries of a corner are kept: definitions for private functions.
 use Rattle.std.specs.Prelude.{◌≡◌, ℕ, ◌+◌, ◌<◌, ◌≤◌, ◌⊎◌, ◌↔◌, List, length, map, slice_index}
 use Rattle.std.specs.List.{range_with_len}
 use Rattle.corner_index.specs.CornerGames.{Entry, entry}

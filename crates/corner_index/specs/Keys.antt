@@ -1,4 +1,4 @@
--- How the numbers of the corners are made and kept: words for private functions.
+-- How the numbers of the corners are made and kept: definitions for private functions.
 use Rattle.std.specs.Prelude.{◌≡◌, ℕ, ◌*◌, ◌/◌, ◌%◌, ◌<◌, ◌≤◌, ◌↔◌, List, length, map, slice_index, Contains}
 use Rattle.std.specs.List.{range_with_len, between}
 use Rattle.std.specs.List.Sorted.{IsStrictlyIncreasing}

@@ -1,6 +1,6 @@
--- Words that contracts of public functions rest on.
+-- Definitions that contracts of public functions rest on.
 pub mod CornerGames
 pub mod Corners
--- Words of private functions.
+-- Definitions of private functions.
 pub mod Entries
 pub mod Keys

@@ -111,7 +111,7 @@ fn place_of(shape: Shape, corner: u8, point: u16) -> Option<u8>
     requires sides { HasCorners shape }
     requires point { point < point_count shape }
     ensures below { IfSome result (λ place. place < 36) }
-    ensures there { (k : ℕ) → k < 36 → (result ≡ Some k) ↔ (point_on corner shape k ≡ point) }
+    ensures exact { (k : ℕ) → k < 36 → (result ≡ Some k) ↔ (point_on corner shape k ≡ point) }
 {
     let at = in_frame(shape, corner, shape.point(point));
     if at.x < SIDE && at.y < SIDE {

@@ -7,7 +7,8 @@ use Rattle.kb_geometry.specs.Board.{IsOnBoard}
 use Rattle.game_tree.specs.declared.node.Move.{Move}
 use Rattle.game_tree.specs.Built.{IsGrown}
 use Rattle.game_tree.specs.MainLine.{IsOnMainLine}
-use Rattle.game_tree.specs.Stored.{IsMainEnd, one_if}
+use Rattle.kb_geometry.specs.Counts.{one_if}
+use Rattle.game_tree.specs.Stored.{IsMainEnd}
 use Rattle.game_tree.specs.Tree.{IsTree, Tree, move_number_of, node_at, node_count}
 use Rattle.game_tree.proofs.MainLines.{IsOnMainLine-below, main_end}
 use Rattle.game_tree.proofs.Paths.{move_number-parent}

@@ -1,4 +1,4 @@
--- Words that contracts of public functions rest on.
+-- Definitions that contracts of public functions rest on.
 pub mod Images
 pub mod Patterns
 pub mod Signatures

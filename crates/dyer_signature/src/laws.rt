@@ -1,4 +1,5 @@
-// Laws of the words for signatures, images and patterns, for who reads a contract of this crate.
+// Laws of the definitions for signatures, images and patterns, for who reads a contract of this
+// crate.
 ghost use Rattle.std.specs.Prelude.{◌≡◌, ◌⊎◌, ◌↔◌, ℕ, List};
 ghost use Rattle.kb_geometry.specs.declared.shape.Shape.{Shape};
 ghost use Rattle.game_tree.specs.Tree.{IsTree, Tree};

@@ -1,8 +1,8 @@
 //! Signatures of games, after Dyer: where moves 20, 40, 60, 31, 51 and 71 of a game were played.
 //!
-//! Stands on kb_geometry and game_tree. In `specs/` are the words for the signature of a tree, for
-//! the images of a signature under the symmetries of its board and the least of them, and for
-//! signature patterns. The layers above use that [`canonical`] gives the least image, by which
+//! Stands on kb_geometry and game_tree. In `specs/` are the definitions for the signature of a
+//! tree, for the images of a signature under the symmetries of its board and the least of them, and
+//! for signature patterns. The layers above use that [`canonical`] gives the least image, by which
 //! copies of a game are found however they are turned.
 #![tactic(auto)]
 

@@ -164,7 +164,7 @@ module _ (points count : ℕ) (few : count ≤ 64) (words : List ℕ) (none : wo
     room = ap length none ∙ length-replicate {A = ℕ} (3 * points) 0;
     few = few;
     counted = λ g e. absurd (omega (arith, e, bit_at-zero g));
-    there = λ k g e. absurd (omega (arith, e, no_bit k g));
+    of_present = λ k g e. absurd (omega (arith, e, no_bit k g));
   }
 
   pub games_of_words-none : games_of_words points 0 words count ≡ replicate count None
@@ -177,10 +177,10 @@ module _ (points count present : ℕ) (words : List ℕ) (are : ArePlaneWords po
   HadThere-bits g stone p lt =
       elim (cases_lt g count) [
         | inl below ↦ subst (λ (game : Option EverSets). (bit_in points words g stone p ≡ 1) ↔ IsSomeAnd game (λ sets. Contains (set_of sets stone) p)) (sym (games_of_words-at points present words count g None below))
-            (told_by_bit points present words g (λ k. are.there k g) stone p lt)
+            (told_by_bit points present words g (λ k. are.of_present k g) stone p lt)
         | inr past ↦
             let nothing = get_or_past (games_of_words points present words count) g None (omega (arith, length-games_of_words points present words count)) in (
-              λ one. absurd (omega (arith, are.counted g (are.there (start_of points stone + p) g one))),
+              λ one. absurd (omega (arith, are.counted g (are.of_present (start_of points stone + p) g one))),
               λ h. absurd (subst (λ (game : Option EverSets). IsSomeAnd game (λ sets. Contains (set_of sets stone) p)) nothing h),
             )
       ]
@@ -198,7 +198,7 @@ module _ (points count present : ℕ) (words : List ℕ) (are : ArePlaneWords po
       room = are.room;
       few = omega arith;
       counted = λ g e. omega (arith, are.counted g e);
-      there = are.there;
+      of_present = are.of_present;
     }
 
     pub games_of_words-left_out : games_of_words points present words (count + 1) ≡ games_of_words points present words count ++ None ∷ []
@@ -235,8 +235,8 @@ module _ (points count present : ℕ) (words : List ℕ) (are : ArePlaneWords po
           | inl here ↦ omega arith
           | inr other ↦ omega (arith, are.counted g (sym (present-other g other) ∙ e))
         ];
-        there = λ k g e. elim ((noted.bits k g).0 e) [
-          | inl was ↦ still g (are.there k g was)
+        of_present = λ k g e. elim ((noted.bits k g).0 e) [
+          | inl was ↦ still g (are.of_present k g was)
           | inr now ↦ ap (λ (j : ℕ). bit_at present' j) now.0 ∙ present-now
         ];
       }
@@ -266,7 +266,7 @@ module _ (points count present : ℕ) (words : List ℕ) (are : ArePlaneWords po
       added_bits stone p = (
         λ h. let lt = on_board stone p h in (lt, (noted.bits (start_of points stone + p) count).1 (inr (refl, (stone, (p, lt, h, refl))))),
         λ h. elim ((noted.bits (start_of points stone + p) count).0 h.1) [
-          | inl was ↦ absurd (omega (arith, are.counted count (are.there (start_of points stone + p) count was)))
+          | inl was ↦ absurd (omega (arith, are.counted count (are.of_present (start_of points stone + p) count was)))
           | inr now ↦
               let place = same_place stone now.1.0 p now.1.1.0 h.0 now.1.1.1 now.1.1.3 in
               subst₂ (λ (c : Cell) (q : ℕ). Contains (set_of sets c) q) (sym place.0) (sym place.1) now.1.1.2
@@ -298,9 +298,9 @@ module _ (points count present : ℕ) (words : List ℕ) (are : ArePlaneWords po
       | inl one ↦ omega (arith, are.counted g one)
       | inr at ↦ omega (arith, at.1, are'.counted at.0 at.2)
     ];
-    there = λ k g e. elim ((all k g).0 e) [
-      | inl one ↦ (joined g).1 (inl (are.there k g one))
-      | inr at ↦ (joined g).1 (inr (at.0, at.1, are'.there k at.0 at.2))
+    of_present = λ k g e. elim ((all k g).0 e) [
+      | inl one ↦ (joined g).1 (inl (are.of_present k g one))
+      | inr at ↦ (joined g).1 (inr (at.0, at.1, are'.of_present k at.0 at.2))
     ];
   }
 
@@ -316,7 +316,7 @@ module _ (points count present : ℕ) (words : List ℕ) (are : ArePlaneWords po
     second_bit : (k : ℕ) → bit_at (slice_index words'' k) g ≡ 1 → bit_at (slice_index words' k) i ≡ 1
     second_bit k e =
         elim ((all k g).0 e) [
-          | inl one ↦ absurd (omega (arith, are.counted g (are.there k g one)))
+          | inl one ↦ absurd (omega (arith, are.counted g (are.of_present k g one)))
           | inr there ↦ let same : there.0 ≡ i = omega (arith, there.1) in subst (λ (j : ℕ). bit_at (slice_index words' k) j ≡ 1) same there.2
         ]
 

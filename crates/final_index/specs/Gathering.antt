@@ -1,4 +1,4 @@
--- How the sets of a game are gathered node by node: words for private functions.
+-- How the sets of a game are gathered node by node: definitions for private functions.
 use Rattle.std.specs.Prelude.{◌≡◌, ◌≢◌, ℕ, ◌<◌, ◌⊎◌, ◌↔◌, List, All, Any, Contains}
 use Rattle.kb_geometry.specs.declared.stone.Cell.{Cell}
 use Rattle.kb_geometry.specs.declared.stone.Change.{Change}

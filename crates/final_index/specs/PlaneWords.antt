@@ -1,4 +1,4 @@
--- How the words of planes hold the sets of games: words for private functions.
+-- How the words of planes hold the sets of games: definitions for private functions.
 use Rattle.std.specs.Prelude.{◌≡◌, ℕ, ◌+◌, ◌*◌, ◌<◌, ◌≤◌, ◌==◌, ◌⊎◌, ◌↔◌, if◌then◌else◌, List, length, map, Option, None, Some, Contains, slice_index}
 use Rattle.std.specs.Int.{bit_at}
 use Rattle.std.specs.List.{range_with_len}
@@ -40,7 +40,7 @@ pub record ArePlaneWords (points count present : ℕ) (words : List ℕ) : Type 
   pub room : length words ≡ 3 * points
   pub few : count ≤ 64
   pub counted : (g : ℕ) → bit_at present g ≡ 1 → g < count
-  pub there : (k g : ℕ) → bit_at (slice_index words k) g ≡ 1 → bit_at present g ≡ 1
+  pub of_present : (k g : ℕ) → bit_at (slice_index words k) g ≡ 1 → bit_at present g ≡ 1
 
 -- the word is that of the cell and one of the first so many points, which is in the set
 abbrev pub IsWordIn : ℕ → ℕ → Cell → List ℕ → ℕ → Type 0

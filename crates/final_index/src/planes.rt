@@ -124,7 +124,7 @@ impl Planes {
     /// The games on boards of the shape in which each point was empty at some node, the one at this
     /// node and the other at that: a bit for each, by its number. All games that begin with an empty
     /// board are among them.
-    pub fn always_empty(&self) -> u64
+    pub fn ever_empty(&self) -> u64
         ensures { (g : ℕ) → g < 64 → (bit_at result g ≡ 1)
             ↔ (IsSome (slice_index_or self.now.games g None)
             × ((p : ℕ) → p < point_count self.now.shape → HadThere self.now.games g Cell.Empty p)) }

@@ -9,7 +9,8 @@ use Rattle.node_paths.proofs.Ancestors.{cases_Option, may_have-none, may_have-so
 use Rattle.node_paths.proofs.MoreParents.{AreParents-more}
 use Rattle.game_tree.specs.declared.node.Move.{Move}
 use Rattle.game_tree.specs.Built.{Built, IsGrown, IsNextParent, tree_so_far, with_node}
-use Rattle.game_tree.specs.Stored.{IsMainEnd, one_if}
+use Rattle.kb_geometry.specs.Counts.{one_if}
+use Rattle.game_tree.specs.Stored.{IsMainEnd}
 use Rattle.game_tree.specs.Tree.{Node, IsNodeOnBoard, node_count, node_at, parent_of, next_sibling_of, move_number_of}
 use Rattle.game_tree.proofs.Paths.{move_number-same, move_number-parent, move_number-root}
 use Rattle.game_tree.proofs.Trees.{parent-past, parent-in_range, next_sibling-is, next_sibling-none, next_sibling-found, next_sibling-missing, next_sibling-root}

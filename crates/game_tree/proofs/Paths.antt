@@ -8,7 +8,7 @@ use Rattle.node_paths.proofs.Ancestors.{cases_Option, parent-lt}
 use Rattle.node_paths.proofs.PathLists.{path_to-parent, path_to-root}
 use Rattle.game_tree.specs.Built.{IsGrown}
 use Rattle.game_tree.specs.Tree.{Tree, node_at, parent_of, move_number_of}
-use Rattle.game_tree.specs.Stored.{one_if}
+use Rattle.kb_geometry.specs.Counts.{one_if}
 
 module _ (tree : Tree) (grown : IsGrown tree) where
   -- the move number of a node is that of its parent, plus 1 if it plays

@@ -22,7 +22,8 @@ use Rattle.game_tree.specs.declared.stored.TreeNode.{TreeNode}
 use Rattle.game_tree.specs.Built.{Built, IsGrown, IsNextParent, tree_of, tree_so_far, with_setup, with_node}
 use Rattle.game_tree.specs.Information.{Information, HasSimpleTexts}
 use Rattle.game_tree.specs.Tree.{IsTree, IsNodeOnBoard, node_count, parent_of, next_sibling_of, move_number_of, branchings_to}
-use Rattle.game_tree.specs.Stored.{tree_node, end_of_setups, setups_start, shown_node, shown_nodes, shown_built, or_zero, one_if, IsBeginning, IsMainEnd, AreSetupEnds, AreLinks}
+use Rattle.kb_geometry.specs.Counts.{one_if}
+use Rattle.game_tree.specs.Stored.{tree_node, end_of_setups, setups_start, shown_node, shown_nodes, shown_built, or_zero, IsBeginning, IsMainEnd, AreSetupEnds, AreLinks}
 use Rattle.game_tree.proofs.Growth.{IsGrown-more, sibling-new, sibling-last, siblings-first, siblings-other, moves-before, moves-last, moves-root}
 use Rattle.game_tree.proofs.Paths.{move_number-same}
 use Rattle.game_tree.proofs.StoredTrees.{length-shown, node_read, bool_byte-one_if}

@@ -16,7 +16,8 @@ use Rattle.game_tree.specs.declared.stored.TreeNode.{TreeNode}
 use Rattle.game_tree.specs.Information.{Information}
 use Rattle.game_tree.specs.MainLine.{IsOnMainLine}
 use Rattle.game_tree.specs.Tree.{Tree, Node, IsTree, node_count, node_at, parent_of, first_child_of, next_sibling_of, move_number_of}
-use Rattle.game_tree.specs.Stored.{tree_node, setups_start, shown_node, shown_nodes, shown_tree, or_zero, one_if, IsStored, AreLinks}
+use Rattle.kb_geometry.specs.Counts.{one_if}
+use Rattle.game_tree.specs.Stored.{tree_node, setups_start, shown_node, shown_nodes, shown_tree, or_zero, IsStored, AreLinks}
 use Rattle.game_tree.proofs.MainLines.{IsOnMainLine-below}
 use Rattle.game_tree.proofs.Trees.{IsGrown-tree, parent-in_range, first_child-behind, first_child-none, next_sibling-facts}
 

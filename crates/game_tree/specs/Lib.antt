@@ -1,4 +1,4 @@
--- Words that contracts of public functions rest on.
+-- Definitions that contracts of public functions rest on.
 pub mod Information
 pub mod Line
 pub mod MainLine
@@ -10,7 +10,7 @@ pub mod Tree
 pub mod Trees
 pub mod Value
 pub mod ValueFaults
--- Words of private functions.
+-- Definitions of private functions.
 pub mod Built
 pub mod GameFaults
 pub mod NodeValues

@@ -1,9 +1,10 @@
--- How a tree is stored: words for the private functions of trees.
-use Rattle.std.specs.Prelude.{◌≡◌, ◌≢◌, ℕ, ◌+◌, ◌-◌, ◌<◌, ◌≤◌, Bool, nat_lt, filter, List, [], ◌∷◌, length, map, drop, slice_index_or, Option, Some, None, All, is_some, if◌then◌else◌}
+-- How a tree is stored: definitions for the private functions of trees.
+use Rattle.std.specs.Prelude.{◌≡◌, ◌≢◌, ℕ, ◌+◌, ◌-◌, ◌<◌, ◌≤◌, nat_lt, filter, List, [], ◌∷◌, length, map, drop, slice_index_or, Option, Some, None, All, is_some}
 use Rattle.std.specs.List.{range_with_len, between}
 use Rattle.std.specs.Option.{option_map_or}
 use Rattle.node_paths.specs.StoredNodes.{AreParts, part_start, stored_parent}
 use Rattle.kb_geometry.specs.declared.shape.Shape.{Shape}
+use Rattle.kb_geometry.specs.Counts.{one_if}
 use Rattle.game_tree.specs.declared.node.Setup.{Setup}
 use Rattle.game_tree.specs.declared.stored.TreeNode.{TreeNode}
 use Rattle.game_tree.specs.Built.{Built, IsGrown, tree_so_far}
@@ -58,10 +59,6 @@ shown_built shape ts setups = record {
 -- the number, or 0 if there is none
 abbrev pub or_zero : Option ℕ → ℕ
 or_zero o = option_map_or (λ n. n) o 0
-
--- 1 if it is true, else 0
-abbrev pub one_if : Bool → ℕ
-one_if b = if b then 1 else 0
 
 -- The nodes below this number are those of the main line: each is the child of the one before, and
 -- the next node is not.

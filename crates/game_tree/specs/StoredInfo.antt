@@ -1,4 +1,4 @@
--- How an information is stored: words for the private functions that read it and build it.
+-- How an information is stored: definitions for the private functions that read it and build it.
 use Rattle.std.specs.Prelude.{◌≡◌, ℕ, ◌≤◌, List, ◌++◌, length}
 use Rattle.std.specs.List.{between}
 use Rattle.game_tree.specs.declared.info.TextEnds.{TextEnds}

@@ -1,4 +1,4 @@
-// Laws of the words for trees and faults, for who reads a contract of this crate.
+// Laws of the definitions for trees and faults, for who reads a contract of this crate.
 ghost use Rattle.std.specs.Prelude.{◌≡◌, ◌⊎◌, All, List, ℕ};
 ghost use Rattle.sgf_reader.specs.declared.collection.Collection.{Collection};
 ghost use Rattle.sgf_reader.specs.declared.fault.FaultKind.{FaultKind};

@@ -1,9 +1,9 @@
 //! Game trees: the nodes of a game with their setups and moves, and the game's information.
 //!
 //! Stands on kb_geometry and node_paths, and on sgf_reader for the collections that trees are built
-//! of. In `specs/` are the words for a tree, its main line, its move numbers and its positions, for
-//! values and their faults, and for the trees of a collection. The layers above use that
-//! [`build_flat`] and [`build`] give the trees of a collection or its first fault, that
+//! of. In `specs/` are the definitions for a tree, its main line, its move numbers and its
+//! positions, for values and their faults, and for the trees of a collection. The layers above use
+//! that [`build_flat`] and [`build`] give the trees of a collection or its first fault, that
 //! [`tree_of_moves`] gives the tree of a line of moves, and that a tree's readers show the tree.
 #![tactic(auto)]
 

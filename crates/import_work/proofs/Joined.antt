@@ -1,8 +1,7 @@
 -- What is made in pieces, and joined in order.
-use Rattle.std.proofs.Common.{◌≡◌, ℕ, suc, ◌<◌, ◌≤◌, ◌+◌, List, [], ◌∷◌, ◌++◌, get_or, length, length-append, sym, ◌∙◌, ap, subst, take, arith}
+use Rattle.std.proofs.Common.{◌≡◌, ℕ, suc, ◌<◌, ◌≤◌, List, [], ◌∷◌, ◌++◌, get_or, length, length-append, sym, subst, arith}
 use Rattle.std.proofs.lemmas.Bool.{false≢true}
 use Rattle.std.proofs.lemmas.List.Concat.{flat_map-cons}
-use Rattle.std.proofs.lemmas.List.Folds.{length-flat_map-take}
 use Rattle.std.specs.List.{flat_map}
 use Rattle.std.specs.Prelude.{Ok, Err, IsOk}
 use Rattle.kb_geometry.specs.Pieces.{ArePiecesJoined, PieceOf, items_of_piece}
@@ -48,10 +47,3 @@ module _ {J T A : Type 0} (told : J → List T) (Fits : List T → List A → Ty
 
   pub pieces-few : (jobs : List J) (pieces : List (PieceOf A)) → ArePieces told Fits jobs pieces → length (flat_map items_of_piece pieces) ≤ length (flat_map told jobs)
   pieces-few jobs pieces are = in_all told IsFew (omega arith) few-then (IsPieceFor told Fits) piece-few jobs pieces are.all are.each
-
--- where all pieces have room, the next one has room behind those that are joined
-pub room_left : {A : Type 0} (pieces joined : List (PieceOf A)) (piece : PieceOf A) (items : List A) (room : ℕ) → length (flat_map items_of_piece pieces) ≤ room → joined ≡ take (length joined) pieces → length joined < length pieces → piece ≡ get_or pieces (length joined) piece → ArePiecesJoined joined items → length items + length (items_of_piece piece) ≤ room
-room_left {A} pieces joined piece items room fits so_far further here are =
-    let behind : length items ≡ length (flat_map items_of_piece (take (length joined) pieces)) = ap length are.joined ∙ ap (λ (ps : List (PieceOf A)). length (flat_map items_of_piece ps)) so_far in
-    let own : length (items_of_piece piece) ≡ length (items_of_piece (get_or pieces (length joined) piece)) = ap (λ (p : PieceOf A). length (items_of_piece p)) here in
-    omega (arith, fits, behind, own, length-flat_map-take items_of_piece pieces (length joined) piece further)

@@ -188,8 +188,8 @@ HasItsPath all (source.Under path) = HasPath all path
 HasItsPath all (source.Made games start) = ⊥
 
 -- What an import finds where it is given what is lost: the import as a whole, if it has a path that
--- is there, or else those of its files whose names pass a test. Where its path isn't there, where it
--- has too many names, and of made games, nothing is lost.
+-- is there, or else those of its files whose names pass a test. Where its path isn't there, and of
+-- made games, nothing is lost; nor where it isn't lost as a whole and has too many names.
 pub record FindsBy (all : List File) (from : Source) (before : Counts) (lost : Bool)
     (is_lost : List ℕ → Bool) : Type 0 where
   pub entry : ImportCourse

@@ -1,13 +1,13 @@
 // The segment of made games, in up to eight pieces side by side.
-ghost use Rattle.std.specs.Prelude.{◌≡◌, ◌+◌, ◌<◌, ◌≤◌, length, IfOk, OnOk};
+ghost use Rattle.std.specs.Prelude.{◌≡◌, ◌+◌, ◌<◌, ◌≤◌, length, IfOk};
 ghost use Rattle.std.specs.List.{flat_map};
-ghost use Rattle.kb_geometry.specs.Pieces.{ArePiecesJoined, IsPieceAdded, items_of_piece};
+ghost use Rattle.kb_geometry.specs.Pieces.{ArePiecesJoined, items_of_piece};
 ghost use Rattle.import_work.specs.Made.{made_games};
 ghost use Rattle.import_work.specs.MadePieces.{AreCut};
 
 use crate::found::Follower;
 use crate::judge::add_all;
-use kb_geometry::NoMemory;
+use kb_geometry::{NoMemory, joined};
 use made_games::made_tree;
 use segment_store::{FinishedGame, Segment, SegmentBuilder};
 use std::alloc::Global;
@@ -41,7 +41,7 @@ pub(crate) fn made_segment<R: Threads + Sync>(
 {
     let pieces = cut(alloc, start, first, count)?;
     let made = thread::map_vec(rt, pieces, &|piece| { made_piece(alloc, piece) })?;
-    joined(alloc, made)
+    segment_of(alloc, made)
 }
 
 // The numbers of these games in at most eight pieces, in order, none without a game. The longest
@@ -96,31 +96,15 @@ fn made_piece(alloc: Global, piece: Piece) -> Result<Vec<FinishedGame>, NoMemory
 }
 
 // The games of all pieces, in one segment.
-fn joined(
+fn segment_of(
     alloc: Global,
     made: Vec<Result<Vec<FinishedGame>, NoMemory>>,
 ) -> Result<Segment, NoMemory>
     requires { length (flat_map items_of_piece made.items) ≤ 400000 }
     ensures { IfOk result (λ segment. ArePiecesJoined made.items segment) }
 {
+    let own = joined(alloc, made)?;
     let mut games = SegmentBuilder::new(alloc);
-    for piece in made {
-        add_piece(alloc, piece, &mut games)?;
-    }
+    add_all(alloc, own, &mut games)?;
     games.finish(alloc)
-}
-
-// Adds the games of a piece, unless memory ran out there.
-fn add_piece(
-    alloc: Global,
-    piece: Result<Vec<FinishedGame>, NoMemory>,
-    games: &mut SegmentBuilder,
-) -> Result<(), NoMemory>
-    requires { length games.old + length (items_of_piece piece) ≤ 400000 }
-    ensures { OnOk result (IsPieceAdded piece games.old games.new) }
-{
-    match piece {
-        Ok(own) => add_all(alloc, own, games),
-        Err(error) => Err(error),
-    }
 }

@@ -9,7 +9,7 @@ use Rattle.std.specs.declared.vec.Vec.{Vec}
 use Rattle.info_filter.specs.Players.{Side, TableRow}
 use Rattle.info_filter.specs.Seats.{Entry, IsCountedAt, IsCountedFor, IsFirst, IsNext, IsOneSideMore, IsSeat, is_same_name, row_of, table_rows_of}
 use Rattle.info_filter.specs.SidesCounted.{AreRowsWithSide, with_side_counted, with_side}
-use Rattle.game_tree.specs.Stored.{one_if}
+use Rattle.kb_geometry.specs.Counts.{one_if}
 use Rattle.indexmap.specs.IndexMap.{insert_entry}
 use Rattle.indexmap.specs.Layout.{set_value_at}
 use Rattle.info_filter.specs.declared.score.Score.{Score}

@@ -8,7 +8,7 @@ use Rattle.std.proofs.lemmas.List.Kept.{AllPairs-cons}
 use Rattle.std.proofs.lemmas.List.Sums.{sum_by-append, sum_by-cons}
 use Rattle.info_filter.specs.Players.{ArePlayerRows, IsSeenBefore, IsToldOfPlayer, Side, TableRow, is_side_of}
 use Rattle.info_filter.specs.SidesCounted.{AreRowsWithSide, with_side_counted, with_side}
-use Rattle.game_tree.specs.Stored.{one_if}
+use Rattle.kb_geometry.specs.Counts.{one_if}
 
 -- ---- names
 

@@ -1,9 +1,9 @@
--- Words that contracts of public functions rest on.
+-- Definitions that contracts of public functions rest on.
 pub mod Day
 pub mod Filter
 pub mod Players
 pub mod Rows
 pub mod SidesCounted
--- Words of private functions.
+-- Definitions of private functions.
 pub mod DateParts
 pub mod Seats

@@ -1,29 +1,10 @@
 -- The table of the players of a list of games.
-use Rattle.std.specs.Prelude.{◌≡◌, ◌≢◌, ℕ, ◌≤◌, ◌&&◌, Bool, true, false, List, [], ◌∷◌, ◌++◌, All, AllPairs, Any, count_by}
+use Rattle.std.specs.Prelude.{◌≡◌, ◌≢◌, ℕ, ◌≤◌, ◌&&◌, Bool, List, [], ◌∷◌, ◌++◌, All, AllPairs, Any, count_by}
 use Rattle.std.specs.List.{flat_map}
 use Rattle.std.specs.Str.{bytes_eq}
-use Rattle.kb_geometry.specs.declared.stone.Outcome.{Outcome}
-use Rattle.kb_geometry.specs.declared.stone.Outcome.TheVariants as outcome
+use Rattle.kb_geometry.specs.Outcomes.{is_black_win, is_white_win}
 use Rattle.game_tree.specs.Information.{Information}
 use Rattle.game_tree.specs.Result.{outcome_of}
-
--- whether the player of the black stones won
-abbrev pub is_black_win : Outcome → Bool
-is_black_win outcome.Black = true
-is_black_win outcome.White = false
-is_black_win outcome.Draw = false
-is_black_win outcome.Void = false
-is_black_win outcome.Unknown = false
-is_black_win outcome.Other = false
-
--- whether the player of the white stones won
-abbrev pub is_white_win : Outcome → Bool
-is_white_win outcome.Black = false
-is_white_win outcome.White = true
-is_white_win outcome.Draw = false
-is_white_win outcome.Void = false
-is_white_win outcome.Unknown = false
-is_white_win outcome.Other = false
 
 -- a side of a game: the name of its player, and whether it won or lost
 pub record Side : Type 0 where

@@ -1,4 +1,4 @@
--- Words of the private functions that keep the players' table.
+-- Definitions of the private functions that keep the players' table.
 use Rattle.std.specs.Prelude.{◌≡◌, ◌≢◌, ℕ, ◌+◌, ◌<◌, Bool, List, [], map, length, Option, Some, None, slice_get}
 use Rattle.std.specs.List.{position_or_len}
 use Rattle.std.specs.Map.{keys_of, lookup}
@@ -7,7 +7,7 @@ use Rattle.std.specs.declared.alloc.Global.{Global}
 use Rattle.std.specs.declared.vec.Vec.{Vec}
 use Rattle.indexmap.specs.IndexMap.{insert_entry}
 use Rattle.indexmap.specs.Layout.{set_value_at}
-use Rattle.game_tree.specs.Stored.{one_if}
+use Rattle.kb_geometry.specs.Counts.{one_if}
 use Rattle.info_filter.specs.Players.{TableRow}
 use Rattle.info_filter.specs.declared.score.Score.{Score}
 use Rattle.info_filter.specs.declared.seat.Seat.{Seat}

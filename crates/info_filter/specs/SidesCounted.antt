@@ -2,7 +2,7 @@
 use Rattle.std.specs.Prelude.{◌≡◌, ◌≢◌, ℕ, ◌+◌, if◌then◌else◌, List, [], ◌∷◌}
 use Rattle.std.specs.Str.{bytes_eq}
 use Rattle.game_tree.specs.Information.{Information}
-use Rattle.game_tree.specs.Stored.{one_if}
+use Rattle.kb_geometry.specs.Counts.{one_if}
 use Rattle.info_filter.specs.Players.{Side, TableRow, black_side, white_side}
 
 -- the row with one side more

@@ -1,4 +1,4 @@
-// Laws of the words for days and players, for who reads a contract of this crate.
+// Laws of the definitions for days and players, for who reads a contract of this crate.
 ghost use Rattle.std.specs.Prelude.{◌≡◌, ◌*◌, ◌≤◌, ℕ, ℤ, List, All, Option, length};
 ghost use Rattle.game_tree.specs.Information.{Information};
 ghost use Rattle.info_filter.specs.Day.{IsDayOf};

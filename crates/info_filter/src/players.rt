@@ -2,7 +2,7 @@
 ghost use Rattle.std.specs.Prelude.{◌≡◌, ◌++◌, ◌≤◌, List, [], ◌∷◌, All, OnErr, OnOk, length};
 ghost use Rattle.game_tree.specs.Information.{Information};
 ghost use Rattle.std.specs.Iterator.{YieldsFirstBy, item_count};
-ghost use Rattle.info_filter.specs.Players.{IsPlayersTable, TableRow, is_black_win, is_white_win};
+ghost use Rattle.info_filter.specs.Players.{IsPlayersTable, TableRow};
 ghost use Rattle.info_filter.specs.SidesCounted.{AreRowsWithGame};
 
 use crate::score::Score;
@@ -10,7 +10,7 @@ use crate::seat::{add_side, seat_of};
 use game_tree::Info;
 use indexmap::IndexMap;
 use indexmap::map::Iter;
-use kb_geometry::{NoMemory, Outcome};
+use kb_geometry::NoMemory;
 use std::alloc::Global;
 use std::marker::Model;
 
@@ -56,7 +56,7 @@ impl Players {
         let white = seat_of(&self.scores, alloc, info.white())?;
         self.scores.reserve(2)?;
         let outcome = info.outcome();
-        let (black_wins, white_wins) = (is_black_win(outcome), is_white_win(outcome));
+        let (black_wins, white_wins) = (outcome.is_black_win(), outcome.is_white_win());
         add_side(&mut self.scores, black, black_wins, white_wins);
         add_side(&mut self.scores, white, white_wins, black_wins);
         Ok(())
@@ -123,33 +123,5 @@ impl<'a> Iterator for PlayerRows<'a> {
             wins: score.wins,
             losses: score.losses,
         })
-    }
-}
-
-// Whether the player of the black stones won.
-fn is_black_win(outcome: Outcome) -> bool
-    ensures { result ≡ is_black_win outcome }
-{
-    match outcome {
-        Outcome::Black => true,
-        Outcome::White => false,
-        Outcome::Draw => false,
-        Outcome::Void => false,
-        Outcome::Unknown => false,
-        Outcome::Other => false,
-    }
-}
-
-// Whether the player of the white stones won.
-fn is_white_win(outcome: Outcome) -> bool
-    ensures { result ≡ is_white_win outcome }
-{
-    match outcome {
-        Outcome::Black => false,
-        Outcome::White => true,
-        Outcome::Draw => false,
-        Outcome::Void => false,
-        Outcome::Unknown => false,
-        Outcome::Other => false,
     }
 }

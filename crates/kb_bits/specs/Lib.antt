@@ -1,6 +1,6 @@
--- Words that contracts of public functions rest on.
+-- Definitions that contracts of public functions rest on.
 pub mod Members
--- Words of private functions.
+-- Definitions of private functions.
 pub mod MemberLaws
 pub mod WordLaws
 pub mod Words

@@ -39,8 +39,7 @@ impl<T> Items<T> {
 }
 
 impl<T: Copy> Items<T> {
-    /// An equal list. The only error is `NoMemory`. For the library's callers
-    /// and tests: the program copies none.
+    /// An equal list. The only error is `NoMemory`.
     pub fn copy(&self, alloc: Global) -> Result<Items<T>, NoMemory>
         ensures { IfOk result (λ copied. copied ≡ self.now) }
     {

@@ -1,4 +1,4 @@
-// Laws of the words for boards and positions, for who reads a contract over them.
+// Laws of the definitions for boards and positions, for who reads a contract over them.
 ghost use Rattle.std.specs.Prelude.{◌≡◌};
 ghost use Rattle.kb_geometry.specs.declared.shape.Shape.{Shape};
 ghost use Rattle.kb_geometry.specs.declared.shape.Point.{Point};

@@ -2,10 +2,10 @@
 //! symmetries. Beside it what all layers share: lists and texts that contracts see, the answer
 //! where memory is short, bytes that are appended to a vector, and what is made in pieces, joined.
 //!
-//! Stands on the library itoa, which writes digits. In `specs/` are the words of the capture rule:
-//! position, neighbour, group, liberty and the position after a move, and the table of the
+//! Stands on the library itoa, which writes digits. In `specs/` are the definitions of the capture
+//! rule: position, neighbour, group, liberty and the position after a move, and the table of the
 //! symmetries. The layers above use that `Shape::number` and `Shape::point` are inverse, that
-//! `apply` is that table and `inverse` undoes it, and cite those words.
+//! `apply` is that table and `inverse` undoes it, and cite those definitions.
 #![tactic(auto)]
 
 mod appending;

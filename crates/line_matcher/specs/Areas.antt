@@ -1,4 +1,4 @@
--- Rectangles of points where placements can begin to hold: words for the private functions.
+-- Rectangles of points where placements can begin to hold: definitions for the private functions.
 use Rattle.std.specs.Prelude.{◌≡◌, ℕ, ◌+◌, ◌<◌, ◌≤◌, List, All}
 use Rattle.kb_geometry.specs.declared.shape.Shape.{Shape}
 use Rattle.kb_geometry.specs.declared.shape.Point.{Point}

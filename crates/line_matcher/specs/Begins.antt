@@ -1,5 +1,5 @@
 -- Which placements begin to hold at a node, told by the position there and the points that the node
--- changes. These words mirror how the private functions look for them.
+-- changes. These definitions mirror how the private functions look for them.
 use Rattle.std.specs.Prelude.{◌≡◌, ℕ, ◌+◌, ◌*◌, ◌<◌, ◌≤◌, ◌↔◌, ◌&&◌, ◌||◌, ◌++◌, nat_eq, Bool, true}
 use Rattle.std.specs.Prelude.{List, length, map, filter, slice_index, Option, Some, None}
 use Rattle.std.specs.List.{list_any, range_with_len}

@@ -1,4 +1,4 @@
--- The points that changes concern, by colours: words for the private functions.
+-- The points that changes concern, by colours: definitions for the private functions.
 use Rattle.std.specs.Prelude.{◌≡◌, ℕ, ◌⊎◌, ◌↔◌, List, [], Any, Contains}
 use Rattle.kb_geometry.specs.declared.stone.Cell.{Cell}
 use Rattle.kb_geometry.specs.declared.stone.Cell.TheVariants as stone

@@ -1,4 +1,4 @@
--- The rows of rectangles of cells: words for the private functions that make them.
+-- The rows of rectangles of cells: definitions for the private functions that make them.
 use Rattle.std.specs.Prelude.{◌≡◌, ℕ, ◌<◌, ◌++◌, List, [], length, slice_index_or}
 use Rattle.pattern_images.specs.Grid.{Grid}
 use Rattle.pattern_images.specs.ImageList.{grid_at}

@@ -1,6 +1,6 @@
--- Words that contracts of public functions rest on.
+-- Definitions that contracts of public functions rest on.
 pub mod Occurrences
--- Words of private functions.
+-- Definitions of private functions.
 pub mod Areas
 pub mod Begins
 pub mod Concerned

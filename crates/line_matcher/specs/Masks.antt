@@ -1,4 +1,5 @@
--- Rows of pattern cells as words. These words mirror how the private functions test a placement.
+-- Rows of pattern cells as words. These definitions mirror how the private functions test a
+-- placement.
 use Rattle.std.specs.Prelude.{◌≡◌, ◌≢◌, ℕ, ◌+◌, ◌<◌, ◌≤◌, ◌↔◌, Bool, true, false, List, length}
 use Rattle.std.specs.Prelude.{slice_index_or, Contains, if◌then◌else◌}
 use Rattle.std.specs.Int.{bit_at}

@@ -1,4 +1,4 @@
--- What is found at a node, and at the first nodes of a game: words for the private functions.
+-- What is found at a node, and at the first nodes of a game: definitions for the private functions.
 use Rattle.std.specs.Prelude.{◌≡◌, ℕ, ◌++◌, List, filter, length, Some, None}
 use Rattle.std.specs.List.{flat_map, range_with_len}
 use Rattle.kb_geometry.specs.declared.stone.Change.{Change}

@@ -79,7 +79,7 @@ abbrev pub occurrences_at_nodes : Deltas → List Placement → List ℕ → Lis
 occurrences_at_nodes changes placements nodes =
     filter (is_at_one_of nodes) (occurrences_in changes placements)
 
--- ---- the same in the words of what holds
+-- ---- the same in terms of what holds
 
 -- the placement holds in the position at the node
 abbrev pub HoldsAt : Deltas → Placement → ℕ → Type 0

@@ -1,4 +1,4 @@
--- What is found at a node: words for the private functions.
+-- What is found at a node: definitions for the private functions.
 use Rattle.std.specs.Prelude.{◌≡◌, ℕ, ◌<◌, true, List, length}
 use Rattle.kb_geometry.specs.declared.shape.Rect.{Rect}
 use Rattle.kb_geometry.specs.Board.{IsInside}

@@ -1,4 +1,4 @@
-// Laws of the words of `specs/`.
+// Laws of the definitions of `specs/`.
 ghost use Rattle.std.specs.Prelude.{◌≡◌, ◌↔◌, true, List, AllPairs, Contains};
 ghost use Rattle.kb_geometry.specs.declared.shape.Shape.{Shape};
 ghost use Rattle.kb_geometry.specs.Capture.{Position};

@@ -1,2 +1,2 @@
--- Words that contracts of public functions rest on.
+-- Definitions that contracts of public functions rest on.
 pub mod Made

@@ -1,8 +1,8 @@
 //! Nodes in order of the text, by the numbers of their parents: ancestors, and paths to the root.
 //!
-//! Stands on std alone, and holds words and laws, no code: in `specs/` are the words for the
-//! parents of nodes, for ancestors, for paths, and for nodes as they are stored. The layers above
-//! say by them what a game tree is and what the changes at its nodes are.
+//! Stands on std alone, and holds definitions and laws, no code: in `specs/` are the definitions
+//! for the parents of nodes, for ancestors, for paths, and for nodes as they are stored. The layers
+//! above say by them what a game tree is and what the changes at its nodes are.
 #![tactic(auto)]
 
 mod laws;

@@ -1,5 +1,5 @@
--- Words that contracts of public functions rest on.
+-- Definitions that contracts of public functions rest on.
 pub mod Games
 pub mod Positions
--- Words of private functions.
+-- Definitions of private functions.
 pub mod Standing

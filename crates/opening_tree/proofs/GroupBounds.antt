@@ -8,7 +8,8 @@ use Rattle.game_tree.specs.declared.node.Move.{Move}
 use Rattle.opening_tree.specs.Entries.{Entry}
 use Rattle.opening_tree.specs.Groups.{Grouped, IsGroupWithin, IsRowWithin, groups_of}
 use Rattle.opening_tree.specs.NextMoves.{NextAt}
-use Rattle.opening_tree.specs.Openings.{entries_at, first_entries, is_black_win, is_no_win, is_same_play, is_same_position, is_white_win, nexts_at, nexts_by, opening_of, plays_on, row_of, rows_of}
+use Rattle.kb_geometry.specs.Outcomes.{is_black_win, is_no_win, is_white_win}
+use Rattle.opening_tree.specs.Openings.{entries_at, first_entries, is_same_play, is_same_position, nexts_at, nexts_by, opening_of, plays_on, row_of, rows_of}
 
 All-map : {X Y : Type 0} (f : X → Y) (P : Y → Type 0) → ((x : X) → P (f x)) → (xs : List X) → All P (map f xs)
 All-map f P each [] = All-nil P

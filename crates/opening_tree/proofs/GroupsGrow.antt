@@ -11,7 +11,8 @@ use Rattle.opening_tree.specs.declared.answer.Opening.{Opening}
 use Rattle.opening_tree.specs.Entries.{Entry}
 use Rattle.opening_tree.specs.Groups.{Grouped, groups_of, none_yet, with_entry, with_next, with_one, with_row, with_rows}
 use Rattle.opening_tree.specs.NextMoves.{NextAt}
-use Rattle.opening_tree.specs.Openings.{entries_at, first_entries_behind, is_black_win, is_no_win, is_same_position, is_white_win, nexts_at, opening_of, plays_on, rows_of}
+use Rattle.kb_geometry.specs.Outcomes.{is_black_win, is_no_win, is_white_win}
+use Rattle.opening_tree.specs.Openings.{entries_at, first_entries_behind, is_same_position, nexts_at, opening_of, plays_on, rows_of}
 use Rattle.opening_tree.proofs.RowsGrow.{AreInOrder, IsOneOf, rows-grow, rows-none}
 use Rattle.opening_tree.proofs.SamePositions.{count_by-push, filter-push, same_position, told}
 

@@ -10,7 +10,8 @@ use Rattle.opening_tree.specs.declared.answer.Opening.{Opening}
 use Rattle.opening_tree.specs.Entries.{Entry}
 use Rattle.opening_tree.specs.Groups.{AreFollowing, Grouped, groups_of, opening_with, with_group, with_groups}
 use Rattle.opening_tree.specs.NextMoves.{NextAt}
-use Rattle.opening_tree.specs.Openings.{entries_at, first_entries, first_entries_behind, is_black_win, is_no_win, is_same_position, is_white_win, nexts_at, opening_of, plays_on}
+use Rattle.kb_geometry.specs.Outcomes.{is_black_win, is_no_win, is_white_win}
+use Rattle.opening_tree.specs.Openings.{entries_at, first_entries, first_entries_behind, is_same_position, nexts_at, opening_of, plays_on}
 use Rattle.opening_tree.proofs.GroupsGrow.{begun, changed, first_entries-seen, group_in, is_seen, no_entries, same_or_other, seen-push}
 use Rattle.opening_tree.proofs.NextsFollow.{none_played}
 use Rattle.opening_tree.proofs.PlaysInOrder.{plays-order}

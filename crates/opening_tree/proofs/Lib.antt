@@ -20,7 +20,6 @@ pub mod RowsJoin
 pub mod GroupsJoin
 pub mod GroupBounds
 pub mod GroupEntries
-pub mod VersionGames
 pub mod GamesRead
 pub mod StoredSteps
 pub mod StoredJoin

@@ -9,7 +9,8 @@ use Rattle.game_tree.specs.declared.node.Move.{Move}
 use Rattle.opening_tree.specs.declared.answer.NextMove.{NextMove}
 use Rattle.opening_tree.specs.Groups.{IsRowWithin, row_order, row_with, with_more_row, with_more_rows}
 use Rattle.opening_tree.specs.NextMoves.{NextAt}
-use Rattle.opening_tree.specs.Openings.{is_black_win, is_no_win, is_same_play, is_white_win, nexts_by, row_of}
+use Rattle.kb_geometry.specs.Outcomes.{is_black_win, is_no_win, is_white_win}
+use Rattle.opening_tree.specs.Openings.{is_same_play, nexts_by, row_of}
 use Rattle.opening_tree.proofs.RowsGrow.{AreBehind, AreInOrder, IsHeadBehind, any_default, head-behind, no_eq, no_length, no_lt, order_of, rows_over}
 use Rattle.opening_tree.proofs.SamePositions.{count_by-append}
 

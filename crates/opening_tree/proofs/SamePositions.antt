@@ -13,7 +13,7 @@ use Rattle.kb_geometry.specs.Capture.{Position}
 use Rattle.kb_geometry.proofs.Symmetries.{same_point}
 use Rattle.game_tree.specs.declared.node.Move.{Move}
 use Rattle.opening_tree.specs.Canonical.{rank_of}
-use Rattle.opening_tree.specs.Groups.{one_if}
+use Rattle.kb_geometry.specs.Counts.{one_if}
 use Rattle.opening_tree.specs.Openings.{is_same_cell, is_same_colour, is_same_place, is_same_play, is_same_position}
 use Rattle.opening_tree.proofs.PositionOrder.{same_rank}
 

@@ -1,21 +1,19 @@
 -- The openings of the entries and next moves so far, as private functions keep them.
-use Rattle.std.specs.Prelude.{◌≡◌, ℕ, ◌+◌, ◌*◌, ◌≤◌, nat_lt, nat_eq, Bool, if◌then◌else◌, List, [], ◌∷◌, map, Option, Some, None, All, Any}
+use Rattle.std.specs.Prelude.{◌≡◌, ℕ, ◌+◌, ◌*◌, ◌≤◌, nat_lt, nat_eq, if◌then◌else◌, List, [], ◌∷◌, map, Option, Some, None, All, Any}
 use Rattle.kb_geometry.specs.declared.shape.Shape.{Shape}
 use Rattle.kb_geometry.specs.declared.shape.Point.{Point}
 use Rattle.kb_geometry.specs.declared.stone.Colour.{Colour}
 use Rattle.kb_geometry.specs.declared.stone.Colour.TheVariants as colour
 use Rattle.kb_geometry.specs.declared.stone.Outcome.{Outcome}
 use Rattle.kb_geometry.specs.Capture.{Position}
+use Rattle.kb_geometry.specs.Counts.{one_if}
+use Rattle.kb_geometry.specs.Outcomes.{is_black_win, is_no_win, is_white_win}
 use Rattle.game_tree.specs.declared.node.Move.{Move}
 use Rattle.opening_tree.specs.declared.answer.NextMove.{NextMove}
 use Rattle.opening_tree.specs.declared.answer.Opening.{Opening}
 use Rattle.opening_tree.specs.Entries.{Entry}
 use Rattle.opening_tree.specs.NextMoves.{NextAt}
-use Rattle.opening_tree.specs.Openings.{entries_at, first_entries, is_black_win, is_no_win, is_same_position, is_white_win, nexts_at, opening_of}
-
--- 1 if it is true, else 0
-abbrev pub one_if : Bool → ℕ
-one_if b = if b then 1 else 0
+use Rattle.opening_tree.specs.Openings.{entries_at, first_entries, is_same_position, nexts_at, opening_of}
 
 -- an opening with its canonical position
 pub record Grouped : Type 0 where

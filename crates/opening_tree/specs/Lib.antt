@@ -1,10 +1,10 @@
--- Words that contracts of public functions rest on.
+-- Definitions that contracts of public functions rest on.
 pub mod Canonical
 pub mod Entries
 pub mod NextMoves
 pub mod Games
 pub mod Openings
--- Words of private functions.
+-- Definitions of private functions.
 pub mod Packing
 pub mod Frames
 pub mod GameFrames

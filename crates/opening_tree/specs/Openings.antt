@@ -1,6 +1,6 @@
 -- The openings of a list of games: the groups of all entries with one canonical position, each with
 -- what was played next.
-use Rattle.std.specs.Prelude.{◌≡◌, ℕ, ◌%◌, ◌/◌, nat_eq, nat_le, nat_lt, ◌&&◌, not, Bool, true, false, if◌then◌else◌, List, [], ◌∷◌, ◌++◌, length, map, filter, count_by, Option, Some, None}
+use Rattle.std.specs.Prelude.{◌≡◌, ℕ, ◌%◌, ◌/◌, nat_eq, nat_le, nat_lt, ◌&&◌, Bool, true, false, if◌then◌else◌, List, [], ◌∷◌, ◌++◌, length, map, filter, count_by, Option, Some, None}
 use Rattle.std.specs.Cmp.Lexicographic.{pointwise}
 use Rattle.std.specs.List.{list_any, range_with_len}
 use Rattle.kb_geometry.specs.declared.shape.Shape.{Shape}
@@ -8,10 +8,9 @@ use Rattle.kb_geometry.specs.declared.shape.Point.{Point}
 use Rattle.kb_geometry.specs.declared.stone.Cell.{Cell}
 use Rattle.kb_geometry.specs.declared.stone.Colour.{Colour}
 use Rattle.kb_geometry.specs.declared.stone.Colour.TheVariants as colour
-use Rattle.kb_geometry.specs.declared.stone.Outcome.{Outcome}
-use Rattle.kb_geometry.specs.declared.stone.Outcome.TheVariants as outcome
 use Rattle.kb_geometry.specs.Board.{cols_of, point_count}
 use Rattle.kb_geometry.specs.Capture.{Position}
+use Rattle.kb_geometry.specs.Outcomes.{is_black_win, is_no_win, is_white_win}
 use Rattle.kb_geometry.specs.Symmetry.{point_of}
 use Rattle.game_tree.specs.declared.node.Move.{Move}
 use Rattle.node_position.specs.Games.{Game}
@@ -21,30 +20,6 @@ use Rattle.opening_tree.specs.Canonical.{rank_of}
 use Rattle.opening_tree.specs.Entries.{Entry}
 use Rattle.opening_tree.specs.Games.{AreOfGames}
 use Rattle.opening_tree.specs.NextMoves.{NextAt}
-
--- ---- how games ended
-
--- whether black won
-abbrev pub is_black_win : Outcome → Bool
-is_black_win outcome.Black = true
-is_black_win outcome.White = false
-is_black_win outcome.Draw = false
-is_black_win outcome.Void = false
-is_black_win outcome.Unknown = false
-is_black_win outcome.Other = false
-
--- whether white won
-abbrev pub is_white_win : Outcome → Bool
-is_white_win outcome.Black = false
-is_white_win outcome.White = true
-is_white_win outcome.Draw = false
-is_white_win outcome.Void = false
-is_white_win outcome.Unknown = false
-is_white_win outcome.Other = false
-
--- whether neither side is told to have won
-abbrev pub is_no_win : Outcome → Bool
-is_no_win ended = not (is_black_win ended) && not (is_white_win ended)
 
 -- ---- one position
 

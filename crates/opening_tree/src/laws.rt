@@ -1,4 +1,4 @@
-// Laws of the words for openings, for who reads the contract of this crate.
+// Laws of the definitions for openings, for who reads the contract of this crate.
 ghost use Rattle.std.specs.Prelude.{◌≡◌, ◌↔◌, ℕ, All, List, length};
 ghost use Rattle.kb_geometry.specs.declared.shape.Shape.{Shape};
 ghost use Rattle.kb_geometry.specs.Board.{point_count};

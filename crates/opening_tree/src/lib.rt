@@ -3,8 +3,8 @@
 //!
 //! Stands on segment_store and what it names, for games and the changes at their nodes, and on
 //! version_publisher, for versions. [`opening`] gives the openings of a version. In `specs/` are
-//! the words for the canonical position, for the entries and the next moves of games, and for the
-//! groups of these; the laws say that each list of games has openings, and one list of them.
+//! the definitions for the canonical position, for the entries and the next moves of games, and for
+//! the groups of these; the laws say that each list of games has openings, and one list of them.
 //! Images of a position are packed in words, changed point by point from node to node and compared
 //! with one another; the words of the canonical one are the key of a map.
 #![tactic(auto)]
@@ -13,7 +13,6 @@ mod answer;
 mod found;
 mod frame;
 mod game_frames;
-mod games;
 mod groups;
 mod images;
 mod laws;

@@ -18,7 +18,6 @@ ghost use Rattle.opening_tree.specs.Groups.{
   with_row,
 };
 ghost use Rattle.opening_tree.specs.StoredGroups.{opening_shown};
-ghost use Rattle.opening_tree.specs.Openings.{is_black_win, is_no_win, is_white_win};
 
 use crate::answer::{NextMove, Opening};
 use game_tree::Move;
@@ -63,9 +62,9 @@ impl OpeningSoFar {
         ensures { opening_shown self.new ≡ with_one (opening_shown self.old) outcome }
     {
         self.count += 1;
-        self.black += u64::from(is_black_win(outcome));
-        self.white += u64::from(is_white_win(outcome));
-        self.other += u64::from(is_no_win(outcome));
+        self.black += u64::from(outcome.is_black_win());
+        self.white += u64::from(outcome.is_white_win());
+        self.other += u64::from(outcome.is_no_win());
     }
 
     // Counts the entries and next moves of another one too. The only error is `NoMemory`.
@@ -228,43 +227,8 @@ fn row_with_one(row: NextMove, outcome: Outcome) -> NextMove
         colour: row.colour,
         point: row.point,
         count: row.count + 1,
-        black: row.black + u64::from(is_black_win(outcome)),
-        white: row.white + u64::from(is_white_win(outcome)),
-        other: row.other + u64::from(is_no_win(outcome)),
+        black: row.black + u64::from(outcome.is_black_win()),
+        white: row.white + u64::from(outcome.is_white_win()),
+        other: row.other + u64::from(outcome.is_no_win()),
     }
-}
-
-// Whether black won.
-fn is_black_win(outcome: Outcome) -> bool
-    ensures { result ≡ is_black_win outcome }
-{
-    match outcome {
-        Outcome::Black => true,
-        Outcome::White => false,
-        Outcome::Draw => false,
-        Outcome::Void => false,
-        Outcome::Unknown => false,
-        Outcome::Other => false,
-    }
-}
-
-// Whether white won.
-fn is_white_win(outcome: Outcome) -> bool
-    ensures { result ≡ is_white_win outcome }
-{
-    match outcome {
-        Outcome::Black => false,
-        Outcome::White => true,
-        Outcome::Draw => false,
-        Outcome::Void => false,
-        Outcome::Unknown => false,
-        Outcome::Other => false,
-    }
-}
-
-// Whether neither side is told to have won.
-fn is_no_win(outcome: Outcome) -> bool
-    ensures { result ≡ is_no_win outcome }
-{
-    !is_black_win(outcome) && !is_white_win(outcome)
 }

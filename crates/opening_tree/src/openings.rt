@@ -34,11 +34,10 @@ ghost use Rattle.kb_geometry.specs.declared.shape.Shape.{Shape};
 
 use crate::answer::Opening;
 use crate::found::{FoundEntry, FoundNext, found_in};
-use crate::games::games_of;
 use crate::groups::{OpeningMap, add_entry, add_next};
 use indexmap::IndexMap;
 use kb_geometry::{NoMemory, Shape};
-use segment_store::{FinishedGame, Segment};
+use segment_store::{FinishedGame, Segment, games};
 use std::alloc::Global;
 use version_publisher::Version;
 
@@ -54,7 +53,8 @@ pub fn opening(
     ensures { IfOk result (λ openings.
         IsOpenings shape depth least (items_in version.now.parts) openings.items) }
 {
-    let games = games_of(alloc, version)?;
+    let _few = version.parts();
+    let games = games(alloc, version)?;
     let openings = openings_in(alloc, Asked { shape, depth }, 0, games.as_slice())?;
     listed(alloc, &openings, least)
 }

@@ -5,12 +5,11 @@ ghost use Rattle.opening_tree.specs.Openings.{IsOpenings};
 ghost use Rattle.opening_tree.specs.StoredGames.{AreOpeningsOf};
 
 use crate::answer::Opening;
-use crate::games::games_of;
 use crate::groups::{OpeningMap, add_openings};
 use crate::openings::{Asked, listed, openings_in};
 use indexmap::IndexMap;
 use kb_geometry::{NoMemory, Shape};
-use segment_store::{FinishedGame, Segment};
+use segment_store::{FinishedGame, Segment, games};
 use std::alloc::Global;
 use std::cmp::{max, min};
 use std::thread;
@@ -45,7 +44,8 @@ pub fn opening_in_pieces<R: Threads + Sync>(
     ensures { IfOk result (λ openings. IsOpenings wanted.shape wanted.depth wanted.least
         (items_in version.now.parts) openings.items) }
 {
-    let games = games_of(alloc, version)?;
+    let _few = version.parts();
+    let games = games(alloc, version)?;
     let asked = Asked {
         shape: wanted.shape,
         depth: wanted.depth,

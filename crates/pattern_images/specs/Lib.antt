@@ -1,11 +1,11 @@
--- Words that contracts of public functions rest on.
+-- Definitions that contracts of public functions rest on.
 pub mod Grid
 pub mod Holds
 pub mod ImageList
 pub mod Pattern
 pub mod Placements
 pub mod Query
--- Words of private functions.
+-- Definitions of private functions.
 pub mod Listing
 pub mod Stored
 pub mod Turned

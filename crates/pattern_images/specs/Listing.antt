@@ -1,5 +1,5 @@
--- Words of the private functions that list the places of a query, in order, label by label at each
--- point.
+-- Definitions of the private functions that list the places of a query, in order, label by label at
+-- each point.
 use Rattle.std.specs.Prelude.{◌≡◌, ℕ, ◌<◌, ◌≤◌, ◌⊎◌, List, length, map, slice_index_or, take, Option, Some, None, All, Any, AllPairs}
 use Rattle.kb_geometry.specs.declared.shape.Shape.{Shape}
 use Rattle.kb_geometry.specs.declared.shape.Point.{Point}

@@ -1,4 +1,4 @@
--- Words of the private types: how rectangles of cells and places are stored.
+-- Definitions of the private types: how rectangles of cells and places are stored.
 use Rattle.std.specs.Prelude.{ℕ, ◌+◌, List, slice_range}
 use Rattle.kb_geometry.specs.Board.{cols_of, rows_of, point_count}
 use Rattle.pattern_images.specs.declared.cell.PatternCell.{PatternCell}

@@ -1,4 +1,5 @@
--- Words of the private functions that turn a pattern: they say cell by cell what the code writes.
+-- Definitions of the private functions that turn a pattern: they say cell by cell what the code
+-- writes.
 use Rattle.std.specs.Prelude.{◌≡◌, ℕ, ◌+◌, ◌-◌, ◌*◌, ◌/◌, ◌%◌, ◌<◌, ◌==◌, if◌then◌else◌, List, length, map, slice_index_or}
 use Rattle.std.specs.List.{range_with_len}
 use Rattle.kb_geometry.specs.declared.shape.Shape.{Shape}

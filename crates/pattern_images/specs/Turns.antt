@@ -1,4 +1,4 @@
--- Words of the private functions that find the base places and turn the pattern.
+-- Definitions of the private functions that find the base places and turn the pattern.
 use Rattle.std.specs.Prelude.{◌≡◌, ℕ, ◌+◌, ◌<◌, ◌≤◌, ◌↔◌, List, length, slice_index_or, Option, Some, None}
 use Rattle.kb_geometry.specs.declared.shape.Shape.{Shape}
 use Rattle.kb_geometry.specs.declared.shape.Point.{Point}

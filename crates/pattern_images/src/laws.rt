@@ -1,4 +1,4 @@
-// A law of the words for placements, for who reads a contract of this crate.
+// A law of the definitions for placements, for who reads a contract of this crate.
 ghost use Rattle.std.specs.Prelude.{◌≡◌, List};
 ghost use Rattle.kb_geometry.specs.declared.shape.Shape.{Shape};
 ghost use Rattle.pattern_images.specs.declared.query.Query.{Query};

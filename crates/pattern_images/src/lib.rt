@@ -1,9 +1,9 @@
 //! Patterns, queries, and the placements of a query's pattern on a board.
 //!
-//! Stands on kb_geometry. In `specs/` are the words for a query's labels and base places, for the
-//! image of a pattern, for the list of placements, and for a placement that holds in a position.
-//! The layers above use that [`images`] gives exactly the distinct placements, in order, each under
-//! its least label.
+//! Stands on kb_geometry. In `specs/` are the definitions for a query's labels and base places, for
+//! the image of a pattern, for the list of placements, and for a placement that holds in a
+//! position. The layers above use that [`images`] gives exactly the distinct placements, in order,
+//! each under its least label.
 #![tactic(auto)]
 
 mod base_places;

@@ -89,8 +89,7 @@ impl Pattern {
         self.cells.as_slice()
     }
 
-    /// An equal pattern. The only error is `NoMemory`. For the library's callers
-    /// and tests: the program copies none.
+    /// An equal pattern. The only error is `NoMemory`.
     pub fn copy(&self, alloc: Global) -> Result<Pattern, NoMemory>
         ensures { IfOk result (λ copied. copied ≡ self.now) }
     {

@@ -80,8 +80,7 @@ impl Query {
         !(self.same && label.exchanged())
     }
 
-    /// An equal query. The only error is `NoMemory`. For the library's callers
-    /// and tests: the program copies none.
+    /// An equal query. The only error is `NoMemory`.
     pub fn copy(&self, alloc: Global) -> Result<Query, NoMemory>
         ensures { IfOk result (λ copied. copied ≡ self.now) }
     {

@@ -1,5 +1,5 @@
--- Words of the private functions that read a text: what is known of a text once its first bytes
--- were read.
+-- Definitions of the private functions that read a text: what is known of a text once its first
+-- bytes were read.
 use Rattle.std.specs.Prelude.{◌≡◌, ℕ, ◌+◌, ◌*◌, ◌<◌, ◌≤◌, List, length, slice_index, slice_index_or, Option, None, Some}
 use Rattle.kb_geometry.specs.declared.shape.Shape.{Shape}
 use Rattle.kb_geometry.specs.Board.{cols_of, rows_of}

@@ -1,7 +1,7 @@
 //! Pattern texts: the rows of a pattern as `.`, `X`, `O`, `x`, `o` and `*`, with `/` between.
 //!
-//! Stands on pattern_images for patterns, and on kb_geometry. In `specs/` are the words for the
-//! text of a pattern, and for the faults of a text. The layers above use that [`read_pattern`]
+//! Stands on pattern_images for patterns, and on kb_geometry. In `specs/` are the definitions for
+//! the text of a pattern, and for the faults of a text. The layers above use that [`read_pattern`]
 //! gives the one pattern that a text spells, or the text's first fault, and that [`print_pattern`]
 //! appends the pattern's text.
 #![tactic(auto)]

@@ -1,4 +1,4 @@
--- Words for the private functions that read a line.
+-- Definitions for the private functions that read a line.
 use Rattle.std.specs.Prelude.{◌≡◌, ◌≢◌, ◌||◌, ◌&&◌, ◌==◌, ℕ, ◌≤◌, List, [], ◌∷◌, ◌++◌, codes, if◌then◌else◌}
 use Rattle.pattern_images.specs.declared.query.Query.{Query}
 use Rattle.query_script.specs.declared.search_words.Moves.{Moves}

@@ -46,4 +46,4 @@ pub use print::{
 pub use script::read_script;
 pub use search_text::{print_hit_lines, print_hits, print_rows, print_search_head, print_totals};
 pub use statement::{MAX_SCRIPT, Placed, PlacedSearch, ScriptError, SearchList, Statement};
-pub use watch_text::{print_no_watch, print_taken, print_watch, print_watched};
+pub use watch_text::{Heading, print_no_watch, print_taken, print_watch, print_watched};

@@ -60,8 +60,8 @@ pub enum Statement {
     Game {
         number: u32,
     },
-    /// `opening C R D M`: the positions that came up in games on boards of this shape, turned or not, at
-    /// M nodes or more with a move number of at most D, and what was played next.
+    /// `opening C R D M`: the positions that came up M times or more in games on boards of this shape,
+    /// turned or not, at roots or by a change, with a move number of at most D; and what was played next.
     Opening {
         shape: Shape,
         depth: u32,

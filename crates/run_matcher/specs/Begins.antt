@@ -1,5 +1,5 @@
 -- The nodes at which wanted cells begin to stand, and how far a placement is known to hold in
--- stretches: words for the private functions.
+-- stretches: definitions for the private functions.
 use Rattle.std.specs.Prelude.{◌≡◌, ℕ, ◌<◌, ◌≤◌, IfSome, List}
 use Rattle.capture_index.specs.declared.stretch.Stretch.{Stretch}
 use Rattle.capture_index.specs.declared.stretch.Want.{Want}

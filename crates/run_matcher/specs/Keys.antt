@@ -1,4 +1,4 @@
--- Occurrences, and how far they are known to hold, as numbers, the keys: words for the private
+-- Occurrences, and how far they are known to hold, as numbers, the keys: definitions for the private
 -- functions.
 use Rattle.std.specs.Prelude.{ℕ, ◌+◌, ◌*◌, ◌/◌, ◌%◌, List, map}
 use Rattle.line_matcher.specs.declared.occurrence.Occurrence.{Occurrence}

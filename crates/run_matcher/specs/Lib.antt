@@ -1,8 +1,8 @@
--- Words that contracts of public functions rest on.
+-- Definitions that contracts of public functions rest on.
 pub mod GoingOn
 pub mod PlacementOccurrences
 pub mod SoughtPlacements
--- Words of private functions.
+-- Definitions of private functions.
 pub mod Begins
 pub mod Keys
 pub mod Matchers

@@ -43,7 +43,7 @@ pub(crate) fn push_keys(
 ) -> Result<(), NoMemory>
     requires nodes { All (λ n. n < 65536) nodes.now }
     requires placement { placement < 65536 }
-    requires below { known ≤ 65536 }
+    requires known { known ≤ 65536 }
     ensures added { OnOk result (keys.new.items ≡ keys.old.items
         ++ map (key_of placement known) nodes.now) }
     ensures kept { IsPrefix keys.old.items keys.new.items }
@@ -58,7 +58,7 @@ pub(crate) fn push_keys(
 fn key(node: u32, placement: u32, known: u32) -> u64
     requires node { node < 65536 }
     requires placement { placement < 65536 }
-    requires below { known ≤ 65536 }
+    requires known { known ≤ 65536 }
     ensures { result ≡ key_of placement known node }
 {
     (u64::from(node) * ROOM + u64::from(placement)) * KNOWN_ROOM + u64::from(known)

@@ -41,9 +41,9 @@ candidate_is found c g (k, lt, at) bit = (k, c, lt, at, (refl, bit))
 
 -- ---- what is added for one shape
 
-module _ (query : Query) (shapes : List Shape) (planes : PlaneGames) (asked : ℕ) (old new : List Candidate) where
+module _ (query : Query) (shapes : List Shape) (planes : PlaneGames) (among : ℕ) (old new : List Candidate) where
   -- nothing, where the query has no images
-  pub AreAddedOn-none : ¬ Contains shapes planes.shape → new ≡ old → AreAddedOn query shapes planes asked old new
+  pub AreAddedOn-none : ¬ Contains shapes planes.shape → new ≡ old → AreAddedOn query shapes planes among old new
   AreAddedOn-none not same = record {
     more = [];
     added = same ∙ sym (append-nil old);
@@ -54,7 +54,7 @@ module _ (query : Query) (shapes : List Shape) (planes : PlaneGames) (asked : �
   }
 
   -- the candidates of its images
-  pub AreAddedOn-found : (placements : List Placement) → ArePlacements query planes.shape placements → AreCandidatesAdded planes placements asked old new → AreAddedOn query shapes planes asked old new
+  pub AreAddedOn-found : (placements : List Placement) → ArePlacements query planes.shape placements → AreCandidatesAdded planes placements among old new → AreAddedOn query shapes planes among old new
   AreAddedOn-found placements are found = record {
     more = found.more;
     added = found.added;
@@ -75,7 +75,7 @@ module _ (query : Query) (shapes : List Shape) (planes : PlaneGames) (asked : �
 
 -- ---- one shape after another
 
-module _ (query : Query) (shapes : List Shape) (games : List Game) (asked : ℕ) where
+module _ (query : Query) (shapes : List Shape) (games : List Game) (among : ℕ) where
   -- each placement of which each cell was allowed in a game is a candidate of it
   abbrev AreAllFor : Tree → (ℕ → Type 0) → Type 0
   AreAllFor tree may_have = (changes : Deltas) (ps : List Placement) → AreNodeChanges tree changes → ArePlacements query tree.shape ps → (i : ℕ) → i < length ps → WereAllowed changes (placement_at ps i) → may_have i
@@ -84,7 +84,7 @@ module _ (query : Query) (shapes : List Shape) (games : List Game) (asked : ℕ)
   pub record AreFoundTo (planes : List PlaneGames) (k : ℕ) (found : List Candidate) : Type 0 where
     pub in_range : AreInRange query games (IsCandidate found)
     pub sound : (g : ℕ) (game : Game) → slice_get games g ≡ Some game → (changes : Deltas) (ps : List Placement) → AreNodeChanges game.tree changes → 0 < node_count changes → ArePlacements query game.tree.shape ps → (i : ℕ) → IsCandidate found g i → WereAllowed changes (placement_at ps i)
-    pub complete : (j g : ℕ) (d : PlaneGames) (game : Game) → IsCovered query shapes game.tree.shape → j < k → slice_get games g ≡ Some game → bit_at asked g ≡ 1 → (get_or planes j d).shape ≡ game.tree.shape → AreAllFor game.tree (IsCandidate found g)
+    pub complete : (j g : ℕ) (d : PlaneGames) (game : Game) → IsCovered query shapes game.tree.shape → j < k → slice_get games g ≡ Some game → bit_at among g ≡ 1 → (get_or planes j d).shape ≡ game.tree.shape → AreAllFor game.tree (IsCandidate found g)
 
   pub AreFoundTo-start : (planes : List PlaneGames) (found : List Candidate) → found ≡ [] → AreFoundTo planes 0 found
   AreFoundTo-start planes found none = subst (AreFoundTo planes 0) (sym none) (record {
@@ -93,7 +93,7 @@ module _ (query : Query) (shapes : List Shape) (games : List Game) (asked : ℕ)
     complete = λ j g d game covered lt. absurd (omega (arith, lt));
   })
 
-  module _ (few : length games ≤ 64) (planes : List PlaneGames) (k : ℕ) (p : PlaneGames) (lt : k < length planes) (at : p ≡ get_or planes k p) (on : ArePlanesOn games p) (old new : List Candidate) (so_far : AreFoundTo planes k old) (added : AreAddedOn query shapes p asked old new) where
+  module _ (few : length games ≤ 64) (planes : List PlaneGames) (k : ℕ) (p : PlaneGames) (lt : k < length planes) (at : p ≡ get_or planes k p) (on : ArePlanesOn games p) (old new : List Candidate) (so_far : AreFoundTo planes k old) (added : AreAddedOn query shapes p among old new) where
     below_64 : (g : ℕ) (game : Game) → slice_get games g ≡ Some game → g < 64
     below_64 g game there = omega (arith, few, slice_get_within games g game there)
 
@@ -120,7 +120,7 @@ module _ (query : Query) (shapes : List Shape) (games : List Game) (asked : ℕ)
           (allowed_where_possible p.shape game.tree (get_or p.games g None) (told g game there) changes of some (placement_at ps c.placement) possible)
     ]
 
-    complete_here : (g : ℕ) (game : Game) → IsCovered query shapes game.tree.shape → slice_get games g ≡ Some game → bit_at asked g ≡ 1 → p.shape ≡ game.tree.shape → AreAllFor game.tree (IsCandidate (old ++ added.more) g)
+    complete_here : (g : ℕ) (game : Game) → IsCovered query shapes game.tree.shape → slice_get games g ≡ Some game → bit_at among g ≡ 1 → p.shape ≡ game.tree.shape → AreAllFor game.tree (IsCandidate (old ++ added.more) g)
     complete_here g game covered there bit same changes ps of are i in_list were =
         let covers = subst (IsCovered query shapes) (sym same) covered in
         let placed : IsPlacedOn game.tree.shape (placement_at ps i) = IsPlacedOn-result query game.tree.shape (placement_at ps i) (are.sound i no_placement in_list) in
@@ -128,7 +128,7 @@ module _ (query : Query) (shapes : List Shape) (games : List Game) (asked : ℕ)
         Any-behind (λ (c : Candidate). (c.placement ≡ i) × (bit_at c.games g ≡ 1)) old added.more
         (added.complete covers ps (subst (λ (s : Shape). ArePlacements query s ps) (sym same) are) i g in_list (below_64 g game there) bit possible)
 
-    complete : (j g : ℕ) (d : PlaneGames) (game : Game) → IsCovered query shapes game.tree.shape → j < k + 1 → slice_get games g ≡ Some game → bit_at asked g ≡ 1 → (get_or planes j d).shape ≡ game.tree.shape → AreAllFor game.tree (IsCandidate (old ++ added.more) g)
+    complete : (j g : ℕ) (d : PlaneGames) (game : Game) → IsCovered query shapes game.tree.shape → j < k + 1 → slice_get games g ≡ Some game → bit_at among g ≡ 1 → (get_or planes j d).shape ≡ game.tree.shape → AreAllFor game.tree (IsCandidate (old ++ added.more) g)
     complete j g d game covered less there bit same = elim (cases_eq j k) [
       | inr ne ↦ λ changes ps of are i in_list were.
           Any-front (λ (c : Candidate). (c.placement ≡ i) × (bit_at c.games g ≡ 1)) old added.more (so_far.complete j g d game covered (omega (arith, less, ne)) there bit same changes ps of are i in_list were)
@@ -142,7 +142,7 @@ module _ (query : Query) (shapes : List Shape) (games : List Game) (asked : ℕ)
 
   -- all planes of the block
   module _ (few : length games ≤ 64) (planes : List PlaneGames) (k : ℕ) (found : List Candidate) (le : length planes ≤ k) (are : ArePlanesOf games planes) (so_far : AreFoundTo planes k found) where
-    all_for : (g : ℕ) (game : Game) → slice_get games g ≡ Some game → bit_at asked g ≡ 1 → IsCovered query shapes game.tree.shape → AreAllFor game.tree (IsCandidate found g)
+    all_for : (g : ℕ) (game : Game) → slice_get games g ≡ Some game → bit_at among g ≡ 1 → IsCovered query shapes game.tree.shape → AreAllFor game.tree (IsCandidate found g)
     all_for g game there bit covered =
         let within = slice_get_within games g game there in
         let read = get_or_from_slice_get games g game game there in
@@ -153,5 +153,5 @@ module _ (query : Query) (shapes : List Shape) (games : List Game) (asked : ℕ)
         so_far.complete j g none game covered (omega (arith, inside, le)) there bit
         (sym (get_or-map (λ (q : PlaneGames). q.shape) planes j none game.tree.shape inside) ∙ at)
 
-    pub AreAllowed-all : AreAllowed query shapes games asked (IsCandidate found)
+    pub AreAllowed-all : AreAllowed query shapes games among (IsCandidate found)
     AreAllowed-all g game there bit covered changes ps of some are i in_list = (so_far.sound g game there changes ps of some are i, all_for g game there bit covered changes ps of are i in_list)

@@ -34,14 +34,14 @@ use Rattle.search_engine.proofs.Gathering.{begins-occurs, occurs-begins}
 use Rattle.search_engine.proofs.PossibleGames.{not_none, on_shape_where_there, possible_where_allowed}
 
 -- candidates that are added to none are all
-pub only_candidates : (p : PlaneGames) (asked : ℕ) (sieved images : ImageList) (old new found : List Candidate) → sieved ≡ images → old ≡ [] → found ≡ new → AreCandidatesAdded p sieved.placements asked old new → AreCandidates p images.placements asked found
-only_candidates p asked sieved images old new found same none read added =
+pub only_candidates : (p : PlaneGames) (among : ℕ) (sieved images : ImageList) (old new found : List Candidate) → sieved ≡ images → old ≡ [] → found ≡ new → AreCandidatesAdded p sieved.placements among old new → AreCandidates p images.placements among found
+only_candidates p among sieved images old new found same none read added =
     let is : found ≡ added.more = read ∙ added.added ∙ ap (λ (cs : List Candidate). cs ++ added.more) none in
-    subst (λ (i : ImageList). AreCandidates p i.placements asked found) same (subst (λ (cs : List Candidate). AreCandidates p sieved.placements asked cs) (sym is) added.are)
+    subst (λ (i : ImageList). AreCandidates p i.placements among found) same (subst (λ (cs : List Candidate). AreCandidates p sieved.placements among cs) (sym is) added.are)
 
 -- ---- the games on boards of one shape
 
-module _ (query : Query) (games : List Game) (few : length games ≤ 64) (asked : ℕ) (p : PlaneGames) (on : ArePlanesOn games p) (placements : List Placement) (are : ArePlacements query p.shape placements) (found : List Candidate) (exact : AreCandidates p placements asked found) where
+module _ (query : Query) (games : List Game) (few : length games ≤ 64) (among : ℕ) (p : PlaneGames) (on : ArePlanesOn games p) (placements : List Placement) (are : ArePlacements query p.shape placements) (found : List Candidate) (exact : AreCandidates p placements among found) where
   -- what the planes have for a game
   told : (g : ℕ) (game : Game) → slice_get games g ≡ Some game → IsGameOfPlanes p.shape game.tree (get_or p.games g None)
   told g game there = subst (λ (h : Game). IsGameOfPlanes p.shape h.tree (get_or p.games g None)) (get_or_from_slice_get games g game game there) (on.1 g game (slice_get_within games g game there))
@@ -50,7 +50,7 @@ module _ (query : Query) (games : List Game) (few : length games ≤ 64) (asked 
   in_list c there = All-contains (λ (d : Candidate). d.placement < length placements) found c exact.in_range there
 
   -- the sets of a game meet the placement of a candidate that has a bit for it
-  possible : (c : Candidate) (g : ℕ) → Contains found c → g < 64 → bit_at c.games g ≡ 1 → (bit_at asked g ≡ 1) × IsPossibleIn p g (placement_at placements c.placement)
+  possible : (c : Candidate) (g : ℕ) → Contains found c → g < 64 → bit_at c.games g ≡ 1 → (bit_at among g ≡ 1) × IsPossibleIn p g (placement_at placements c.placement)
   possible c g there below bit = (exact.exact c.placement g (in_list c there) below).0 (candidate_is found c g there bit)
 
   shape_of : (c : Candidate) (g : ℕ) (game : Game) → slice_get games g ≡ Some game → Contains found c → bit_at c.games g ≡ 1 → game.tree.shape ≡ p.shape
@@ -72,7 +72,7 @@ module _ (query : Query) (games : List Game) (few : length games ≤ 64) (asked 
 
   module _ (shapes : List Shape) (covered : Contains shapes p.shape) where
     abbrev here : ℕ → Tree → Deltas → Occurrence → Type 0
-    here = IsOnShape query shapes asked p.shape
+    here = IsOnShape query shapes among p.shape
 
     -- an occurrence of a candidate's placement is one in the game
     sound : (g : ℕ) (game : Game) → slice_get games g ≡ Some game → (changes : Deltas) → AreNodeChanges game.tree changes → (o : Occurrence) → IsOfCandidates placements found (length found) g game.tree changes o → here g game.tree changes o
@@ -104,26 +104,26 @@ module _ (query : Query) (games : List Game) (few : length games ≤ 64) (asked 
     on_shape old new gathered = AreGathered-as games here (IsOfCandidates placements found (length found)) old new (λ g game at changes of o. (sound g game at changes of o, complete g game at changes of o)) gathered
 
 -- where the query doesn't look on boards of the shape nothing is added
-pub not_on_shape : (query : Query) (shapes : List Shape) (games : List Game) (asked : ℕ) (shape : Shape) (lists : List (List Begun)) → ¬ Contains shapes shape → AreGathered games (IsOnShape query shapes asked shape) lists lists
-not_on_shape query shapes games asked shape lists none = AreGathered-none games (IsOnShape query shapes asked shape) lists (λ g tree changes o h. none (subst (Contains shapes) h.1 h.2))
+pub not_on_shape : (query : Query) (shapes : List Shape) (games : List Game) (among : ℕ) (shape : Shape) (lists : List (List Begun)) → ¬ Contains shapes shape → AreGathered games (IsOnShape query shapes among shape) lists lists
+not_on_shape query shapes games among shape lists none = AreGathered-none games (IsOnShape query shapes among shape) lists (λ g tree changes o h. none (subst (Contains shapes) h.1 h.2))
 
 -- ---- one shape after another
 
-module _ (query : Query) (shapes : List Shape) (games : List Game) (asked : ℕ) (planes : List PlaneGames) where
-  pub on_planes-start : (lists : List (List Begun)) → ((g : ℕ) → gathered_of lists g ≡ []) → AreGathered games (IsOnPlanes query shapes asked planes 0) [] lists
+module _ (query : Query) (shapes : List Shape) (games : List Game) (among : ℕ) (planes : List PlaneGames) where
+  pub on_planes-start : (lists : List (List Begun)) → ((g : ℕ) → gathered_of lists g ≡ []) → AreGathered games (IsOnPlanes query shapes among planes 0) [] lists
   on_planes-start lists none g game there changes of o = (
     λ h. absurd (omega (arith, h.1, ap length (none g))),
     λ h. elim h [ inl before ↦ absurd (omega (arith, before.1)) | inr is ↦ absurd (omega (arith, is.2)) ],
   )
 
-  pub on_planes-more : (k : ℕ) (p : PlaneGames) (mid new : List (List Begun)) → k < length planes → p ≡ get_or planes k p → AreGathered games (IsOnPlanes query shapes asked planes k) [] mid → AreGathered games (IsOnShape query shapes asked p.shape) mid new → AreGathered games (IsOnPlanes query shapes asked planes (k + 1)) [] new
+  pub on_planes-more : (k : ℕ) (p : PlaneGames) (mid new : List (List Begun)) → k < length planes → p ≡ get_or planes k p → AreGathered games (IsOnPlanes query shapes among planes k) [] mid → AreGathered games (IsOnShape query shapes among p.shape) mid new → AreGathered games (IsOnPlanes query shapes among planes (k + 1)) [] new
   on_planes-more k p mid new lt at so_far added =
-      AreGathered-more games (IsOnPlanes query shapes asked planes (k + 1)) (IsOnPlanes query shapes asked planes k) (IsOnShape query shapes asked p.shape) [] mid new (λ g tree changes o. (
+      AreGathered-more games (IsOnPlanes query shapes among planes (k + 1)) (IsOnPlanes query shapes among planes k) (IsOnShape query shapes among p.shape) [] mid new (λ g tree changes o. (
         λ (j, q, less, read, h). elim (cases_eq j k) [
           | inr ne ↦ inl (j, q, omega (arith, less, ne), read, h)
           | inl same ↦
               let is : q ≡ p = sym read ∙ ap (λ (n : ℕ). get_or planes n q) same ∙ get_or_default planes k q p lt ∙ sym at in
-              inr (subst (λ (r : PlaneGames). IsOnShape query shapes asked r.shape g tree changes o) is h)
+              inr (subst (λ (r : PlaneGames). IsOnShape query shapes among r.shape g tree changes o) is h)
         ],
         λ h. elim h [
           | inl (j, q, less, read, is) ↦ (j, q, omega (arith, less), read, is)
@@ -145,7 +145,7 @@ module _ (query : Query) (shapes : List Shape) (games : List Game) (asked : ℕ)
         let p = get_or planes j none in
         (j, p, omega (arith, inside, le), get_or_default planes j p none inside, sym at ∙ get_or-map (λ (q : PlaneGames). q.shape) planes j none game.tree.shape inside)
 
-    pub on_planes-all : (filter : Filter) (skip : ℕ) (new : List (List Begun)) → AreAccepted filter skip games asked → AreGathered games (IsOnPlanes query shapes asked planes k) [] new → HaveOccurrences query filter shapes skip games new
+    pub on_planes-all : (filter : Filter) (skip : ℕ) (new : List (List Begun)) → AreAccepted filter skip games among → AreGathered games (IsOnPlanes query shapes among planes k) [] new → HaveOccurrences query filter shapes skip games new
     on_planes-all filter skip new accepted gathered g game low there changes of o = (
       λ h. elim ((gathered g game there changes of o).0 h) [
         | inl before ↦ absurd (omega (arith, before.1))

@@ -29,8 +29,8 @@ module _ (query : Query) (games : List Game) (few : length games ≤ 64) (found 
   pub in_range-listed : AreInRange query games (IsCandidate found) → AreInRange query games (IsListed lists)
   in_range-listed in_range g game there placements are i listed = in_range g game there placements are i ((is_listed g game there i).0 listed)
 
-  pub allowed-listed : (shapes : List Shape) (asked : ℕ) → AreAllowed query shapes games asked (IsCandidate found) → AreAllowed query shapes games asked (IsListed lists)
-  allowed-listed shapes asked allowed g game there bit covered changes placements of some are i in_list =
+  pub allowed-listed : (shapes : List Shape) (among : ℕ) → AreAllowed query shapes games among (IsCandidate found) → AreAllowed query shapes games among (IsListed lists)
+  allowed-listed shapes among allowed g game there bit covered changes placements of some are i in_list =
       let is = is_listed g game there i in
       let told = allowed g game there bit covered changes placements of some are i in_list in
       (λ listed. told.0 (is.0 listed), λ were. is.1 (told.1 were))

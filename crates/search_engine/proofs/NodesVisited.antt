@@ -1,6 +1,6 @@
 -- The nodes at which hits stand are visited, each by a step.
 use Rattle.std.proofs.Common.{◌≡◌, inl, inr, ◌⊎◌, ℕ, ◌+◌, ◌<◌, ◌≤◌, Bool, true, false, eqb, if◌then◌else◌, List, [], ◌∷◌, ◌++◌, append_assoc, get_or, length, refl, sym, ap, ◌∙◌, subst, arith}
-use Rattle.std.specs.Prelude.{AllPairs, ◌&&◌}
+use Rattle.std.specs.Prelude.{AllPairs}
 use Rattle.std.proofs.lemmas.Bool.{and_from, cases_lt, eq-eqb}
 use Rattle.std.proofs.lemmas.List.{append-nil, get_or_default}
 use Rattle.game_tree.specs.Tree.{Tree}

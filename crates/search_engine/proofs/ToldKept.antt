@@ -93,7 +93,7 @@ module _ (changes : Deltas) (placement : Placement) where
     told_lies : (column row dx dy : ℕ) → Told (Lies column row dx dy)
     told_lies column row dx dy =
         told_as ((dx < placement.grid.cols) × ((dy < placement.grid.rows) × (under dx dy ≡ point_in_frame corner changes.shape column row))) (Lies column row dx dy)
-        (λ all. record { in_cols = all.0; in_rows = all.1.0; there = all.1.1 }) (λ lies. (lies.in_cols, (lies.in_rows, lies.there)))
+        (λ all. record { in_cols = all.0; in_rows = all.1.0; on_point = all.1.1 }) (λ lies. (lies.in_cols, (lies.in_rows, lies.on_point)))
         (told_both (dx < placement.grid.cols) ((dy < placement.grid.rows) × (under dx dy ≡ point_in_frame corner changes.shape column row)) (told_lt dx placement.grid.cols)
         (told_both (dy < placement.grid.rows) (under dx dy ≡ point_in_frame corner changes.shape column row) (told_lt dy placement.grid.rows) (told_eq (under dx dy) (point_in_frame corner changes.shape column row))))
 

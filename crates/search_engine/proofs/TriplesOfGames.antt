@@ -63,7 +63,7 @@ module _ (query : Query) (filter : Filter) where
         triples = l.triples;
         exactly = l.are.exactly;
         ordered = l.are.ordered;
-        told = record {
+        of_triples = record {
           same_length = zip-length (told_in games) hits l.triples l.told;
           each = λ k t h lt. zip-at (told_in games) hits l.triples k h t l.told (omega (arith, lt, zip-length (told_in games) hits l.triples l.told));
         };
@@ -121,5 +121,5 @@ module _ (query : Query) (filter : Filter) where
         let found = hits-found 0 query filter games trees in
         let other = all-triples games found.0 trees found.1 in
         let same = those-same game_of (found_there query filter) IsTripleBefore opposed games have.triples other.triples (record { exactly = have.exactly; ordered = have.ordered }) (record { exactly = other.exactly; ordered = other.ordered }) in
-        let told = subst (λ (ts : List Triple). AreHitsOfTriples games ts hits) same have.told in
-        subst (AreHits query filter games) (sym (told-same other.triples hits found.0 told other.told)) found.1
+        let told = subst (λ (ts : List Triple). AreHitsOfTriples games ts hits) same have.of_triples in
+        subst (AreHits query filter games) (sym (told-same other.triples hits found.0 told other.of_triples)) found.1

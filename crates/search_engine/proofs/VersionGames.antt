@@ -1,9 +1,9 @@
--- The items of parts, one part after another: one part more, and the part of an item.
-use Rattle.std.proofs.Common.{◌≡◌, ◌∙◌, ◌+◌, ◌-◌, ◌<◌, ◌≤◌, ◌++◌, ℕ, zero, suc, List, [], ◌∷◌, Some, None, append_assoc, arith, get_or, length, length-append, map, slice_get, sym, ap, subst, take}
-use Rattle.std.proofs.lemmas.List.{append-nil, map-append, take_all, take_more}
-use Rattle.std.proofs.lemmas.Option.{get_or_from_slice_get, slice_get_past, slice_get_within}
+-- The items of parts, one part after another: how many they are, and the part of an item.
+use Rattle.std.proofs.Common.{◌≡◌, ◌∙◌, ◌+◌, ◌-◌, ◌<◌, ◌≤◌, ◌++◌, ℕ, zero, suc, List, [], ◌∷◌, Some, None, arith, get_or, length, length-append, map, slice_get, ap, subst, take}
+use Rattle.std.proofs.lemmas.List.{take_all}
+use Rattle.std.proofs.lemmas.Option.{slice_get_past}
 use Rattle.version_publisher.specs.Contents.{items_in}
-use Rattle.version_publisher.proofs.ReadyStates.{joined-append}
+use Rattle.segment_store.proofs.VersionGames.{part-more}
 
 -- what stands in a list stands there in front of another too
 get-within : {A : Type 0} (xs ys : List A) (n : ℕ) (x : A) → slice_get xs n ≡ Some x → slice_get (xs ++ ys) n ≡ Some x
@@ -18,15 +18,6 @@ get-past (a ∷ xs) ys zero low = absurd (omega (arith, low))
 get-past (a ∷ xs) ys (suc n) low = let less : n - length xs ≡ suc n - suc (length xs) = omega arith in get-past xs ys n (omega (arith, low)) ∙ ap (slice_get ys) less
 
 module _ {X A : Type 0} (v : X → List A) where
-  -- the items of one part more
-  pub part-more : (parts : List X) (k : ℕ) (part : X) → k < length parts → part ≡ get_or parts k part → items_in (map v (take (k + 1) parts)) ≡ items_in (map v (take k parts)) ++ v part
-  part-more parts k part below at =
-      let before = take k parts in
-      ap (λ ps. items_in (map v ps)) (take_more parts k part below ∙ ap (λ p. before ++ p ∷ []) (sym at))
-      ∙ ap items_in (map-append v before (part ∷ []))
-      ∙ joined-append (map v before) (v part ∷ [])
-      ∙ ap (λ xs. items_in (map v before) ++ xs) (append-nil (v part))
-
   -- these are not more than those of all parts
   pub part-fits : (parts : List X) (k : ℕ) (part : X) → k < length parts → part ≡ get_or parts k part → length (items_in (map v (take k parts))) + length (v part) ≤ length (items_in (map v parts))
   part-fits [] k part below at = absurd (omega (arith, below))
@@ -50,7 +41,7 @@ module _ {X A : Type 0} (v : X → List A) where
   pub count-more : (parts : List X) (k : ℕ) (part : X) (count more : ℕ) → k < length parts → part ≡ get_or parts k part → count ≡ length (items_in (map v (take k parts))) → more ≡ length (v part)
       → count + more ≡ length (items_in (map v (take (k + 1) parts)))
   count-more parts k part count more below at so_far is =
-      omega (arith, so_far, is, ap length (part-more parts k part below at), length-append (items_in (map v (take k parts))) (v part))
+      omega (arith, so_far, is, ap length (part-more v parts k part below at), length-append (items_in (map v (take k parts))) (v part))
 
   -- so many are those of all parts
   pub counted : (parts : List X) (all : List (List A)) (k count : ℕ) → length parts ≤ k → map v parts ≡ all → count ≡ length (items_in (map v (take k parts))) → count ≡ length (items_in all)
@@ -60,13 +51,3 @@ module _ {X A : Type 0} (v : X → List A) where
   pub none-behind : (parts : List X) (all : List (List A)) (k count n : ℕ) → length parts ≤ k → map v parts ≡ all → count ≡ length (items_in (map v (take k parts))) → count ≤ n → slice_get (items_in all) n ≡ None
   none-behind parts all k count n past is so_far low =
       slice_get_past (items_in all) n (omega (arith, counted parts all k count past is so_far, low))
-
--- one item more of a list
-pub game-more : {X A : Type 0} (v : X → A) (all : List A) (k : ℕ) (x : X) (old before new : List X) → slice_get all k ≡ Some (v x) → map v before ≡ map v old ++ take k all → new ≡ before ++ x ∷ [] → map v new ≡ map v old ++ take (k + 1) all
-game-more v all k x old before new found so_far pushed =
-    ap (map v) pushed
-    ∙ map-append v before (x ∷ [])
-    ∙ ap (λ ys. ys ++ v x ∷ []) so_far
-    ∙ append_assoc (map v old) (take k all) (v x ∷ [])
-    ∙ ap (λ y. map v old ++ (take k all ++ y ∷ [])) (sym (get_or_from_slice_get all k (v x) (v x) found))
-    ∙ ap (λ ys. map v old ++ ys) (sym (take_more all k (v x) (slice_get_within all k (v x) found)))

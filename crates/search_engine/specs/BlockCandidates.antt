@@ -1,4 +1,5 @@
--- Which placements the games of a block may have: words of the private functions that search a block.
+-- Which placements the games of a block may have: definitions of the private functions that search
+-- a block.
 use Rattle.std.specs.Prelude.{◌≡◌, ◌≢◌, ℕ, ◌<◌, ◌≤◌, ◌⊎◌, ◌↔◌, ◌++◌, [], Any, Contains, List, None, Some, length, slice_index_or}
 use Rattle.std.specs.Int.{bit_at}
 use Rattle.std.specs.List.{slice_get}
@@ -57,11 +58,11 @@ abbrev pub AreInRange : Query → List Game → (ℕ → ℕ → Type 0) → Typ
 AreInRange query games may_have = (g : ℕ) (game : Game) → slice_get games g ≡ Some game →
     AreInRangeFor query game.tree (may_have g)
 
--- those of each game that is asked for and on a board of one of the shapes are those of which each
--- cell was allowed
+-- those of each of these games that is on a board of one of the shapes are those of which each cell
+-- was allowed
 abbrev pub AreAllowed : Query → List Shape → List Game → ℕ → (ℕ → ℕ → Type 0) → Type 0
-AreAllowed query shapes games asked may_have = (g : ℕ) (game : Game) →
-    slice_get games g ≡ Some game → bit_at asked g ≡ 1 → IsCovered query shapes game.tree.shape →
+AreAllowed query shapes games among may_have = (g : ℕ) (game : Game) →
+    slice_get games g ≡ Some game → bit_at among g ≡ 1 → IsCovered query shapes game.tree.shape →
     AreAllowedFor query game.tree (may_have g)
 
 -- ---- candidates
@@ -80,22 +81,22 @@ abbrev pub candidate_at : List Candidate → ℕ → Candidate
 candidate_at found j = slice_index_or found j no_candidate
 
 -- The list grows by candidates of games on boards of the shape of some planes: by placements on
--- these boards, for games that are there and asked for and may have them. If the shape is covered,
--- all that are possible are added.
-pub record AreAddedOn (query : Query) (shapes : List Shape) (planes : PlaneGames) (asked : ℕ)
+-- these boards, for games that are there and among the given ones and may have them. If the shape
+-- is covered, all that are possible are added.
+pub record AreAddedOn (query : Query) (shapes : List Shape) (planes : PlaneGames) (among : ℕ)
     (old new : List Candidate) : Type 0 where
   pub more : List Candidate
   pub added : new ≡ old ++ more
   pub in_range : (placements : List Placement) → ArePlacements query planes.shape placements →
       (c : Candidate) → Contains more c → c.placement < length placements
   pub of_games : (c : Candidate) (g : ℕ) → Contains more c → g < 64 → bit_at c.games g ≡ 1 →
-      (bit_at asked g ≡ 1) × (slice_index_or planes.games g None ≢ None)
+      (bit_at among g ≡ 1) × (slice_index_or planes.games g None ≢ None)
   pub sound : (placements : List Placement) → ArePlacements query planes.shape placements →
       (c : Candidate) (g : ℕ) → Contains more c → g < 64 → bit_at c.games g ≡ 1 →
       IsPossibleIn planes g (placement_at placements c.placement)
   pub complete : IsCovered query shapes planes.shape → (placements : List Placement) →
       ArePlacements query planes.shape placements → (i g : ℕ) → i < length placements → g < 64 →
-      bit_at asked g ≡ 1 → IsPossibleIn planes g (placement_at placements i) → IsCandidate more g i
+      bit_at among g ≡ 1 → IsPossibleIn planes g (placement_at placements i) → IsCandidate more g i
 
 -- ---- lists of placements, one for each game
 

@@ -1,5 +1,5 @@
--- What is gathered of the games of a block, while its planes are gone over: words of the private
--- functions that search a block.
+-- What is gathered of the games of a block, while its planes are gone over: definitions of the
+-- private functions that search a block.
 use Rattle.std.specs.Prelude.{◌≡◌, ℕ, ◌<◌, ◌≤◌, ◌⊎◌, ◌↔◌, [], Contains, List, Some, slice_index_or}
 use Rattle.std.specs.Int.{bit_at}
 use Rattle.std.specs.List.{slice_get}
@@ -90,17 +90,17 @@ IsOfCandidates placements found k g tree changes o = (j : ℕ) × (j < k)
     × (bit_at (candidate_at found j).games g ≡ 1)
     × IsOccurrenceOf changes placements (candidate_at found j).placement o
 
--- the game is asked for, its board has the shape, which is among those that are looked at, and the
--- occurrence is one in the game
+-- the game is one of these, its board has the shape, which is one of those that are looked at, and
+-- the occurrence is one in the game
 abbrev pub IsOnShape : Query → List Shape → ℕ → Shape → ℕ → Tree → Deltas → Occurrence → Type 0
-IsOnShape query shapes asked shape g tree changes o = (bit_at asked g ≡ 1) × (tree.shape ≡ shape)
+IsOnShape query shapes among shape g tree changes o = (bit_at among g ≡ 1) × (tree.shape ≡ shape)
     × Contains shapes tree.shape × OccursIn query tree changes o
 
 -- the same with the shape of one of the first so many planes
 abbrev pub IsOnPlanes : Query → List Shape → ℕ → List PlaneGames → ℕ → ℕ → Tree → Deltas →
     Occurrence → Type 0
-IsOnPlanes query shapes asked planes k g tree changes o = (j : ℕ) × (p : PlaneGames) × (j < k)
-    × (slice_index_or planes j p ≡ p) × IsOnShape query shapes asked p.shape g tree changes o
+IsOnPlanes query shapes among planes k g tree changes o = (j : ℕ) × (p : PlaneGames) × (j < k)
+    × (slice_index_or planes j p ≡ p) × IsOnShape query shapes among p.shape g tree changes o
 
 -- ---- how far what is gathered goes on to hold
 

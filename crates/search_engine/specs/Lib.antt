@@ -1,10 +1,10 @@
--- Words that contracts of public functions rest on.
+-- Definitions that contracts of public functions rest on.
 pub mod HitNodes
 pub mod Hits
 pub mod KeptGames
 pub mod Numbered
 pub mod Triples
--- Words of private functions.
+-- Definitions of private functions.
 pub mod BlockCandidates
 pub mod Gathering
 pub mod ImagesMade

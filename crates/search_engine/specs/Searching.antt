@@ -1,4 +1,4 @@
--- Words of the private functions that search.
+-- Definitions of the private functions that search.
 use Rattle.std.specs.Prelude.{◌≡◌, ℕ, ◌*◌, ◌<◌, ◌≤◌, All, Contains, List, [], ◌++◌, length, slice_index_or, IfOk}
 use Rattle.std.specs.Fork.{slice_chunk}
 use Rattle.kb_geometry.specs.declared.shape.Shape.{Shape}

@@ -1,4 +1,4 @@
--- How many steps a search takes: words of the private functions that search.
+-- How many steps a search takes: definitions of the private functions that search.
 use Rattle.std.specs.Prelude.{◌≡◌, ℕ, ◌+◌, ◌≤◌, List, ◌++◌}
 use Rattle.node_position.specs.Games.{Game}
 use Rattle.pattern_images.specs.declared.hit.Hit.{Hit}

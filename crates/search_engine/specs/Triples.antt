@@ -90,4 +90,4 @@ pub record AreHitsOfAllTriples (query : Query) (filter : Filter) (games : List G
   pub triples : List Triple
   pub exactly : (t : Triple) → Contains triples t ↔ IsFound query filter games t
   pub ordered : AllPairs IsTripleBefore triples
-  pub told : AreHitsOfTriples games triples hits
+  pub of_triples : AreHitsOfTriples games triples hits

@@ -35,4 +35,4 @@ pub use laws::{
     games_have_one_list_of_hits, hits_of_two_parts_are_those_of_each,
 };
 pub use searches::{search, search_from, search_segment};
-pub use version_games::{find_game, game_count, games};
+pub use version_games::{find_game, game_count};

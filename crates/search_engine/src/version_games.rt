@@ -1,12 +1,10 @@
-// The games of a version by their numbers.
-ghost use Rattle.std.specs.Prelude.{◌≡◌, ◌≤◌, ◌++◌, IfOk, OnOk, length, map};
+// How many games a version has, and its games by their numbers.
+ghost use Rattle.std.specs.Prelude.{◌≡◌, ◌≤◌, length};
 ghost use Rattle.std.specs.List.{slice_get};
 ghost use Rattle.std.specs.Option.{option_map};
 ghost use Rattle.version_publisher.specs.Contents.{items_in};
 
-use kb_geometry::NoMemory;
-use segment_store::{Block, FinishedGame, Segment};
-use std::alloc::Global;
+use segment_store::{FinishedGame, Segment};
 use version_publisher::Version;
 
 /// How many games a version has, at most 400,000.
@@ -19,44 +17,6 @@ pub fn game_count(version: &Version<Segment>) -> u32
         count += part.game_count();
     }
     count
-}
-
-/// All games of a version, in order of their numbers, from 0. The only error is `NoMemory`.
-pub fn games<'a>(
-    alloc: Global,
-    version: &'a Version<Segment>,
-) -> Result<Vec<&'a FinishedGame>, NoMemory>
-    ensures { IfOk result (λ games. map (λ g. g.now) games.items ≡ items_in version.now.parts) }
-{
-    let mut games = Vec::new(alloc);
-    for part in version.parts() {
-        let part: &'a Segment = &*part;
-        add_part(part, &mut games)?;
-    }
-    Ok(games)
-}
-
-// Adds the games of a part.
-fn add_part<'a>(part: &'a Segment, games: &mut Vec<&'a FinishedGame>) -> Result<(), NoMemory>
-    ensures { OnOk result (map (λ g. g.now) games.new.items
-        ≡ map (λ g. g.now) games.old.items ++ part.now) }
-{
-    for numbered in part.blocks() {
-        let block: &'a Block = &*numbered.block;
-        add_block(block, games)?;
-    }
-    Ok(())
-}
-
-// Adds the games of a block.
-fn add_block<'a>(block: &'a Block, games: &mut Vec<&'a FinishedGame>) -> Result<(), NoMemory>
-    ensures { OnOk result (map (λ g. g.now) games.new.items
-        ≡ map (λ g. g.now) games.old.items ++ block.now) }
-{
-    for at in 0..block.len() {
-        games.push(block.get(at))?;
-    }
-    Ok(())
 }
 
 /// The game with this number, from 0, if the version has so many.

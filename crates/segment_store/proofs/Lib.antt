@@ -3,3 +3,4 @@ mod GamesOfPlanes
 mod OneTree
 mod ShapesOfGames
 pub mod CornersOfGames
+pub mod VersionGames

@@ -7,7 +7,8 @@
 //! its list of games. The layers above use that a segment's games are those that were added, in
 //! order, that [`merge`] gives the games of the one and then those of the other, that what is kept
 //! beside a tree is the tree's, that the planes of a block are those of its games, and that
-//! [`Segment::with_corner`] tells exactly the games in which a corner had a number.
+//! [`Segment::with_corner`] tells exactly the games in which a corner had a number. [`games`] gives
+//! all games of a version, for crates that go over them.
 #![tactic(auto)]
 
 mod block;
@@ -19,9 +20,11 @@ mod game_corners;
 mod indexes;
 mod laws;
 mod segment;
+mod version_games;
 
 pub use block::{Block, NumberedBlock};
 pub use builder::SegmentBuilder;
 pub use finished::FinishedGame;
 pub use laws::a_base_has_at_most_400_000_games;
 pub use segment::{MAX_BASE_GAMES, Segment, merge};
+pub use version_games::games;

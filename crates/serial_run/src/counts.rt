@@ -7,8 +7,8 @@ ghost use Rattle.import_work.specs.Rooms.{AreCountsWithinLimits};
 
 use import_work::Counts;
 use kb_geometry::NoMemory;
-use search_engine::{game_count, games};
-use segment_store::{FinishedGame, Segment};
+use search_engine::game_count;
+use segment_store::{FinishedGame, Segment, games};
 use std::alloc::Global;
 use version_publisher::Version;
 

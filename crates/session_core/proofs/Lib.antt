@@ -6,6 +6,7 @@ mod Numbered
 mod Groups
 mod KeysOfGames
 mod FoundGames
+mod AllFound
 mod ListTexts
 mod OpeningTexts
 mod GroupTexts

@@ -28,22 +28,22 @@ has_signature tree is_tree =
     let (form, canonical) = some_canonical_form tree.shape signature (signature-on_board tree is_tree signature of_tree) in
     (signature, form, record { of_tree = of_tree; canonical = canonical })
 
-same_signature : (tree : Tree) → IsTree tree → (a form b form_too : List ℕ) → HasSignature tree a form → HasSignature tree b form_too → (a ≡ b) × (form ≡ form_too)
+pub same_signature : (tree : Tree) → IsTree tree → (a form b form_too : List ℕ) → HasSignature tree a form → HasSignature tree b form_too → (a ≡ b) × (form ≡ form_too)
 same_signature tree is_tree a form b form_too one other =
     let same = signature-only tree is_tree a b one.of_tree other.of_tree in
     (same, canonical-only tree.shape a form form_too one.canonical (subst (λ (s : List ℕ). IsCanonicalForm tree.shape s form_too) (sym same) other.canonical))
 
-abbrev AreTrees : List Game → Type 0
+abbrev pub AreTrees : List Game → Type 0
 AreTrees games = All (λ (g : Game). IsTree g.tree) games
 
-last_tree : (games : List Game) (game : Game) → AreTrees (games ++ game ∷ []) → IsTree game.tree
+pub last_tree : (games : List Game) (game : Game) → AreTrees (games ++ game ∷ []) → IsTree game.tree
 last_tree games game trees =
     subst (λ (g : Game). IsTree g.tree) (get_or-append_seam games game [] game) (trees (length games) game (omega (arith, length-append games (game ∷ []))))
 
 -- ---- the games that are found
 
 module _ (pattern : List ℕ) where
-  found_from : (done rest : List Game) (found : List FoundGame) → AreTrees rest → AreGamesFound pattern done found → (more : List FoundGame) × AreGamesFound pattern (done ++ rest) more
+  pub found_from : (done rest : List Game) (found : List FoundGame) → AreTrees rest → AreGamesFound pattern done found → (more : List FoundGame) × AreGamesFound pattern (done ++ rest) more
   found_from done [] found trees are = (found, subst (λ games. AreGamesFound pattern games found) (sym (append-nil done)) are)
   found_from done (game ∷ rest) found trees are =
       let is_tree = All-head (λ (g : Game). IsTree g.tree) game rest trees in

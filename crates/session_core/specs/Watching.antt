@@ -1,4 +1,4 @@
--- Words of the private functions that keep watched searches.
+-- Definitions of the private functions that keep watched searches.
 use Rattle.std.specs.Prelude.{◌≡◌, ◌+◌, ◌<◌, ◌≤◌, ℕ, List, ◌∷◌, ◌++◌, length, slice_index_or, take, drop}
 use Rattle.info_filter.specs.declared.filter.Filter.{Filter}
 use Rattle.node_position.specs.Games.{Game}

@@ -1,6 +1,6 @@
 // Laws. Each stands as a contract of a function that does nothing.
 ghost use mathlib.Core.List.{IsPrefix};
-ghost use Rattle.std.specs.Prelude.{◌≡◌, ℕ, All, IsTrue, List, false};
+ghost use Rattle.std.specs.Prelude.{◌≡◌, ◌↔◌, ℕ, All, IsTrue, List, false};
 ghost use Rattle.kb_edges.specs.Files.{File};
 ghost use Rattle.game_tree.specs.Tree.{IsTree};
 ghost use Rattle.node_position.specs.Games.{Game};
@@ -11,6 +11,7 @@ ghost use Rattle.import_work.specs.Course.{ImportCourse, losses_of};
 ghost use Rattle.session_core.specs.Answers.{IsAnswer, IsAnswered, View};
 ghost use Rattle.session_core.specs.Lawful.{IsBegun, IsLawful, Rules};
 ghost use Rattle.session_core.specs.SessionState.{SessionState};
+ghost use Rattle.session_core.specs.Signed.{AreAllGamesFound, AreGamesFound, FoundGame};
 
 /// A statement that a session answers has a text over a version of trees, and one only; and so has
 /// what it leaves behind.
@@ -58,4 +59,12 @@ pub fn a_serial_output_is_lawful_beside_imports()
         (course : List ImportCourse) (out : List ℕ) →
         IsLawful files rules boxes course placed out →
         IsLawful files (record rules { serial = false }) boxes course placed out }
+{}
+
+/// The games that a signature pattern finds are exactly those whose signature matches it, each once,
+/// ascending by number, with the canonical forms of their signatures.
+pub fn a_pattern_finds_the_games_that_match()
+    ensures { (pattern : List ℕ) (games : List Game) (found : List FoundGame) →
+        All (λ (g : Game). IsTree g.tree) games →
+        AreGamesFound pattern games found ↔ AreAllGamesFound pattern games found }
 {}

@@ -36,8 +36,8 @@ use kb_geometry::NoMemory;
 use query_script::{
     print_double, print_doubles_head, print_found_game, print_players, print_signature_head,
 };
-use search_engine::{game_count, games};
-use segment_store::{FinishedGame, Segment};
+use search_engine::game_count;
+use segment_store::{FinishedGame, Segment, games};
 use std::alloc::Global;
 use std::thread::Threads;
 use version_publisher::Version;

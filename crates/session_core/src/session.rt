@@ -38,17 +38,17 @@ ghost use Rattle.session_core.specs.Watching.{IsWatchAt};
 use crate::boxes::{append_report, feed_boxes, retire_box};
 use crate::lists::{append_doubles, append_players, append_signature};
 use crate::openings::append_opening;
-use crate::watch::Watch;
+use crate::watch::{NamedSearch, Watch};
 use crate::watches::{advance_at, feed_from, find_watch};
 use continuation_table::Table;
 use hit_collectors::Collector;
 use info_filter::Filter;
-use kb_geometry::{NoMemory, Text, cut_back};
+use kb_geometry::{NoMemory, cut_back};
 use opening_tree::WantedOpenings;
 use pattern_images::Query;
 use query_script::{
-    Statement, print_game, print_hits, print_kept, print_no_game, print_no_watch, print_taken,
-    print_watch, print_watched,
+    Heading, Statement, print_game, print_hits, print_kept, print_no_game, print_no_watch,
+    print_taken, print_watch, print_watched,
 };
 use search_engine::{Answer, find_game, game_count, kept, search};
 use segment_store::{FinishedGame, Segment};
@@ -90,17 +90,18 @@ impl<C: Collector> Session<C> {
     /// Appends the text of a search, of a count of kept games, of the games whose signature matches
     /// a pattern, of the players, of the double games, of a game or of openings, whose line is this one,
     /// over a version; or the report of the boxes, or that a box was retired. The hits of a search are
-    /// given to all boxes. Other statements aren't answered.
+    /// given to all boxes.
     ///
-    /// Of a search that is watched from now on the number of its hits is appended, and a watched search
-    /// is told as a search is; the hits that are new are given to all boxes. A watched search goes over
-    /// the new games alone, so the version begins with the games that it covers.
+    /// Of a search that is watched from now on the number of its hits is appended, or that its name is
+    /// taken; a watched search is told as a search is, or that none has the name. The hits that are new
+    /// are given to all boxes. The version begins with the games that each watched search covers, and
+    /// only those behind them are searched. Other statements aren't answered.
     ///
     /// The only error is `NoMemory`; then `out` begins with what it held. The boxes are as before,
     /// or [`feed`](hit_collectors::feed) was refused: then the boxes before one have all hits, that
     /// one has those before the hit that it refused, and the later boxes have none. The watched search
-    /// that the statement names may have been added, or have gone on to this version; every other one is
-    /// as before.
+    /// that the statement names may have been added, or have gone on to this version: then its new hits
+    /// are given to no box again. Every other one is as before.
     pub fn answer<R: Threads + Sync>(
         &mut self,
         rt: &R,
@@ -148,7 +149,14 @@ impl<C: Collector> Session<C> {
                 name,
                 query,
                 filter,
-            } => self.answer_watch(alloc, line, name, query, filter, version, out),
+            } => {
+                let wanted = NamedSearch {
+                    name,
+                    query,
+                    filter,
+                };
+                self.answer_watch(alloc, line, wanted, version, out)
+            }
             Statement::Watched { name } => {
                 self.answer_watched(alloc, line, name.as_str(), version, out)
             }
@@ -239,28 +247,26 @@ impl<C: Collector> Session<C> {
         &mut self,
         alloc: Global,
         line: u32,
-        name: &Text,
-        query: &Query,
-        filter: &Filter,
+        wanted: NamedSearch,
         version: &Version<Segment>,
         out: &mut Vec<u8>,
     ) -> Result<(), NoMemory>
         ensures ok { OnOk result ((text : List ℕ)
-            × IsAnswer line (view_of version.now) self.old
-            (statement.Watch name.now query.now filter.now) text self.new
+            × IsAnswer line (view_of version.now) self.old (statement.Watch
+            wanted.entry.name.now wanted.entry.query.now wanted.entry.filter.now) text self.new
             × (out.new.items ≡ out.old.items ++ text)) }
         ensures refused { OnErr result (out.new.items ≡ out.old.items) }
-        ensures left { OnErr result (IsLeftBehind (view_of version.now)
-            (statement.Watch name.now query.now filter.now) self.old self.new) }
+        ensures left { OnErr result (IsLeftBehind (view_of version.now) (statement.Watch
+            wanted.entry.name.now wanted.entry.query.now wanted.entry.filter.now) self.old self.new) }
     {
-        if let Some(_at) = find_watch(&self.watches, name.as_str()) {
-            return print_taken(line, name.as_str(), out);
+        if let Some(_at) = find_watch(&self.watches, wanted.name.as_str()) {
+            return print_taken(line, wanted.name.as_str(), out);
         }
-        let watch = Watch::over(alloc, name, query, filter, version)?;
+        let watch = Watch::over(alloc, wanted, version)?;
         // The text is there before anything changes, so that a refusal for want of room changes nothing.
         let len = out.len();
         let count = watch.hits().len();
-        print_watch(line, name.as_str(), version.number(), count, out)?;
+        print_watch(line, wanted.name.as_str(), version.number(), count, out)?;
         let begun = self.begin(watch);
         cut_back(out, len, begun)
     }
@@ -325,15 +331,12 @@ impl<C: Collector> Session<C> {
         let hits = self.watches[at].hits();
         let table = Table::of(alloc, hits)?;
         let len = out.len();
-        print_watched(
+        let heading = Heading {
             line,
-            name,
-            version.number(),
-            game_count(version),
-            hits,
-            &table,
-            out,
-        )?;
+            version: version.number(),
+            games: game_count(version),
+        };
+        print_watched(heading, name, hits, &table, out)?;
         let fed = feed_from(&mut self.boxes, &self.watches, at, first);
         cut_back(out, len, fed)
     }

@@ -17,6 +17,14 @@ use std::marker::{Brand, Model};
 use std::sync::ledger::{Blank, Ledger};
 use version_publisher::Version;
 
+// A search that is to be watched, and the name under which it is.
+#[derive(Clone, Copy, Debug)]
+pub(crate) struct NamedSearch<'a> {
+    pub(crate) name: &'a Text,
+    pub(crate) query: &'a Query,
+    pub(crate) filter: &'a Filter,
+}
+
 // Finds the hits of a query in the games that a filter accepts.
 #[derive(Debug, Drop)]
 struct QueryFinder<'a> {
@@ -88,14 +96,14 @@ impl Model for Watch {
 }
 
 impl Watch {
-    // A search under this name that covers no games yet. The only error is `NoMemory`.
-    fn new(alloc: Global, name: &Text, query: &Query, filter: &Filter) -> Result<Watch, NoMemory>
-        ensures { IfOk result (λ watch.
-            watch ≡ watch_over name.now query.now filter.now [] []) }
+    // This search, which covers no games yet. The only error is `NoMemory`.
+    fn new(alloc: Global, wanted: NamedSearch) -> Result<Watch, NoMemory>
+        ensures { IfOk result (λ watch. watch ≡ watch_over
+            wanted.entry.name.now wanted.entry.query.now wanted.entry.filter.now [] []) }
     {
-        let name = Text::new(String::from_str(alloc, name.as_str())?);
-        let query = query.copy(alloc)?;
-        let filter = filter.copy(alloc)?;
+        let name = Text::new(String::from_str(alloc, wanted.name.as_str())?);
+        let query = wanted.query.copy(alloc)?;
+        let filter = wanted.filter.copy(alloc)?;
         Ok(Watch {
             name,
             query,
@@ -104,20 +112,19 @@ impl Watch {
         })
     }
 
-    // A search under this name that covers the games of a version. The only error is `NoMemory`.
+    // This search, which covers the games of a version. The only error is `NoMemory`.
     pub(crate) fn over(
         alloc: Global,
-        name: &Text,
-        query: &Query,
-        filter: &Filter,
+        wanted: NamedSearch,
         version: &Version<Segment>,
     ) -> Result<Watch, NoMemory>
-        ensures covers { IfOk result (λ watch. watch ≡ watch_over name.now query.now filter.now
+        ensures covers { IfOk result (λ watch. watch ≡ watch_over
+            wanted.entry.name.now wanted.entry.query.now wanted.entry.filter.now
             (items_in version.now.parts) watch.hits) }
-        ensures hits { IfOk result (λ watch.
-            AreHits query.now filter.now (items_in version.now.parts) watch.hits) }
+        ensures hits { IfOk result (λ watch. AreHits wanted.entry.query.now wanted.entry.filter.now
+            (items_in version.now.parts) watch.hits) }
     {
-        let mut watch = Watch::new(alloc, name, query, filter)?;
+        let mut watch = Watch::new(alloc, wanted)?;
         watch.advance(alloc, version)?;
         Ok(watch)
     }

@@ -1,5 +1,5 @@
-// A slow recogniser of texts, which is written from the words of the grammar: each part of a text
-// is cut off from its front. The reader is compared with it.
+// A slow recogniser of texts, which is written from the definitions of the grammar: each part of a
+// text is cut off from its front. The reader is compared with it.
 use sgf_reader::{FaultKind, ReadError, SgfFault};
 
 fn skip_white(text: &[u8]) -> &[u8] {

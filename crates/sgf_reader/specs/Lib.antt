@@ -1,9 +1,9 @@
--- Words that contracts of public functions rest on.
+-- Definitions that contracts of public functions rest on.
 pub mod Bytes
 pub mod Faults
 pub mod Grammar
 pub mod Limits
--- Words of private functions.
+-- Definitions of private functions.
 pub mod Flat
 pub mod Reading
 pub mod Scan

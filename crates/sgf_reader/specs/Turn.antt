@@ -1,4 +1,4 @@
--- For the reader's private functions: what the reader's own words for phases and turns mean to the
+-- For the reader's private functions: what the reader's own types for phases and turns mean to the
 -- scan.
 use Rattle.std.specs.Prelude.{◌≡◌, ℕ, List, Option, Some, None, Bool, true, false}
 use Rattle.sgf_reader.specs.declared.place.Phase as phases

@@ -5,7 +5,8 @@ use Rattle.std.proofs.lemmas.List.{append-nil}
 use Rattle.std.proofs.lemmas.List.Elements.{All-nil}
 use Rattle.sgf_reader.specs.Grammar.{AreNodes, AreTreeTexts, IsTreeText, IsWhite, SpelledNode}
 use Rattle.game_tree.specs.Built.{IsGrown}
-use Rattle.game_tree.specs.Stored.{one_if, siblings_from}
+use Rattle.kb_geometry.specs.Counts.{one_if}
+use Rattle.game_tree.specs.Stored.{siblings_from}
 use Rattle.game_tree.specs.Tree.{IsTree, Tree, branchings_to, children_of, first_child_of, first_number, next_sibling_of, node_count, parent_of}
 use Rattle.game_tree.proofs.Subtrees.{IsSubtree, IsSubtree-at, IsSubtree-last}
 use Rattle.game_tree.proofs.Trees.{IsGrown-tree, first_child-found, parent-in_range, siblings_from-first}

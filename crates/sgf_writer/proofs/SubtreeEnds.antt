@@ -8,7 +8,8 @@ use Rattle.node_paths.specs.Paths.{path_to}
 use Rattle.node_paths.proofs.Ancestors.{IsOnPathTo-le, IsOnPathTo-step, cases_Option, parent-lt}
 use Rattle.node_paths.proofs.PathLists.{path_to-parent, path_to-root}
 use Rattle.game_tree.specs.Built.{IsGrown}
-use Rattle.game_tree.specs.Stored.{one_if, siblings_from}
+use Rattle.kb_geometry.specs.Counts.{one_if}
+use Rattle.game_tree.specs.Stored.{siblings_from}
 use Rattle.game_tree.specs.Tree.{Tree, branchings_to, children_of, first_child_of, first_number, next_sibling_of, node_count, parent_of}
 use Rattle.game_tree.proofs.Subtrees.{IsSubtree, IsSubtree-at, IsSubtree-last, IsSubtree-next}
 use Rattle.game_tree.proofs.Trees.{first_child-behind, next_sibling-found, parent-in_range, siblings_from-next}

@@ -1,7 +1,7 @@
--- Words that contracts of public functions rest on.
+-- Definitions that contracts of public functions rest on.
 pub mod ReadBack
 pub mod Written
--- Words of private functions.
+-- Definitions of private functions.
 pub mod Letters
 pub mod Parts
 pub mod Walk

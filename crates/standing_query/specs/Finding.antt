@@ -1,5 +1,5 @@
 -- What a finder finds: which list of hits belongs to a list of games that are numbered from a first
--- number on. These words speak of such a relation between a number, games and hits.
+-- number on. These definitions speak of such a relation between a number, games and hits.
 use Rattle.std.specs.Prelude.{◌≡◌, ℕ, ◌+◌, ◌↔◌, All, List, ◌++◌, length}
 use Rattle.game_tree.specs.Tree.{IsTree}
 use Rattle.node_position.specs.Games.{Game}

@@ -1,5 +1,5 @@
--- Words that contracts of public functions rest on.
+-- Definitions that contracts of public functions rest on.
 pub mod Finding
 pub mod StandingState
--- Words of private functions.
+-- Definitions of private functions.
 pub mod NewGames

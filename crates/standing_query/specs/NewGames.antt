@@ -1,4 +1,4 @@
--- Words of the private functions that find the hits in the new games of a version.
+-- Definitions of the private functions that find the hits in the new games of a version.
 use Rattle.std.specs.Prelude.{◌≡◌, ℕ, List, drop, length}
 use Rattle.node_position.specs.Games.{Game}
 use Rattle.pattern_images.specs.declared.hit.Hit.{Hit}

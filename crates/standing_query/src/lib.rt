@@ -2,7 +2,7 @@
 //!
 //! Stands on segment_store for the games and on pattern_images for the hits. What lists the hits in
 //! games is handed in: any [`Finder`]. The layers above use that after [`Standing::advance`] the
-//! hits are those in all games of the version, and that only the new games were gone over.
+//! hits are those in all games of the version, and that it tells which of them are new.
 #![tactic(auto)]
 
 mod finder;

@@ -2,7 +2,7 @@ use Rattle.std.proofs.Common.{◌≡◌, ℕ, length, arith, subst}
 use Rattle.std.proofs.lemmas.List.{get_or_default}
 use Rattle.capture_index.specs.Stretches.{no_want}
 use Rattle.candidate_sieve.specs.BlockGames.{HaveEach}
-use Rattle.candidate_sieve.proofs.GamesTold.{always_empty-settled, each-next, each-start}
+use Rattle.candidate_sieve.proofs.GamesTold.{ever_empty-settled, each-next, each-start}
 use Rattle.candidate_sieve.proofs.candidates.games_at.Goals as goal
 
 pub loop-k-init : goal.loop-k-init
@@ -14,7 +14,7 @@ loop-k-preserved c =
 
 pub returns-then-is_settled : goal.returns-then-is_settled
 returns-then-is_settled c =
-    always_empty-settled c.args.planes.now c.args.always_empty c.args.base c.args.wants.now c.args.among c.loop-k.k c.loop-k.games _ (get_or_default c.args.wants.now c.loop-k.k no_want _ c.loop-k-test.true) c.requires.always_empty c.requires.stones_first
+    ever_empty-settled c.args.planes.now c.args.ever_empty c.args.base c.args.wants.now c.args.among c.loop-k.k c.loop-k.games _ (get_or_default c.args.wants.now c.loop-k.k no_want _ c.loop-k-test.true) c.requires.ever_empty c.requires.stones_first
     (λ w below. omega (arith, c.requires.on_board w no_want below)) c.loop-k.invariant c.loop-k-test.true
     (λ g e. c.is_settled.ensures c.if-is_settled.true g e)
 

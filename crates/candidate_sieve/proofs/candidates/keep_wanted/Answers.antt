@@ -2,7 +2,7 @@ use Rattle.std.proofs.Common.{◌≡◌, ℕ, ◌+◌, length, refl, ◌∙◌, 
 use Rattle.std.proofs.lemmas.List.{get_or_default}
 use Rattle.capture_index.specs.Stretches.{no_want}
 use Rattle.candidate_sieve.specs.BlockGames.{HaveEach}
-use Rattle.candidate_sieve.proofs.GamesTold.{always_empty-settled, each-kept, each-start}
+use Rattle.candidate_sieve.proofs.GamesTold.{ever_empty-settled, each-kept, each-start}
 use Rattle.candidate_sieve.proofs.candidates.keep_wanted.Goals as goal
 
 pub loop-k-init : goal.loop-k-init
@@ -22,7 +22,7 @@ loop-k-preserved c = record {
 
 pub returns-then-are_settled-clause-kept : goal.returns-then-are_settled-clause-kept
 returns-then-are_settled-clause-kept c = λ k lt.
-    always_empty-settled c.args.planes.now c.args.always_empty (c.args.base + k) c.args.wants.now (slice_index c.args.words.now k) c.loop-k.k (slice_index c.loop-k.words k) _ (get_or_default c.args.wants.now c.loop-k.k no_want _ c.loop-k-test.true) c.requires.always_empty c.requires.stones_first
+    ever_empty-settled c.args.planes.now c.args.ever_empty (c.args.base + k) c.args.wants.now (slice_index c.args.words.now k) c.loop-k.k (slice_index c.loop-k.words k) _ (get_or_default c.args.wants.now c.loop-k.k no_want _ c.loop-k-test.true) c.requires.ever_empty c.requires.stones_first
     (λ w below. omega (arith, c.requires.on_board w no_want below, lt)) (c.loop-k.invariant.kept k lt) c.loop-k-test.true
     (λ g e. c.are_settled.ensures c.if-are_settled.true k g (omega (arith, c.loop-k.invariant.count, lt)) e)
 

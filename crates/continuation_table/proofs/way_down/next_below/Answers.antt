@@ -19,7 +19,7 @@ loop-child-init c =
       in_range = c.passed_to-here.ensures.in_range;
       behind = c.passed_to-here.ensures.behind;
       moves = c.passed_to-here.ensures.moves;
-      way = c.passed_to-here.ensures.way c.args.deltas.now (placement_at c.args.images.now.placements c.args.i) c.place-place.ensures.value c.requires.holds c.requires.known;
+      way = c.passed_to-here.ensures.way c.args.deltas.now (placement_at c.args.images.now.placements c.args.i) c.place-place.ensures.value c.requires.holds c.requires.held_to;
     }
 
 pub next_by-requires-clause-inside : goal.next_by-requires-clause-inside
@@ -44,8 +44,8 @@ still_holds-requires-clause-span c =
     subst (λ (s : Shape). IsSpan s placement c.span_of-span.result.first c.span_of-span.result.last) (c.shape.ensures.value ∙ sym c.requires.shape)
     (c.span_of-span.ensures placement c.place-place.ensures.value)
 
-pub still_holds-requires-clause-known : goal.still_holds-requires-clause-known
-still_holds-requires-clause-known c = λ before. c.requires.known c.in-Some.child (omega (arith, c.loop-child.invariant.behind, c.in-Some.ensures.in_range.0)) before
+pub still_holds-requires-clause-held_to : goal.still_holds-requires-clause-held_to
+still_holds-requires-clause-held_to c = λ before. c.requires.held_to c.in-Some.child (omega (arith, c.loop-child.invariant.behind, c.in-Some.ensures.in_range.0)) before
 
 pub returns-then-not-still_holds-clause-none : goal.returns-then-not-still_holds-clause-none
 returns-then-not-still_holds-clause-none c =

@@ -15,7 +15,7 @@ loop-here-init c =
       in_range = c.requires.node;
       behind = omega arith;
       moves = omega arith;
-      way = λ deltas placement is holds known.
+      way = λ deltas placement is holds held_to.
           subst (λ (now : Bool). IsWayDown c.args.tree.now deltas placement c.args.node c.args.node now)
           (sym (eq-eqb count count refl))
           (IsWayDown-start c.args.tree.now deltas placement c.args.node holds);
@@ -33,12 +33,12 @@ loop-here-preserved c =
       in_range = main-in_range tree good here main;
       behind = omega (arith, c.loop-here.invariant.behind);
       moves = omega (arith, more, c.loop-here.invariant.moves);
-      way = λ deltas placement is holds known.
+      way = λ deltas placement is holds held_to.
           IsWayDown-more tree deltas placement c.args.node here (move_number_of tree here == count)
-          (c.loop-here.invariant.way deltas placement is holds known)
+          (c.loop-here.invariant.way deltas placement is holds held_to)
           (here + 1) (main-first_child tree good here main)
           (λ inside. let no : false ≡ true = sym c.if-has_move_inside.false ∙ (c.has_move_inside.ensures placement is).1 inside in absurd cc)
-          (known (here + 1) (omega (arith, c.loop-here.invariant.behind)) (omega (arith, c.loop-here-test.true)))
+          (held_to (here + 1) (omega (arith, c.loop-here.invariant.behind)) (omega (arith, c.loop-here-test.true)))
           (move_number_of tree (here + 1) == count)
           (quiet-more count (move_number_of tree here) (move_number_of tree (here + 1)) (node_at tree (here + 1)).played c.loop-here.invariant.moves more);
     }

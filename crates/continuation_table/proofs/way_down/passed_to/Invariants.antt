@@ -14,7 +14,7 @@ invariant-loop-here l = record {
   behind : l.node ≤ l.here;
   moves : move_number_of l.tree l.node ≤ move_number_of l.tree l.here;
   way : (deltas : Deltas) → (placement : Placement) → IsPlaceOf placement l.place → HoldsAt deltas placement l.node →
-      ((k : ℕ) → l.node ≤ k → k < l.known → HoldsAt deltas placement k) →
+      ((k : ℕ) → l.node ≤ k → k < l.held_to → HoldsAt deltas placement k) →
       IsWayDown l.tree deltas placement l.node l.here (move_number_of l.tree l.here == move_number_of l.tree l.node);
 }
 

@@ -6,7 +6,7 @@ use Rattle.corner_index.proofs.numbers.changed.Goals as goal
 pub returns-in_default : goal.returns-in_default
 returns-in_default c p stands =
     changed_off c.args.corner c.args.shape c.args.number c.args.change p stands
-    (λ k lt there. none-some k ((c.in_default.ensures.there k lt).1 there))
+    (λ k lt there. none-some k ((c.in_default.ensures.exact k lt).1 there))
 
 pub pow-weight-requires : goal.pow-weight-requires
 pow-weight-requires c = power_fits c.from.result c.in-Some.place c.from.ensures c.in-Some.ensures.below
@@ -18,8 +18,8 @@ overflow_mul-result c =
 pub overflow_sub-result : goal.overflow_sub-result
 overflow_sub-result c =
     taken_fits c.args.corner c.args.shape c.args.number c.args.change c.requires.before.0 c.requires.before.1 c.in-Some.place c.in-Some.ensures.below
-    ((c.in-Some.ensures.there c.in-Some.place c.in-Some.ensures.below).0 refl)
-    (λ k lt there. sym (same_Some _ _ ((c.in-Some.ensures.there k lt).1 there)))
+    ((c.in-Some.ensures.exact c.in-Some.place c.in-Some.ensures.below).0 refl)
+    (λ k lt there. sym (same_Some _ _ ((c.in-Some.ensures.exact k lt).1 there)))
     c.digit.result c.pow-weight.result c.from.result c.digit.ensures c.pow-weight.ensures c.from.ensures
 
 pub overflow_mul-result-2 : goal.overflow_mul-result-2
@@ -37,6 +37,6 @@ overflow_add-result c =
 pub returns : goal.returns
 returns c p stands =
     number_after c.args.corner c.args.shape c.args.number c.args.change p stands c.in-Some.place c.in-Some.ensures.below
-    ((c.in-Some.ensures.there c.in-Some.place c.in-Some.ensures.below).0 refl)
-    (λ k lt there. sym (same_Some _ _ ((c.in-Some.ensures.there k lt).1 there)))
+    ((c.in-Some.ensures.exact c.in-Some.place c.in-Some.ensures.below).0 refl)
+    (λ k lt there. sym (same_Some _ _ ((c.in-Some.ensures.exact k lt).1 there)))
     c.digit.result c.digit-2.result c.pow-weight.result c.from.result c.digit.ensures c.digit-2.ensures c.pow-weight.ensures c.from.ensures c.requires.point

@@ -4,8 +4,8 @@ use Rattle.std.proofs.lemmas.Result.{IfOk-weaker}
 use Rattle.import_work.proofs.MadePieces.{AreMadePieces, IsMadePiece, pieces-made, pieces-room}
 use Rattle.import_work.proofs.making.made_segment.Goals as goal
 
-pub joined-requires : goal.joined-requires
-joined-requires g c =
+pub segment_of-requires : goal.segment_of-requires
+segment_of-requires g c =
     let made = c.in_ok-made.made.items in
     let jobs = c.in_ok-pieces.pieces.items in
     let are : AreMadePieces jobs made = record {
@@ -26,4 +26,4 @@ returns g c =
           let given = (c.in_ok-made.ensures.each n d lt).1 in
           subst (λ job. IsMadePiece job (get_or made n d)) (sym (given.job_is v)) (let called = given.call in search rules);
     } in
-    IfOk-weaker c.joined.result _ _ (λ segment joined. pieces-made c.args.start c.args.first c.args.count jobs made segment c.in_ok-pieces.ensures are joined) c.joined.ensures
+    IfOk-weaker c.segment_of.result _ _ (λ segment joined. pieces-made c.args.start c.args.first c.args.count jobs made segment c.in_ok-pieces.ensures are joined) c.segment_of.ensures

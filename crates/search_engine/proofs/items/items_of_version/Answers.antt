@@ -2,7 +2,8 @@ use Rattle.std.proofs.Common.{◌++◌, ◌∙◌, ap, arith, length, map, sym, 
 use Rattle.std.specs.Arc.{arc_value}
 use Rattle.version_publisher.specs.Contents.{items_in}
 use Rattle.search_engine.specs.Items.{AreItems}
-use Rattle.search_engine.proofs.VersionGames.{count-more, part-fits, part-more}
+use Rattle.segment_store.proofs.VersionGames.{part-more}
+use Rattle.search_engine.proofs.VersionGames.{count-more, part-fits}
 use Rattle.search_engine.proofs.items.items_of_version.Goals as goal
 
 pub add_items-requires : goal.add_items-requires

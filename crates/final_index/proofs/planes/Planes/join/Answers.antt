@@ -8,7 +8,7 @@ pub joined_words-requires-clause-room : goal.joined_words-requires-clause-room
 joined_words-requires-clause-room c k i e =
     let few = count-both c.a.inside.shape (point_count c.a.inside.shape) c.a.inside.present c.a.inside.words.items c.a.inside.count c.args.a.now c.a.view_is
     c.b.inside.shape (point_count c.b.inside.shape) c.b.inside.present c.b.inside.words.items c.b.inside.count c.args.b.now c.b.view_is c.requires.few in
-    omega (arith, few, c.b.invariant.counted i (c.b.invariant.there k i (rw c.as_slice-2.ensures.value at e)))
+    omega (arith, few, c.b.invariant.counted i (c.b.invariant.of_present k i (rw c.as_slice-2.ensures.value at e)))
 
 pub joined-requires-clause-room : goal.joined-requires-clause-room
 joined-requires-clause-room c i e =

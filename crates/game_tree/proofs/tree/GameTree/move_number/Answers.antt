@@ -2,7 +2,8 @@ use Rattle.std.proofs.Common.{◌≡◌, ℕ, ◌∙◌, ap, arith}
 use Rattle.std.specs.Prelude.{is_some}
 use mir.Val.{bool_byte}
 use Rattle.game_tree.specs.declared.stored.TreeNode.{TreeNode}
-use Rattle.game_tree.specs.Stored.{tree_node, one_if}
+use Rattle.kb_geometry.specs.Counts.{one_if}
+use Rattle.game_tree.specs.Stored.{tree_node}
 use Rattle.game_tree.proofs.StoredTrees.{bool_byte-one_if, node_read, tree_shown, within_shown, move_number_shown}
 use Rattle.game_tree.proofs.Paths.{move_number-le}
 use Rattle.game_tree.proofs.Trees.{IsGrown-tree}

@@ -1,5 +1,6 @@
 use Rattle.std.proofs.Common.{◌≡◌, ◌∙◌, ◌≤◌, All, ap, arith, sym, subst}
-use Rattle.info_filter.specs.Players.{Side, TableRow, is_black_win, is_white_win}
+use Rattle.kb_geometry.specs.Outcomes.{is_black_win, is_white_win}
+use Rattle.info_filter.specs.Players.{Side, TableRow}
 use Rattle.info_filter.specs.Seats.{IsSeat, table_rows_of}
 use Rattle.info_filter.specs.SidesCounted.{AreRowsWithSide}
 use Rattle.info_filter.proofs.Tables.{game_rows, same_side, small_added, table_more}

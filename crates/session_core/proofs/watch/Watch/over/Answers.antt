@@ -9,7 +9,7 @@ use Rattle.session_core.proofs.watch.Watch.over.Goals as goal
 pub advance-requires : goal.advance-requires
 advance-requires c =
     let games = items_in c.args.version.now.parts in
-    subst (IsWatchOf games) (sym c.in_ok-watch.ensures) (watch-none c.args.name.now c.args.query.now c.args.filter.now games)
+    subst (IsWatchOf games) (sym c.in_ok-watch.ensures) (watch-none c.args.wanted.name.now c.args.wanted.query.now c.args.wanted.filter.now games)
 
 pub returns-clause-covers : goal.returns-clause-covers
 returns-clause-covers c =

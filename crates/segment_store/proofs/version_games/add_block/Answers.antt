@@ -1,5 +1,5 @@
-use Rattle.opening_tree.proofs.VersionGames.{game-more}
-use Rattle.opening_tree.proofs.games.add_block.Goals as goal
+use Rattle.segment_store.proofs.VersionGames.{game-more}
+use Rattle.segment_store.proofs.version_games.add_block.Goals as goal
 
 pub loop-at-preserved : goal.loop-at-preserved
 loop-at-preserved c =

@@ -1,6 +1,6 @@
 use Rattle.std.proofs.Common.{◌<◌, arith}
 use Rattle.kb_geometry.specs.Board.{point_count}
-use Rattle.final_index.proofs.planes.Planes.always_empty.Goals as goal
+use Rattle.final_index.proofs.planes.Planes.ever_empty.Goals as goal
 
 pub returns : goal.returns
 returns c g lt =

@@ -1,21 +1,20 @@
 // All games of a version.
-ghost use Rattle.std.specs.Prelude.{◌≡◌, ◌≤◌, ◌++◌, IfOk, OnOk, length, map};
+ghost use Rattle.std.specs.Prelude.{◌≡◌, ◌++◌, IfOk, OnOk, map};
 ghost use Rattle.version_publisher.specs.Contents.{items_in};
 
+use crate::block::Block;
+use crate::finished::FinishedGame;
+use crate::segment::Segment;
 use kb_geometry::NoMemory;
-use segment_store::{Block, FinishedGame, Segment};
 use std::alloc::Global;
 use version_publisher::Version;
 
-// All games of a version, at most 400,000, in order of their numbers, from 0. The only error is
-// `NoMemory`.
-pub(crate) fn games_of<'a>(
+/// All games of a version, in order of their numbers, from 0. The only error is `NoMemory`.
+pub fn games<'a>(
     alloc: Global,
     version: &'a Version<Segment>,
 ) -> Result<Vec<&'a FinishedGame>, NoMemory>
-    ensures all { IfOk result (λ games. map (λ g. g.now) games.items
-        ≡ items_in version.now.parts) }
-    ensures most { length (items_in version.now.parts) ≤ 400000 }
+    ensures { IfOk result (λ games. map (λ g. g.now) games.items ≡ items_in version.now.parts) }
 {
     let mut games = Vec::new(alloc);
     for part in version.parts() {

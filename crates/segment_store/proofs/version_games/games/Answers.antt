@@ -1,8 +1,8 @@
 use Rattle.std.proofs.Common.{◌∙◌, ◌++◌, ap, sym, map, take}
 use Rattle.std.specs.Arc.{arc_value}
 use Rattle.version_publisher.specs.Contents.{items_in}
-use Rattle.opening_tree.proofs.VersionGames.{part-more}
-use Rattle.opening_tree.proofs.games.games_of.Goals as goal
+use Rattle.segment_store.proofs.VersionGames.{part-more}
+use Rattle.segment_store.proofs.version_games.games.Goals as goal
 
 pub loop-part-preserved : goal.loop-part-preserved
 loop-part-preserved c =
