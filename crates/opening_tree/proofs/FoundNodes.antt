@@ -1,5 +1,6 @@
 -- What is found at the nodes of a game: entries and next moves, one node after another.
-use Rattle.std.proofs.Common.{◌≡◌, ◌≢◌, ℕ, ◌+◌, ◌<◌, ◌≤◌, List, [], ◌∷◌, ◌++◌, get_or, Option, Some, None, suc, refl, sym, ap, ◌∙◌, subst, arith}
+use Prim.Native.Nat.{zero}
+use Rattle.std.proofs.Common.{◌≡◌, ◌≢◌, ℕ, ◌+◌, ◌-◌, ◌<◌, ◌≤◌, List, [], ◌∷◌, ◌++◌, get_or, Option, Some, None, suc, refl, sym, ap, ◌∙◌, subst, arith}
 use Rattle.std.specs.Prelude.{IfSome}
 use Rattle.kb_geometry.specs.declared.stone.Change.{Change}
 use Rattle.kb_geometry.specs.declared.stone.Outcome.{Outcome}
@@ -19,9 +20,9 @@ use Rattle.opening_tree.specs.declared.frame.Frame.{Frame}
 use Rattle.opening_tree.specs.Canonical.{IsCanonicalPosition}
 use Rattle.opening_tree.specs.Entries.{AreEntriesTo, Entry, IsEntryAt, position_in}
 use Rattle.opening_tree.specs.Frames.{image_in}
-use Rattle.opening_tree.specs.GameFrames.{AreFrames, IsChangedWithin, IsFrameOf, IsNextOf}
+use Rattle.opening_tree.specs.GameFrames.{AreFrames, IsChangedWithin, IsFrameOf, IsNextOf, IsPastAt, IsPastFrom}
 use Rattle.opening_tree.specs.NextMoves.{AreNextsTo, IsNextAt, IsPlaceInFrame, NextAt}
-use Rattle.opening_tree.proofs.FramesOfGames.{position-there}
+use Rattle.opening_tree.proofs.FramesOfGames.{move_number-above, position-there}
 
 suc_is : (n : ℕ) → suc n ≡ n + 1
 suc_is n = omega arith
@@ -90,6 +91,44 @@ module _ (depth : ℕ) (game : tree.Tree) (is_tree : tree.IsTree game) (changes 
       ap (λ (o : Outcome). record { game = number; node = n; canonical = canonical; outcome = o }) ended in
       subst (λ k. AreEntriesTo depth number game positions k more) (suc_is n)
       (subst (AreEntriesTo depth number game positions (suc n)) (sym (pushed ∙ ap (λ e. entries ++ e ∷ []) last)) (AreEntriesTo.entry canonical to (is_entry is) is_canonical))
+
+-- ---- the nodes past the depth
+
+none-past : (depth : ℕ) (game : tree.Tree) (n : ℕ) → IsPastAt depth game n → (parent : ℕ) (played : Move) → ¬ IsNextAt depth game n parent played
+none-past depth game n at parent played is =
+    let e : Some at.parent ≡ Some parent = sym at.is_parent ∙ is.is_parent in
+    let same : at.parent ≡ parent = cc in
+    omega (arith, at.is_past, is.within, ap (tree.move_number_of game) same)
+
+module _ (depth : ℕ) (game : tree.Tree) (is_tree : tree.IsTree game) (positions : List Position) (end : ℕ) (past : IsPastFrom depth game end) where
+  pub entries-past : (number : ℕ) (entries : List Entry) (more : ℕ) → end + more ≤ tree.node_count game → AreEntriesTo depth number game positions end entries → AreEntriesTo depth number game positions (end + more) entries
+  entries-past number entries zero le to = subst (λ k. AreEntriesTo depth number game positions k entries) (omega arith) to
+  entries-past number entries (suc more) le to =
+      let at = past.each (end + more) (omega arith) (omega (arith, le)) in
+      subst (λ k. AreEntriesTo depth number game positions k entries) (omega arith)
+      (AreEntriesTo.left_out (entries-past number entries more (omega (arith, le)) to)
+      (λ is. omega (arith, is.within, at.is_past, move_number-above game is_tree (end + more) at.parent at.is_parent)))
+
+  -- no entry comes behind
+  pub entries-end : (number : ℕ) (entries : List Entry) → AreEntriesTo depth number game positions end entries → AreEntriesTo depth number game positions (tree.node_count game) entries
+  entries-end number entries to =
+      let le = past.in_game in
+      subst (λ k. AreEntriesTo depth number game positions k entries) (omega (arith, le))
+      (entries-past number entries (tree.node_count game - end) (omega (arith, le)) to)
+
+  pub nexts-past : (nexts : List NextAt) (more : ℕ) → end + more ≤ tree.node_count game → AreNextsTo depth game positions end nexts → AreNextsTo depth game positions (end + more) nexts
+  nexts-past nexts zero le to = subst (λ k. AreNextsTo depth game positions k nexts) (omega arith) to
+  nexts-past nexts (suc more) le to =
+      let at = past.each (end + more) (omega arith) (omega (arith, le)) in
+      subst (λ k. AreNextsTo depth game positions k nexts) (omega arith)
+      (AreNextsTo.left_out (nexts-past nexts more (omega (arith, le)) to) (none-past depth game (end + more) at))
+
+  -- no next move comes behind
+  pub nexts-end : (nexts : List NextAt) → AreNextsTo depth game positions end nexts → AreNextsTo depth game positions (tree.node_count game) nexts
+  nexts-end nexts to =
+      let le = past.in_game in
+      subst (λ k. AreNextsTo depth game positions k nexts) (omega (arith, le))
+      (nexts-past nexts (tree.node_count game - end) (omega (arith, le)) to)
 
 -- ---- next moves
 

@@ -1,6 +1,6 @@
 -- The frames of the positions at the nodes of a game, and what the private functions that go through
 -- a game tell of a node.
-use Rattle.std.specs.Prelude.{◌≡◌, ◌≢◌, ℕ, ◌<◌, ◌≤◌, List, [], length, slice_index_or, IfSome}
+use Rattle.std.specs.Prelude.{◌≡◌, ◌≢◌, ℕ, ◌<◌, ◌≤◌, List, [], length, slice_index_or, IfSome, Some}
 use Rattle.kb_geometry.specs.declared.shape.Shape.{Shape}
 use Rattle.kb_geometry.specs.Capture.{Position}
 use Rattle.game_tree.specs.declared.node.Move.{Move}
@@ -28,9 +28,22 @@ pub record AreFramesTo (depth : ℕ) (game : tree.Tree) (changes : deltas.Deltas
       tree.move_number_of game n ≤ depth →
       IsFrameOf changes.shape (deltas.position_at changes n) (slice_index_or frames n default)
 
--- The frames of the positions at all nodes of a game down to a depth.
+-- A node comes behind all nodes down to a depth on the line to it: the move number of its parent is
+-- greater.
+pub record IsPastAt (depth : ℕ) (game : tree.Tree) (n : ℕ) : Type 0 where
+  pub parent : ℕ
+  pub is_parent : tree.parent_of game n ≡ Some parent
+  pub is_past : depth < tree.move_number_of game parent
+
+-- All nodes from some node on are past a depth. None of them is an entry, and none plays a next move.
+pub record IsPastFrom (depth : ℕ) (game : tree.Tree) (end : ℕ) : Type 0 where
+  pub in_game : end ≤ tree.node_count game
+  pub each : (n : ℕ) → end ≤ n → n < tree.node_count game → IsPastAt depth game n
+
+-- The frames of the positions at the nodes of a game down to a depth. There are those of the first
+-- nodes, as far as the others are past the depth.
 pub record AreFrames (depth : ℕ) (game : tree.Tree) (frames : List Frame) : Type 0 where
-  pub each_node : length frames ≡ tree.node_count game
+  pub each_node : IsPastFrom depth game (length frames)
   pub each : (positions : List Position) →
       ArePositions game positions →
       (n : ℕ) (default : Frame) →

@@ -1,5 +1,5 @@
 // The entries and the next moves of a game, as they are found.
-ghost use Rattle.std.specs.Prelude.{◌≡◌, ◌<◌, ◌↔◌, ℕ, List, IsTrue, IfNone, IfOk, IfSome};
+ghost use Rattle.std.specs.Prelude.{◌≡◌, ◌<◌, ◌↔◌, ℕ, List, IsTrue, IfNone, IfOk, IfSome, length};
 ghost use Rattle.kb_geometry.specs.Capture.{Position};
 ghost use Rattle.game_tree.specs.declared.node.Move.{Move};
 ghost use Rattle.game_tree.specs.Position.{ArePositions};
@@ -173,12 +173,14 @@ fn entries_of(
         (trees.node_count game.now.tree) entries.items) }
 {
     let tree = game.tree();
+    let _count = tree.node_count();
     let deltas = game.deltas();
     let outcome = game.outcome();
     let mut entries = Vec::new(alloc);
-    for node in 0..tree.node_count() {
+    for at in 0..frames.len() {
+        let node = at as u32;
         if is_entry(depth, tree, deltas, node) {
-            let canonical = frames[node as usize].canonical().copy(alloc)?;
+            let canonical = frames[at].canonical().copy(alloc)?;
             entries.push(FoundEntry {
                 canonical,
                 game: number,
@@ -217,9 +219,11 @@ fn nexts_of(
         ArePositions game.now.tree positions → AreNextsTo depth game.now.tree positions
         (trees.node_count game.now.tree) nexts.items) }
 {
+    let tree = game.tree();
+    let _count = tree.node_count();
     let mut nexts = Vec::new(alloc);
-    for n in 0..game.tree().node_count() {
-        if let Some(next) = next_at(alloc, depth, game, frames, n)? {
+    for at in 0..frames.len() {
+        if let Some(next) = next_at(alloc, depth, game, frames, at as u32)? {
             nexts.push(next)?;
         }
     }
@@ -235,13 +239,14 @@ fn next_at(
     n: u32,
 ) -> Result<Option<FoundNext>, NoMemory>
     requires frames { AreFrames depth game.now.tree frames.now }
-    requires in_range { n < trees.node_count game.now.tree }
+    requires in_range { n < length frames.now }
     ensures some { IfOk result (λ found. IfSome found (λ next. (positions : List Position) →
         ArePositions game.now.tree positions → IsNextOf depth game.now.tree positions n next)) }
     ensures none { IfOk result (λ found. IfNone found ((parent : ℕ) (played : Move) →
         ¬ IsNextAt depth game.now.tree n parent played)) }
 {
     let tree = game.tree();
+    let _count = tree.node_count();
     let Some(parent) = tree.parent(n) else {
         return Ok(None);
     };

@@ -1,10 +1,22 @@
 // The frames of the positions at the nodes of a game.
-ghost use Rattle.std.specs.Prelude.{◌≡◌, ◌<◌, ℕ, Some, None, IfOk, length, slice_index_or};
+ghost use Rattle.std.specs.Prelude.{
+  ◌≡◌,
+  ◌<◌,
+  ◌≤◌,
+  ℕ,
+  Some,
+  None,
+  IfOk,
+  IsTrue,
+  length,
+  slice_index_or,
+};
+ghost use Rattle.game_tree.specs.Tree as trees;
 ghost use Rattle.game_tree.specs.Tree.{IsTree};
 ghost use Rattle.capture_board.specs.Deltas.{node_count, parent_of};
 ghost use Rattle.node_position.specs.Games.{AreNodeChanges};
 ghost use Rattle.opening_tree.specs.declared.frame.Frame.{Frame};
-ghost use Rattle.opening_tree.specs.GameFrames.{AreFrames, AreFramesTo};
+ghost use Rattle.opening_tree.specs.GameFrames.{AreFrames, AreFramesTo, IsPastAt, IsPastFrom};
 
 use crate::frame::{Frame, frame_at};
 use crate::images::empty_images;
@@ -15,7 +27,8 @@ use kb_geometry::NoMemory;
 use segment_store::FinishedGame;
 use std::alloc::Global;
 
-// The frames of the positions at the nodes of a game down to a depth. The only error is `NoMemory`.
+// The frames of the positions at the nodes of a game down to a depth; the nodes from some node on,
+// if they all are past the depth, have none. The only error is `NoMemory`.
 pub(crate) fn frames_of(
     alloc: Global,
     depth: u32,
@@ -26,24 +39,51 @@ pub(crate) fn frames_of(
     let tree = game.tree();
     let _count = tree.node_count();
     let deltas = game.deltas();
-    frames_at_nodes(alloc, depth, tree, deltas)
+    let end = end_within(depth, tree);
+    frames_at_nodes(alloc, depth, tree, deltas, end)
 }
 
-// The frames at the nodes of a game with these changes.
+// A number of a node from which on all nodes are past the depth: the least one.
+fn end_within(depth: u32, tree: &GameTree) -> u32
+    ensures { IsPastFrom depth tree.now result }
+{
+    let mut end = tree.node_count();
+    while end > 0 {
+        if !is_past(depth, tree, end - 1) {
+            return end;
+        }
+        end -= 1;
+    }
+    end
+}
+
+// Whether the move number of a node's parent is greater than the depth. The root has no parent.
+fn is_past(depth: u32, tree: &GameTree, n: u32) -> bool
+    requires { n < trees.node_count tree.now }
+    ensures { IsTrue result → IsPastAt depth tree.now n }
+{
+    match tree.parent(n) {
+        Some(parent) => tree.move_number(parent) > depth,
+        None => false,
+    }
+}
+
+// The frames at the first so many nodes of a game with these changes.
 fn frames_at_nodes(
     alloc: Global,
     depth: u32,
     tree: &GameTree,
     deltas: &NodeDeltas,
+    end: u32,
 ) -> Result<Vec<Frame>, NoMemory>
     requires tree { IsTree tree.now }
     requires changes { AreNodeChanges tree.now deltas.now }
-    ensures { IfOk result (λ frames.
-        AreFramesTo depth tree.now deltas.now (node_count deltas.now) frames.items) }
+    requires in_game { end ≤ node_count deltas.now }
+    ensures { IfOk result (λ frames. AreFramesTo depth tree.now deltas.now end frames.items) }
 {
     let board = empty_images(alloc, deltas.shape())?;
     let mut frames = Vec::new(alloc);
-    for n in 0..deltas.node_count() {
+    for n in 0..end {
         let wanted = tree.move_number(n) <= depth;
         let above = above_of(deltas, n, &frames, &board);
         let frame = frame_at(alloc, deltas, n, above, wanted)?;

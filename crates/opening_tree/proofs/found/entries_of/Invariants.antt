@@ -4,5 +4,5 @@ use Rattle.game_tree.specs.Position.{ArePositions}
 use Rattle.opening_tree.specs.Entries.{AreEntriesTo}
 use Rattle.opening_tree.proofs.found.entries_of.Given as goal
 
-abbrev pub invariant-loop-node : goal.invariant-loop-node
-invariant-loop-node l = (positions : List Position) → ArePositions l.game.tree positions → AreEntriesTo l.depth l.number l.game.tree positions l.node l.entries.items
+abbrev pub invariant-loop-at : goal.invariant-loop-at
+invariant-loop-at l = (positions : List Position) → ArePositions l.game.tree positions → AreEntriesTo l.depth l.number l.game.tree positions l.at l.entries.items

@@ -1,6 +1,7 @@
-use Rattle.std.proofs.Common.{◌<◌, ◌≤◌, List, subst, sym}
+use Rattle.std.proofs.Common.{◌<◌, ◌≤◌, List, arith, subst, sym}
 use Rattle.std.proofs.lemmas.Bool.{le-leb, leb-true}
 use Rattle.kb_geometry.specs.Capture.{Position, empty_board}
+use Rattle.capture_board.specs.Deltas.{node_count}
 use Rattle.opening_tree.specs.declared.frame.Frame.{Frame}
 use Rattle.opening_tree.specs.Frames.{AreImages}
 use Rattle.opening_tree.specs.GameFrames.{AreFramesTo}
@@ -12,7 +13,7 @@ frame_at-requires-clause-above c wanted =
     let tree = c.args.tree.now in
     let deltas = c.args.deltas.now in
     let n = c.loop-n.n in
-    let lt = subst (λ k. n < k) c.node_count-n-end.ensures.value c.loop-n-test.true in
+    let lt : n < node_count deltas = omega (arith, c.loop-n-test.true, c.requires.in_game) in
     let to = subst (λ (fs : List Frame). AreFramesTo c.args.depth tree deltas n fs) (sym c.deref.ensures.value) c.loop-n.invariant in
     let empty = subst (λ (is : List Position). AreImages c.shape.result (empty_board c.shape.result) is) (sym c.deref-in-loop-n.ensures.value) c.in_ok-board.ensures in
     images_above c.args.depth tree c.requires.tree deltas c.requires.changes n c.deref.result.now c.deref-in-loop-n.result.now c.above_of-above.result.now c.shape.result lt to c.shape.ensures.value empty
