@@ -1,4 +1,4 @@
-use Rattle.std.proofs.Common.{◌<◌, ◌≡◌, ◌∙◌, List, ◌+◌, ap, arith, length, refl, subst, sym}
+use Rattle.std.proofs.Common.{◌<◌, ◌≡◌, ◌∙◌, List, ◌+◌, arith, length, refl, subst, sym}
 use Rattle.std.proofs.lemmas.Bool.{false≢true}
 use Rattle.game_tree.specs.Tree as trees
 use Rattle.opening_tree.specs.Entries.{AreEntriesTo, Entry}
