@@ -130,23 +130,43 @@ fn search_beside<R: Threads + Wait + Abort + Clone + Drop + Send + Sync + 'stati
     Ok(())
 }
 
-// A search, and a block, each of whose searches has a searcher of its own.
+// A search beside two that are watched, one of which goes on with the import, and a block, each of whose
+// searches has a searcher of its own.
 #[test]
 fn statements_between_publishings(rt: HostRuntime) -> Result<(), Fail> {
     let alloc = rt.alloc();
     let search = Beside {
         files: 2,
         held: 2,
-        script: "import d\nuntil 1\nsearch same X\nwait\n",
-        line: b"3 search version 1 games 1 hits 2\n",
-        written: "1 import d\n\
-             2 until 1 version 1\n\
-             3 search version 1 games 1 hits 2\n\
+        script: "watch w same X\nimport d\nuntil 1\nwatched w\nsearch same X\nwatch v same X\n\
+             wait\nwatched w\nwatched v\n",
+        line: b"6 watch v version 1 hits 2\n",
+        written: "1 watch w version 0 hits 0\n\
+             2 import d\n\
+             3 until 1 version 1\n\
+             4 watched w version 1 games 1 hits 2\n\
              hit 0 1 2 2 0 -\n\
              hit 0 3 2 1 0 -\n\
              total 2 0 0 0 0 2\n\
-             1 imported files 2 accepted 2 refused 0 full 0 unread 0 games 2 version 2\n\
-             4 wait version 2\n",
+             5 search version 1 games 1 hits 2\n\
+             hit 0 1 2 2 0 -\n\
+             hit 0 3 2 1 0 -\n\
+             total 2 0 0 0 0 2\n\
+             6 watch v version 1 hits 2\n\
+             2 imported files 2 accepted 2 refused 0 full 0 unread 0 games 2 version 2\n\
+             7 wait version 2\n\
+             8 watched w version 2 games 2 hits 4\n\
+             hit 0 1 2 2 0 -\n\
+             hit 0 3 2 1 0 -\n\
+             hit 1 1 2 2 0 -\n\
+             hit 1 3 2 1 0 -\n\
+             total 4 0 0 0 0 4\n\
+             9 watched v version 2 games 2 hits 4\n\
+             hit 0 1 2 2 0 -\n\
+             hit 0 3 2 1 0 -\n\
+             hit 1 1 2 2 0 -\n\
+             hit 1 3 2 1 0 -\n\
+             total 4 0 0 0 0 4\n",
     };
     search_beside(&rt, alloc, Vec::new(alloc), &search)?;
     let block = Beside {
