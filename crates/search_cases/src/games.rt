@@ -1,5 +1,5 @@
 // Games from SGF texts.
-ghost use Rattle.std.specs.Prelude.{◌≤◌, IfOk, OnOk, length};
+ghost use Rattle.std.specs.Prelude.{◌≡◌, ◌++◌, IfOk};
 
 use crate::asked::number_or;
 use crate::texts::number_of;
@@ -88,7 +88,9 @@ fn last_of(alloc: Global, trees: &mut Vec<GameTree>, count: u32) -> Result<Segme
 }
 
 /// Two segments as one.
-pub(crate) fn merged(alloc: Global, a: &Segment, b: &Segment) -> Result<Segment, CaseError> {
+pub(crate) fn merged(alloc: Global, a: &Segment, b: &Segment) -> Result<Segment, CaseError>
+    ensures { IfOk result (λ both. both ≡ a.now ++ b.now) }
+{
     if u64::from(a.game_count()) + u64::from(b.game_count()) > 400_000 {
         return Err(CaseError::Bad("too many games"));
     }

@@ -49,8 +49,8 @@ pub(crate) fn answer<R: Threads + Sync>(
     compare_nexts(alloc, &query, &version, &answer.hits, out)
 }
 
-// The filter that the words `black=NAME` and `white=NAME` tell.
-fn filter_of(alloc: Global, asked: &str) -> Result<Filter, CaseError> {
+/// The filter that the words `black=NAME` and `white=NAME` tell.
+pub(crate) fn filter_of(alloc: Global, asked: &str) -> Result<Filter, CaseError> {
     let mut conditions = Vec::new(alloc);
     if let Some(name) = value_of(asked, "black") {
         conditions.push(Condition::Black(Bytes::new(name.as_bytes().to_vec(alloc)?)))?;
@@ -125,8 +125,13 @@ fn put_answer(out: &mut Vec<u8>, asked: &str, answer: &Answer) -> Result<(), Cas
     if has_word(asked, "games") {
         return put_games(out, &answer.hits);
     }
+    put_places(out, &answer.hits)
+}
+
+/// Appends hits: of each its game, node and place.
+pub(crate) fn put_places(out: &mut Vec<u8>, hits: &[Hit]) -> Result<(), CaseError> {
     let start = out.len();
-    for hit in &answer.hits {
+    for hit in hits {
         separate(out, start, ", ")?;
         put_place(out, hit)?;
     }

@@ -13,6 +13,7 @@ mod hits;
 mod plain;
 mod runs;
 mod sieve;
+mod standing;
 mod stored;
 mod tables;
 mod texts;
@@ -70,6 +71,7 @@ fn answer<R: Threads + Sync>(
         "table" => tables::answer(alloc, case, out)?,
         "stored" => stored::games(alloc, case, out)?,
         "hits" => hits::answer(rt, alloc, case, out)?,
+        "standing" => standing::answer(alloc, case, out)?,
         _ => of_games(alloc, case, out)?,
     }
     Ok(out.push(b'\n')?)

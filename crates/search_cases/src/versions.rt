@@ -1,5 +1,5 @@
 // Versions of segments.
-ghost use Rattle.std.specs.Prelude.{◌≡◌, IfOk};
+ghost use Rattle.std.specs.Prelude.{◌≡◌, ◌∷◌, ◌++◌, [], IfOk, OnOk};
 ghost use Rattle.std.specs.Arc.{arc_value};
 
 use crate::games::merged_all;
@@ -21,7 +21,9 @@ pub(crate) fn add_part(
     alloc: Global,
     part: Segment,
     version: &mut Version<Segment>,
-) -> Result<(), CaseError> {
+) -> Result<(), CaseError>
+    ensures { OnOk result (version.new.parts ≡ version.old.parts ++ part ∷ []) }
+{
     if version.number() >= 1_000_000 {
         return Err(CaseError::Bad("too many parts"));
     }
@@ -48,7 +50,9 @@ pub(crate) fn version_of(
 }
 
 /// The version of the games of one segment.
-pub(crate) fn version_of_one(alloc: Global, part: &Segment) -> Result<Version<Segment>, CaseError> {
+pub(crate) fn version_of_one(alloc: Global, part: &Segment) -> Result<Version<Segment>, CaseError>
+    ensures { IfOk result (λ version. version.parts ≡ part.now ∷ []) }
+{
     let empty = SegmentBuilder::new(alloc).finish(alloc)?;
     let mut version = Version::empty(alloc);
     let copied = crate::games::merged(alloc, part, &empty)?;

@@ -1,0 +1,2 @@
+-- Definitions of private functions.
+pub mod Watching
