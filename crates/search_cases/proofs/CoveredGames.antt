@@ -40,6 +40,10 @@ module _ (query : Query) (filter : Filter) (standing : StandingState) where
   pub fits-same : (games : List Game) → Covers query filter games standing → Fits query filter games standing
   fits-same games covers = fits-longer games [] games (sym (append-nil games)) covers
 
+  -- in no part
+  pub fits-nothing : (parts : List (List Game)) → parts ≡ [] → Covers query filter [] standing → Fits query filter (items_in parts) standing
+  fits-nothing parts none covers = subst (λ (ps : List (List Game)). Fits query filter (items_in ps) standing) (sym none) (fits-same [] covers)
+
   -- those of one part more
   pub fits-pushed : (parts pushed : List (List Game)) (part : List Game) → pushed ≡ parts ++ part ∷ [] → Covers query filter (items_in parts) standing → Fits query filter (items_in pushed) standing
   fits-pushed parts pushed part is covers = fits-longer (items_in parts) (items_in (part ∷ [])) (items_in pushed) (ap items_in is ∙ joined-append parts (part ∷ [])) covers

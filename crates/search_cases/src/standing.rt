@@ -146,9 +146,10 @@ fn over_merged<L: Ledger>(
 {
     let mut whole = SegmentBuilder::new(alloc).finish(alloc)?;
     for part in parts {
-        whole = merged(alloc, &whole, part)?;
-        let version = version_of_one(alloc, &whole)?;
+        let joined = merged(alloc, &whole, part)?;
+        let version = version_of_one(alloc, &joined)?;
         watched.go_on(alloc, &version, steps, out)?;
+        whole = joined;
     }
     let version = version_of_one(alloc, &whole)?;
     watched.go_on_again(alloc, &version, steps, out)
@@ -177,7 +178,8 @@ impl Watched {
             handed: 0,
         };
         let at = self.standing.advance(alloc, &mut finder, version, steps)?;
-        put_told(out, at, finder.handed, &self.standing)
+        put_told(out, at, finder.handed, &self.standing)?;
+        Ok(())
     }
 
     // Goes on to a version whose games it covers: no step is made.
@@ -190,7 +192,7 @@ impl Watched {
     ) -> Result<(), CaseError>
         requires { Covers self.old.query self.old.filter (items_in version.now.parts)
             self.old.standing }
-        ensures no_step { steps.new ≡ steps.old }
+        ensures { steps.new ≡ steps.old }
     {
         self.go_on(alloc, version, steps, out)
     }
