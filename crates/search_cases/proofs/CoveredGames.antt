@@ -1,5 +1,5 @@
 -- Which games a standing query fits that covers some.
-use Rattle.std.proofs.Common.{◌≡◌, ◌∙◌, ◌++◌, ◌∷◌, ◌≤◌, ℕ, List, [], ap, arith, drop, length, length-append, subst, sym, take}
+use Rattle.std.proofs.Common.{◌≡◌, ◌∙◌, ◌++◌, ◌∷◌, ℕ, List, [], ap, arith, drop, length, length-append, subst, sym, take}
 use Rattle.std.proofs.lemmas.List.{append-nil, drop_all, take-append-le, take_all}
 use Rattle.info_filter.specs.declared.filter.Filter.{Filter}
 use Rattle.node_position.specs.Games.{Game}
