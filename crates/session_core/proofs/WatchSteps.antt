@@ -14,7 +14,7 @@ use Rattle.query_script.specs.Texts.{no_watch_text, taken_text, watch_text, watc
 use Rattle.hit_collectors.specs.Boxes.{IsFedInPart, all_with_hits}
 use Rattle.hit_collectors.specs.Tallies.{BoxTally}
 use Rattle.search_engine.specs.Hits.{AreHits, AreHitsFrom}
-use Rattle.session_core.specs.Answers.{FeedsHits, IsAnswer, IsLeft, IsLeftBehind, IsWatchTold, View}
+use Rattle.session_core.specs.Answers.{IsAnswer, IsLeft, IsLeftBehind, IsWatchTold, View}
 use Rattle.session_core.specs.SessionState.{SessionState, Watched, fed_with, session_of, with_boxes, with_watches}
 use Rattle.session_core.specs.Watches.{IsFree, IsWatch, IsWatchAdded, IsWatchAdvanced, watch_over}
 use Rattle.session_core.specs.Watching.{IsAdvanced, IsAdvancedAt, IsWatchAt}
@@ -129,17 +129,9 @@ module _ (line : ℕ) (view : View) (name : List ℕ) (query : Query) (filter : 
     printed ∙ (λ i. old ++ watch_text line name (own i) (counted i)),
   )
 
-  -- the hits that were given to boxes in part
-  fed_these : (hits : List Hit) → hits ≡ watch.hits → FeedsHits view session (statement.Watch name query filter) hits
-  fed_these hits same = (with_more, subst (IsWatchAdded name query filter view.games session.watches with_more) (sym same) added)
-
-  left_in : (after : SessionState) → IsLeft (λ hits. hits ≡ watch.hits) (with_watches session with_more) after → IsLeft (FeedsHits view session (statement.Watch name query filter)) (with_watches session with_more) after
-  left_in after (inl same) = inl same
-  left_in after (inr (hits, boxes, these, fed, same)) = inr (hits, boxes, fed_these hits these, fed, same)
-
   left_behind : (after : SessionState) → (after ≡ session) ⊎ IsLeft (λ hits. hits ≡ watch.hits) (with_watches session with_more) after → IsLeftBehind view (statement.Watch name query filter) session after
   left_behind after (inl same) = inl (inl same)
-  left_behind after (inr left) = inr (with_more, watch.hits, added, left_in after left)
+  left_behind after (inr left) = inr (with_more, watch.hits, added, left)
 
   pub watch-left : {T E : Type 0} (result : Result T E) (after : SessionState) → OnErr result ((after ≡ session) ⊎ IsLeft (λ hits. hits ≡ watch.hits) (with_watches session with_more) after) → OnErr result (IsLeftBehind view (statement.Watch name query filter) session after)
   watch-left (Ok x) after left = tt
@@ -191,7 +183,7 @@ module _ (line : ℕ) (view : View) (name : List ℕ) (session : SessionState) (
     watches,
     drop first on.now.hits,
     (on.now.hits, goes_on),
-    inr (drop first on.now.hits, boxes, (watches, (on.now.hits, goes_on)), fed, refl),
+    inr (drop first on.now.hits, boxes, refl, fed, refl),
   )
 
 -- none is watched under the name

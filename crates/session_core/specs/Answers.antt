@@ -215,19 +215,17 @@ IsLeft AreThese session after =
     ⊎ ((hits : List Hit) × (boxes : List BoxTally) × AreThese hits
     × IsFedInPart hits session.boxes boxes × (after ≡ with_boxes session boxes))
 
--- the hits with which a statement feeds the boxes: those of a search, or those of a watched search
--- that are new
-abbrev pub FeedsHits : View → SessionState → Statement → List Hit → Type 0
-FeedsHits view session (statement.Search query filter) hits = AreHits query filter view.games hits
-FeedsHits view session other hits =
-    (watches : List Watched) × ChangesWatches view.games session.watches other watches hits
+-- the hits with which a statement feeds the boxes that changes no watched search: those of a search
+abbrev pub FeedsHits : View → Statement → List Hit → Type 0
+FeedsHits view (statement.Search query filter) hits = AreHits query filter view.games hits
+FeedsHits view other hits = ⊥
 
--- What is left where the answer to a statement was refused: what there was, with boxes that were
--- perhaps fed in part; and the watched search that the statement names may have been added, or
--- advanced to this version.
+-- What is left where the answer to a statement was refused: what there was, or of a search boxes that
+-- were fed in part. Or the watched search that the statement names was added, or advanced to this
+-- version, and then the boxes were perhaps fed in part with the hits that are new by it.
 abbrev pub IsLeftBehind : View → Statement → SessionState → SessionState → Type 0
 IsLeftBehind view own session after =
-    IsLeft (FeedsHits view session own) session after
-    ⊎ ((watches : List Watched) × (hits : List Hit)
-    × ChangesWatches view.games session.watches own watches hits
-    × IsLeft (FeedsHits view session own) (with_watches session watches) after)
+    IsLeft (FeedsHits view own) session after
+    ⊎ ((watches : List Watched) × (new : List Hit)
+    × ChangesWatches view.games session.watches own watches new
+    × IsLeft (λ hits. hits ≡ new) (with_watches session watches) after)
