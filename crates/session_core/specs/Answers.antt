@@ -1,5 +1,5 @@
 -- The texts of the statements that a session answers, and what they leave behind.
-use Rattle.std.specs.Prelude.{◌≡◌, ◌≢◌, ◌⊎◌, ℕ, ◌<◌, ◌≤◌, List, [], ◌∷◌, ◌++◌, length, map, slice_index_or, All}
+use Rattle.std.specs.Prelude.{◌≡◌, ◌≢◌, ◌⊎◌, ℕ, ◌<◌, ◌≤◌, List, [], ◌∷◌, ◌++◌, length, map, slice_index_or, All, Option, Some, None}
 use Rattle.std.specs.List.{flat_map}
 use Rattle.kb_geometry.specs.declared.shape.Shape.{Shape}
 use Rattle.pattern_images.specs.declared.hit.Hit.{Hit}
@@ -21,7 +21,8 @@ use Rattle.opening_tree.specs.Openings.{IsOpenings}
 use Rattle.session_core.specs.Doubles.{AreKeysOf, DoubleKey, Group, groups_of}
 use Rattle.session_core.specs.OpeningLines.{opening_lines}
 use Rattle.session_core.specs.SessionState.{SessionState, Watched, fed_with, with_boxes, with_watches}
-use Rattle.session_core.specs.Watches.{ChangesWatches, IsFree, IsWatch, IsWatchAdded, IsWatchAdvanced}
+use Rattle.session_core.specs.Watches.{ChangesWatches, IsFree, IsWatch, IsWatchAdded, IsWatchAdvanced, fed_by, new_hits}
+use Rattle.session_core.specs.declared.watches.NewHits.{NewHits}
 use Rattle.search_engine.specs.Hits.{AreHits}
 use Rattle.search_engine.specs.KeptGames.{AreKept}
 use Rattle.session_core.specs.Signed.{AreGamesFound, FoundGame}
@@ -215,19 +216,38 @@ IsLeft AreThese session after =
     ⊎ ((hits : List Hit) × (boxes : List BoxTally) × AreThese hits
     × IsFedInPart hits session.boxes boxes × (after ≡ with_boxes session boxes))
 
--- the hits with which a statement feeds the boxes: those of a search, or those of a watched search
--- that are new
-abbrev pub FeedsHits : View → SessionState → Statement → List Hit → Type 0
-FeedsHits view session (statement.Search query filter) hits = AreHits query filter view.games hits
-FeedsHits view session other hits =
-    (watches : List Watched) × ChangesWatches view.games session.watches other watches hits
+-- the hits with which a statement feeds the boxes that changes no watched search: those of a search
+abbrev pub FeedsHits : View → Statement → List Hit → Type 0
+FeedsHits view (statement.Search query filter) hits = AreHits query filter view.games hits
+FeedsHits view other hits = ⊥
 
--- What is left where the answer to a statement was refused: what there was, with boxes that were
--- perhaps fed in part; and the watched search that the statement names may have been added, or
--- advanced to this version.
+-- What is left where the answer to a statement was refused: what there was, or of a search boxes that
+-- were fed in part. Or the watched search that the statement names was added, or advanced to this
+-- version, and then the boxes were perhaps fed in part with the hits that are new by it.
 abbrev pub IsLeftBehind : View → Statement → SessionState → SessionState → Type 0
 IsLeftBehind view own session after =
-    IsLeft (FeedsHits view session own) session after
-    ⊎ ((watches : List Watched) × (hits : List Hit)
-    × ChangesWatches view.games session.watches own watches hits
-    × IsLeft (FeedsHits view session own) (with_watches session watches) after)
+    IsLeft (FeedsHits view own) session after
+    ⊎ ((watches : List Watched) × (new : List Hit)
+    × ChangesWatches view.games session.watches own watches new
+    × IsLeft (λ hits. hits ≡ new) (with_watches session watches) after)
+
+-- the statement watches a search, or tells a watched one
+abbrev pub IsOfWatches : Statement → Type 0
+IsOfWatches (statement.Watch name query filter) = Unit {0}
+IsOfWatches (statement.Watched name) = Unit {0}
+IsOfWatches other = ⊥
+
+-- What a statement of watched searches changes before the boxes are given the hits that are new by it:
+-- nothing, or the watched search that it names was added, or advanced to this version.
+abbrev pub ChangesUnfed : View → Statement → SessionState → SessionState → Option NewHits → Type 0
+ChangesUnfed view own session after None = after ≡ session
+ChangesUnfed view own session after (Some new) =
+    ChangesWatches view.games session.watches own after.watches (new_hits after.watches new)
+    × (after ≡ with_watches session after.watches)
+
+-- The text of a statement of watched searches, and what it leaves while the boxes aren't given yet what
+-- is new by it. Once they are, it is answered.
+pub record IsAnsweredUnfed (line : ℕ) (view : View) (session : SessionState) (own : Statement)
+    (text : List ℕ) (after : SessionState) (new : Option NewHits) : Type 0 where
+  pub answered : IsAnswer line view session own text (fed_by new after)
+  pub changed : ChangesUnfed view own session after new

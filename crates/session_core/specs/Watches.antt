@@ -1,6 +1,7 @@
 -- Watched searches: which one has a name, what their statements make of them, and whether they fit the
 -- games of a version.
-use Rattle.std.specs.Prelude.{◌≡◌, ◌≢◌, ℕ, ◌≤◌, List, [], ◌∷◌, ◌++◌, length, take, drop, All}
+use Rattle.std.specs.Prelude.{◌≡◌, ◌≢◌, ℕ, ◌≤◌, List, [], ◌∷◌, ◌++◌, length, take, drop, slice_get, All, Option, Some, None}
+use Rattle.std.specs.Option.{option_map_or}
 use Rattle.info_filter.specs.declared.filter.Filter.{Filter}
 use Rattle.node_position.specs.Games.{Game}
 use Rattle.pattern_images.specs.declared.hit.Hit.{Hit}
@@ -8,7 +9,8 @@ use Rattle.pattern_images.specs.declared.query.Query.{Query}
 use Rattle.query_script.specs.declared.statement.Statement.{Statement}
 use Rattle.query_script.specs.declared.statement.Statement.TheVariants as statement
 use Rattle.search_engine.specs.Hits.{AreHits, AreHitsFrom}
-use Rattle.session_core.specs.SessionState.{SessionState, Watched}
+use Rattle.session_core.specs.SessionState.{SessionState, Watched, fed_with}
+use Rattle.session_core.specs.declared.watches.NewHits.{NewHits}
 
 -- none of them has this name
 abbrev pub IsFree : List ℕ → List Watched → Type 0
@@ -76,3 +78,14 @@ pub record IsWatchOf (games : List Game) (watch : Watched) : Type 0 where
 -- each watched search of a session fits these games
 abbrev pub WatchesFit : List Game → SessionState → Type 0
 WatchesFit games session = All (IsWatchOf games) session.watches
+
+-- the hits that are new: those of the watched search at the place, from the first new one on, or none
+-- where no search stands there
+abbrev pub new_hits : List Watched → NewHits → List Hit
+new_hits watches new =
+    option_map_or (λ (w : Watched). drop new.first w.hits) (slice_get watches new.at) []
+
+-- the same when each box was given the hits that are new, if some are
+abbrev pub fed_by : Option NewHits → SessionState → SessionState
+fed_by None session = session
+fed_by (Some new) session = fed_with (new_hits session.watches new) session

@@ -31,3 +31,4 @@ pub use laws::{
     each_script_has_a_lawful_output,
 };
 pub use session::Session;
+pub use watches::NewHits;

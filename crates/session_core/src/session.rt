@@ -1,16 +1,21 @@
 // The answers of statements.
 ghost use Rattle.std.specs.Prelude.{
   ◌≡◌,
-  ◌⊎◌,
   ◌++◌,
   ◌∷◌,
   [],
   ℕ,
+  IfOk,
+  IsSomeAnd,
   List,
   OnErr,
   OnOk,
+  Option,
+  Some,
+  false,
   length,
   map,
+  true,
 };
 ghost use mathlib.Core.List.{IsPrefix};
 ghost use Rattle.continuation_table.specs.Table.{IsTable};
@@ -19,27 +24,30 @@ ghost use Rattle.query_script.specs.Bytes.{line_feed};
 ghost use Rattle.query_script.specs.Texts.{game_head, search_text};
 ghost use Rattle.search_engine.specs.Hits.{AreHits};
 ghost use Rattle.session_core.specs.Answers.{
+  ChangesUnfed,
   IsAnswer,
   IsAnswered,
+  IsAnsweredUnfed,
   IsGameText,
   IsKeptText,
   IsLeft,
   IsLeftBehind,
+  IsOfWatches,
   IsSearched,
-  IsWatchTold,
   View,
 };
 ghost use Rattle.query_script.specs.declared.statement.Statement.TheVariants as statement;
-ghost use Rattle.session_core.specs.SessionState.{Watched, fed_with, new_session, with_watches};
+ghost use Rattle.session_core.specs.SessionState.{fed_with, new_session, with_watches};
 ghost use Rattle.session_core.specs.Stores.{view_of};
-ghost use Rattle.session_core.specs.Watches.{WatchesFit};
+ghost use Rattle.session_core.specs.Watches.{IsFree, IsWatch, WatchesFit, fed_by, new_hits};
 ghost use Rattle.session_core.specs.Watching.{IsWatchAt};
+ghost use Rattle.session_core.specs.declared.watches.NewHits.{NewHits};
 
 use crate::boxes::{append_report, feed_boxes, retire_box};
 use crate::lists::{append_doubles, append_players, append_signature};
 use crate::openings::append_opening;
 use crate::watch::{NamedSearch, Watch};
-use crate::watches::{advance_at, feed_from, find_watch};
+use crate::watches::{NewHits, advance_at, find_watch, hits_of};
 use continuation_table::Table;
 use hit_collectors::Collector;
 use info_filter::Filter;
@@ -145,20 +153,8 @@ impl<C: Collector> Session<C> {
             }
             Statement::Report => append_report(line, &self.boxes, out),
             Statement::Retire { name } => retire_box(line, name.as_str(), &mut self.boxes, out),
-            Statement::Watch {
-                name,
-                query,
-                filter,
-            } => {
-                let wanted = NamedSearch {
-                    name,
-                    query,
-                    filter,
-                };
-                self.answer_watch(alloc, line, wanted, version, out)
-            }
-            Statement::Watched { name } => {
-                self.answer_watched(alloc, line, name.as_str(), version, out)
+            Statement::Watch { .. } | Statement::Watched { .. } => {
+                self.answer_watch(alloc, line, statement, version, out)
             }
             Statement::Import { .. }
             | Statement::Make { .. }
@@ -241,75 +237,172 @@ impl<C: Collector> Session<C> {
         feed_boxes(&mut self.boxes, &answer.hits)
     }
 
-    // Appends the text of a search that is watched from now on, and gives its hits to all boxes; or
-    // that its name is taken.
+    /// Whether a search is watched under this name.
+    pub fn is_watched(&self, name: &str) -> bool
+        ensures some { result ≡ true → IsWatch name.now self.now.watches }
+        ensures none { result ≡ false → IsFree name.now self.now.watches }
+    {
+        find_watch(&self.watches, name).is_some()
+    }
+
+    /// Appends the text of a statement that watches a search, or that tells a watched one, as
+    /// [`answer`](Session::answer) does, and adds the watched search, or lets it go on to the version, but
+    /// gives no hits to the boxes. Answers which hits are new, if some may be: once the boxes are given
+    /// these by [`feed_new`](Session::feed_new), the statement is answered. No other statement is told.
+    ///
+    /// The only error is `NoMemory`; then `out` holds what it held, and the boxes are as before. The
+    /// watched search that the statement names may have gone on to this version.
+    pub fn tell_watch(
+        &mut self,
+        alloc: Global,
+        line: u32,
+        statement: &Statement,
+        version: &Version<Segment>,
+        out: &mut Vec<u8>,
+    ) -> Result<Option<NewHits>, NoMemory>
+        requires told { IsOfWatches statement.now }
+        requires fit { WatchesFit (view_of version.now).games self.old }
+        ensures ok { IfOk result (λ new. (text : List ℕ)
+            × IsAnsweredUnfed line (view_of version.now) self.old statement.now text self.new new
+            × (out.new.items ≡ out.old.items ++ text)) }
+        ensures refused { OnErr result (out.new.items ≡ out.old.items) }
+        ensures left { OnErr result ((new : Option NewHits)
+            × ChangesUnfed (view_of version.now) statement.now self.old self.new new) }
+    {
+        match statement {
+            Statement::Watch {
+                name,
+                query,
+                filter,
+            } => {
+                let wanted = NamedSearch {
+                    name,
+                    query,
+                    filter,
+                };
+                self.begin_watch(alloc, line, wanted, version, out)
+            }
+            Statement::Watched { name } => {
+                self.go_on_with(alloc, line, name.as_str(), version, out)
+            }
+            // The condition `told` excludes the others.
+            _ => unreachable!(),
+        }
+    }
+
+    /// Gives hits that are new to all boxes, if there are some.
+    ///
+    /// The only error is `NoMemory`; then the boxes are as for [`answer`](Session::answer).
+    pub fn feed_new(&mut self, new: Option<NewHits>) -> Result<(), NoMemory>
+        ensures fed { OnOk result (self.new ≡ fed_by new self.old) }
+        ensures left { OnErr result (IsSomeAnd new (λ n.
+            IsLeft (λ hits. hits ≡ new_hits self.old.watches n) self.old self.new)) }
+    {
+        match new {
+            Some(new) => feed_boxes(&mut self.boxes, hits_of(&self.watches, new)),
+            None => Ok(()),
+        }
+    }
+
+    // Appends the text of a statement that watches a search, or that tells a watched one, and gives its
+    // new hits to all boxes.
     fn answer_watch(
+        &mut self,
+        alloc: Global,
+        line: u32,
+        statement: &Statement,
+        version: &Version<Segment>,
+        out: &mut Vec<u8>,
+    ) -> Result<(), NoMemory>
+        requires told { IsOfWatches statement.now }
+        requires fit { WatchesFit (view_of version.now).games self.old }
+        ensures ok { OnOk result ((text : List ℕ)
+            × IsAnswer line (view_of version.now) self.old statement.now text self.new
+            × (out.new.items ≡ out.old.items ++ text)) }
+        ensures refused { OnErr result (out.new.items ≡ out.old.items) }
+        ensures left { OnErr result
+            (IsLeftBehind (view_of version.now) statement.now self.old self.new) }
+    {
+        let len = out.len();
+        let new = self.tell_watch(alloc, line, statement, version, out)?;
+        let fed = self.feed_new(new);
+        cut_back(out, len, fed)
+    }
+
+    // Appends the text of a search that is watched from now on, which is added; or that its name is
+    // taken.
+    fn begin_watch(
         &mut self,
         alloc: Global,
         line: u32,
         wanted: NamedSearch,
         version: &Version<Segment>,
         out: &mut Vec<u8>,
-    ) -> Result<(), NoMemory>
-        ensures ok { OnOk result ((text : List ℕ)
-            × IsAnswer line (view_of version.now) self.old (statement.Watch
-            wanted.entry.name.now wanted.entry.query.now wanted.entry.filter.now) text self.new
+    ) -> Result<Option<NewHits>, NoMemory>
+        ensures ok { IfOk result (λ new. (text : List ℕ)
+            × IsAnsweredUnfed line (view_of version.now) self.old (statement.Watch
+            wanted.entry.name.now wanted.entry.query.now wanted.entry.filter.now) text self.new new
             × (out.new.items ≡ out.old.items ++ text)) }
         ensures refused { OnErr result (out.new.items ≡ out.old.items) }
-        ensures left { OnErr result (IsLeftBehind (view_of version.now) (statement.Watch
-            wanted.entry.name.now wanted.entry.query.now wanted.entry.filter.now) self.old self.new) }
+        ensures left { OnErr result (self.new ≡ self.old) }
     {
-        if let Some(_at) = find_watch(&self.watches, wanted.name.as_str()) {
-            return print_taken(line, wanted.name.as_str(), out);
+        if self.is_watched(wanted.name.as_str()) {
+            print_taken(line, wanted.name.as_str(), out)?;
+            return Ok(None);
         }
         let watch = Watch::over(alloc, wanted, version)?;
         // The text is there before anything changes, so that a refusal for want of room changes nothing.
         let len = out.len();
         let count = watch.hits().len();
         print_watch(line, wanted.name.as_str(), version.number(), count, out)?;
-        let begun = self.begin(watch);
-        cut_back(out, len, begun)
-    }
-
-    // Adds a watched search, and gives its hits to all boxes.
-    fn begin(&mut self, watch: Watch) -> Result<(), NoMemory>
-        ensures ok { OnOk result (self.new ≡ fed_with watch.hits
-            (with_watches self.old (self.old.watches ++ watch ∷ []))) }
-        ensures left { OnErr result ((self.new ≡ self.old) ⊎ IsLeft (λ hits. hits ≡ watch.hits)
-            (with_watches self.old (self.old.watches ++ watch ∷ [])) self.new) }
-    {
         let at = self.watches.len();
-        self.watches.push(watch)?;
-        feed_from(&mut self.boxes, &self.watches, at, 0)
+        let added = self.add_watch(watch);
+        cut_back(out, len, added)?;
+        Ok(Some(NewHits { at, first: 0 }))
     }
 
-    // Appends the text of the watched search of a name, and gives its new hits to all boxes; or that
-    // none is watched under it.
-    fn answer_watched(
+    // Adds a watched search.
+    fn add_watch(&mut self, watch: Watch) -> Result<(), NoMemory>
+        ensures ok { OnOk result
+            (self.new ≡ with_watches self.old (self.old.watches ++ watch ∷ [])) }
+        ensures left { OnErr result (self.new ≡ self.old) }
+    {
+        self.watches.push(watch)?;
+        Ok(())
+    }
+
+    // Appends the text of the watched search of a name, which goes on to a version; or that none is
+    // watched under it.
+    fn go_on_with(
         &mut self,
         alloc: Global,
         line: u32,
         name: &str,
         version: &Version<Segment>,
         out: &mut Vec<u8>,
-    ) -> Result<(), NoMemory>
+    ) -> Result<Option<NewHits>, NoMemory>
         requires { WatchesFit (view_of version.now).games self.old }
-        ensures ok { OnOk result ((text : List ℕ)
-            × IsAnswer line (view_of version.now) self.old (statement.Watched name.now) text self.new
-            × (out.new.items ≡ out.old.items ++ text)) }
+        ensures ok { IfOk result (λ new. (text : List ℕ)
+            × IsAnsweredUnfed line (view_of version.now) self.old (statement.Watched name.now) text
+            self.new new × (out.new.items ≡ out.old.items ++ text)) }
         ensures refused { OnErr result (out.new.items ≡ out.old.items) }
-        ensures left { OnErr result (IsLeftBehind (view_of version.now)
-            (statement.Watched name.now) self.old self.new) }
+        ensures left { OnErr result ((new : Option NewHits)
+            × ChangesUnfed (view_of version.now) (statement.Watched name.now) self.old self.new new) }
     {
         match find_watch(&self.watches, name) {
-            Some(at) => self.tell_watch(alloc, line, name, at, version, out),
-            None => print_no_watch(line, name, out),
+            Some(at) => {
+                let new = self.go_on_at(alloc, line, name, at, version, out)?;
+                Ok(Some(new))
+            }
+            None => {
+                print_no_watch(line, name, out)?;
+                Ok(None)
+            }
         }
     }
 
-    // Lets the watched search at a place go on to a version, appends its text, and gives its new hits
-    // to all boxes.
-    fn tell_watch(
+    // Lets the watched search at a place go on to a version, and appends its text.
+    fn go_on_at(
         &mut self,
         alloc: Global,
         line: u32,
@@ -317,28 +410,26 @@ impl<C: Collector> Session<C> {
         at: usize,
         version: &Version<Segment>,
         out: &mut Vec<u8>,
-    ) -> Result<(), NoMemory>
+    ) -> Result<NewHits, NoMemory>
         requires at { IsWatchAt name.now self.old.watches at }
         requires fit { WatchesFit (view_of version.now).games self.old }
-        ensures ok { OnOk result ((text : List ℕ)
-            × IsWatchTold line (view_of version.now) name.now self.old text self.new
-            × (out.new.items ≡ out.old.items ++ text)) }
+        ensures ok { IfOk result (λ new. (text : List ℕ)
+            × IsAnsweredUnfed line (view_of version.now) self.old (statement.Watched name.now) text
+            self.new (Some new) × (out.new.items ≡ out.old.items ++ text)) }
         ensures refused { OnErr result (out.new.items ≡ out.old.items) }
-        ensures left { OnErr result (IsLeftBehind (view_of version.now)
-            (statement.Watched name.now) self.old self.new) }
+        ensures left { OnErr result ((new : Option NewHits)
+            × ChangesUnfed (view_of version.now) (statement.Watched name.now) self.old self.new new) }
     {
         let first = advance_at(alloc, &mut self.watches, at, version)?;
         let hits = self.watches[at].hits();
         let table = Table::of(alloc, hits)?;
-        let len = out.len();
         let heading = Heading {
             line,
             version: version.number(),
             games: game_count(version),
         };
         print_watched(heading, name, hits, &table, out)?;
-        let fed = feed_from(&mut self.boxes, &self.watches, at, first);
-        cut_back(out, len, fed)
+        Ok(NewHits { at, first })
     }
 }
 

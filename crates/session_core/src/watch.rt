@@ -1,5 +1,5 @@
 // A watched search, and what finds its hits.
-ghost use Rattle.std.specs.Prelude.{◌≡◌, ◌<◌, [], IfOk, OnErr};
+ghost use Rattle.std.specs.Prelude.{◌≡◌, ◌<◌, [], IfOk, OnErr, drop};
 ghost use Rattle.search_engine.specs.Hits.{AreHits};
 ghost use Rattle.version_publisher.specs.Contents.{items_in};
 ghost use Rattle.session_core.specs.Watches.{IsWatchOf, watch_over};
@@ -141,6 +141,14 @@ impl Watch {
         ensures { result.now ≡ self.now.hits }
     {
         self.standing.hits()
+    }
+
+    // The hits from this one on.
+    pub(crate) fn hits_from(&self, first: usize) -> &[Hit]
+        ensures { result.now ≡ drop first self.now.hits }
+    {
+        let hits = self.standing.hits();
+        &hits[first.min(hits.len())..]
     }
 
     // Goes on to a version, which begins with the games that it covers: only those behind them are

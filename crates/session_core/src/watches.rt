@@ -2,7 +2,6 @@
 ghost use Rattle.std.specs.Prelude.{
   ◌≡◌,
   ◌<◌,
-  ◌≤◌,
   ◌↔◌,
   All,
   IfNone,
@@ -10,25 +9,28 @@ ghost use Rattle.std.specs.Prelude.{
   IfSome,
   IsTrue,
   OnErr,
-  OnOk,
-  drop,
   length,
-  map,
-  slice_index_or,
 };
-ghost use Rattle.hit_collectors.specs.Boxes.{IsFedInPart, all_with_hits};
 ghost use Rattle.version_publisher.specs.Contents.{items_in};
-ghost use Rattle.session_core.specs.SessionState.{Watched};
-ghost use Rattle.session_core.specs.Watches.{IsFree, IsWatchOf};
+ghost use Rattle.session_core.specs.Watches.{IsFree, IsWatchOf, new_hits};
 ghost use Rattle.session_core.specs.Watching.{IsAdvancedAt, IsWatchAt};
 
-use crate::boxes::feed_boxes;
 use crate::watch::Watch;
-use hit_collectors::Collector;
 use kb_geometry::NoMemory;
+use pattern_images::Hit;
 use segment_store::Segment;
 use std::alloc::Global;
 use version_publisher::Version;
+
+/// Which hits of a session are new, while its boxes aren't given them yet: those of a watched search from
+/// one on.
+#[derive(Clone, Copy, Debug, PartialEq, Eq)]
+pub struct NewHits {
+    // The place of the watched search.
+    pub(crate) at: usize,
+    // The place of the first one that is new.
+    pub(crate) first: usize,
+}
 
 // The place of the watched search of this name.
 pub(crate) fn find_watch(watches: &[Watch], name: &str) -> Option<usize>
@@ -67,23 +69,12 @@ pub(crate) fn advance_at(
     watches[at].advance(alloc, version)
 }
 
-// Gives the hits of the watched search at a place, from the one at `first` on, to each box.
-pub(crate) fn feed_from<C: Collector>(
-    boxes: &mut Vec<C>,
-    watches: &[Watch],
-    at: usize,
-    first: usize,
-) -> Result<(), NoMemory>
-    requires within { at < length watches.now }
-    requires few { (d : Watched) → first ≤ length (slice_index_or watches.now at d).hits }
-    ensures ok { OnOk result ((watch : Watched) →
-        ((d : Watched) → slice_index_or watches.now at d ≡ watch) →
-        map (λ b. C.tally b) boxes.new.items
-        ≡ all_with_hits (drop first watch.hits) (map (λ b. C.tally b) boxes.old.items)) }
-    ensures refused { OnErr result ((watch : Watched) →
-        ((d : Watched) → slice_index_or watches.now at d ≡ watch) →
-        IsFedInPart (drop first watch.hits) (map (λ b. C.tally b) boxes.old.items)
-        (map (λ b. C.tally b) boxes.new.items)) }
+// The hits of a watched search that are new.
+pub(crate) fn hits_of(watches: &[Watch], new: NewHits) -> &[Hit]
+    ensures { result.now ≡ new_hits watches.now new }
 {
-    feed_boxes(boxes, &watches[at].hits()[first..])
+    match watches.get(new.at) {
+        Some(watch) => watch.hits_from(new.first),
+        None => &[],
+    }
 }

@@ -9,9 +9,3 @@ returns-in-Search-clause-left g c = on_err_weaker c.answer_search.result (λ lef
 pub returns-in-Retire-clause-ok : goal.returns-in-Retire-clause-ok
 returns-in-Retire-clause-ok g c =
     OnOk-map c.retire_box.result _ _ (λ retired. rw (c.in-Retire.is, ← c.self-in-Retire.view_is) (rw c.as_str.ensures at (retired c.self-in-Retire.inside.watches.items))) c.retire_box.ensures.ok
-
-pub returns-in-Watch-clause-left : goal.returns-in-Watch-clause-left
-returns-in-Watch-clause-left g c = on_err_weaker c.answer_watch.result (λ left. rw c.in-Watch.is left) c.answer_watch.ensures.left
-
-pub returns-in-Watched-clause-left : goal.returns-in-Watched-clause-left
-returns-in-Watched-clause-left g c = on_err_weaker c.answer_watched.result (λ left. rw c.in-Watched.is (rw c.as_str-in-Watched.ensures at left)) c.answer_watched.ensures.left
