@@ -55,13 +55,13 @@ module _ (points : ℕ) (xs ys : List ℕ) (are_xs : AreCells points xs) (are_ys
 -- ---- where a key stands
 
 -- the entry with this number is the first one whose key passes
-abbrev IsFirst : (Key → Bool) → List Stored → ℕ → Type 0
+abbrev pub IsFirst : (Key → Bool) → List Stored → ℕ → Type 0
 IsFirst test [] at = ⊥
 IsFirst test (e ∷ es) zero = test e.0 ≡ true
 IsFirst test (e ∷ es) (suc at) = (test e.0 ≡ false) × IsFirst test es at
 
 -- no key passes
-abbrev IsAbsent : (Key → Bool) → List Stored → Type 0
+abbrev pub IsAbsent : (Key → Bool) → List Stored → Type 0
 IsAbsent test es = AllByRecursion (λ key. test key ≡ false) (keys_of es)
 
 module _ (points : ℕ) (words : List ℕ) (are : AreCells points words) where

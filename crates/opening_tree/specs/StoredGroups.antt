@@ -1,8 +1,10 @@
 -- The openings of the entries and next moves so far, as a map keeps them.
-use Rattle.std.specs.Prelude.{ℕ, List, map, All}
+use Rattle.std.specs.Prelude.{◌≡◌, ◌<◌, ℕ, List, length, map, slice_index_or, All}
 use Rattle.std.specs.declared.alloc.Global.{Global}
 use Rattle.std.specs.declared.vec.Vec.{Vec}
 use Rattle.opening_tree.specs.declared.answer.Opening.{Opening}
+use Rattle.opening_tree.specs.declared.groups.EntryAt.{EntryAt}
+use Rattle.opening_tree.specs.Entries.{Entry}
 use Rattle.opening_tree.specs.declared.opening_so_far.OpeningSoFar.{OpeningSoFar}
 use Rattle.opening_tree.specs.Groups.{Grouped, IsGroupWithin, with_group, with_groups}
 use Rattle.opening_tree.specs.Packing.{AreCells, cells_of}
@@ -52,3 +54,30 @@ pub record IsReadyForGroups (points : ℕ) (more stored : List Stored) : Type 0 
   pub more_keys : AreKeys points more
   pub room : All (λ (g : Grouped). IsGroupWithin 18446744073709551615 g.opening)
       (with_groups (groups_shown points stored) (groups_shown points more))
+
+-- ---- one entry
+
+-- an entry whose canonical position is packed in these words
+abbrev pub entry_shown : ℕ → List ℕ → EntryAt → Entry
+entry_shown points words e = record {
+  game = e.game;
+  node = e.node;
+  canonical = cells_of points words;
+  outcome = e.outcome;
+}
+
+-- An entry with a canonical position in these words can be added: no count comes to its end.
+pub record IsReadyForEntry (points : ℕ) (words : List ℕ) (stored : List Stored) : Type 0 where
+  pub keys : AreKeys points stored
+  pub key : AreCells points words
+  pub room : All (λ (g : Grouped). IsGroupWithin 18446744073709551614 g.opening)
+      (groups_shown points stored)
+
+-- the opening with a number has the key of these words
+pub record IsKeyAt (stored : List Stored) (at : ℕ) (words : List ℕ) : Type 0 where
+  pub in_range : at < length stored
+  pub is_key : (default : Stored) → (slice_index_or stored at default).0.items ≡ words
+
+-- the openings keep their numbers
+abbrev pub AreKeptIn : List Stored → List Stored → Type 0
+AreKeptIn before after = (at : ℕ) (words : List ℕ) → IsKeyAt before at words → IsKeyAt after at words
