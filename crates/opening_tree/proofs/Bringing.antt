@@ -6,17 +6,17 @@ use Rattle.opening_tree.specs.declared.least.LeastImages.{LeastImages}
 use Rattle.opening_tree.specs.Canonical.{Brings, IsCanonicalPosition}
 use Rattle.opening_tree.specs.Frames.{AreImages, image_in, symmetries_of}
 use Rattle.opening_tree.specs.Least.{AreBringing, AreLeastOf}
-use Rattle.opening_tree.proofs.LeastImages.{IsFrame-least}
+use Rattle.opening_tree.proofs.LeastImages.{least-canonical}
 use Rattle.opening_tree.proofs.PositionImages.{one_image}
 
 module _ (shape : Shape) (position : Position) (images : List Position) (are : AreImages shape position images) (least : LeastImages) (of : AreLeastOf (symmetries_of shape) images least) where
-  pub least-canonical : IsCanonicalPosition shape position (image_in images least.first)
-  least-canonical =
-      (IsFrame-least shape position images are least.first (omega (arith, of.within, are.count))
-      (λ n lt. of.none_before n (omega (arith, lt, are.count)))).is_canonical
+  pub first-canonical : IsCanonicalPosition shape position (image_in images least.first)
+  first-canonical =
+      least-canonical shape position images are least.first (omega (arith, of.within, are.count))
+      (λ n lt. of.none_before n (omega (arith, lt, are.count)))
 
-  pub least-bringing : AreBringing shape position (image_in images least.first) least.all
-  least-bringing = record {
+  pub first-bringing : AreBringing shape position (image_in images least.first) least.all
+  first-bringing = record {
     number = least.first;
     brings = are.each least.first (omega (arith, of.within, are.count));
     each = λ n lt.

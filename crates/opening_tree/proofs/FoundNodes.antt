@@ -50,7 +50,8 @@ module _ (depth : ℕ) (game : tree.Tree) (is_tree : tree.IsTree game) (changes 
         none_from_same (deltas.position_where changes (deltas.parent_of changes n)) (deltas.changes_of changes n) (of.net.changes n (omega (arith, lt, of.lead.each_node)))
         (sym step ∙ same ∙ sym above)
 
-    same_there : deltas.changes_of changes n ≡ [] → position_in positions n ≡ position_in positions m
+    -- a node that changes nothing has its parent's position
+    pub same_there : deltas.changes_of changes n ≡ [] → position_in positions n ≡ position_in positions m
     same_there none = step ∙ ap (with_changes (deltas.position_where changes (deltas.parent_of changes n))) none ∙ above
 
   changed-differs : (o : Option ℕ) → tree.parent_of game n ≡ o → IfSome o (λ m. deltas.changes_of changes n ≢ []) → IfSome o (λ m. position_in positions n ≢ position_in positions m)

@@ -1,11 +1,14 @@
 -- What is known of the positions at the nodes of a game while openings grow by its entries and next
 -- moves.
-use Rattle.std.specs.Prelude.{◌≡◌, ℕ, ◌+◌, ◌<◌, ◌≤◌, List, ◌++◌, length, slice_index_or}
+use Rattle.std.specs.Prelude.{◌≡◌, ℕ, ◌+◌, ◌<◌, ◌≤◌, List, ◌++◌, Some, length, slice_index_or}
 use Rattle.kb_geometry.specs.declared.shape.Shape.{Shape}
 use Rattle.kb_geometry.specs.Board.{point_count}
 use Rattle.kb_geometry.specs.Capture.{Position}
-use Rattle.game_tree.specs.Position.{ArePositions}
+use Rattle.game_tree.specs.Result.{outcome_of}
 use Rattle.game_tree.specs.Tree as tree
+use Rattle.capture_board.specs.Deltas as deltas
+use Rattle.node_position.specs.Games.{AreNodeChanges}
+use Rattle.opening_tree.specs.declared.groups.EntryAt.{EntryAt}
 use Rattle.opening_tree.specs.declared.openings_of_games.Frame.{Frame}
 use Rattle.opening_tree.specs.Canonical.{IsCanonicalPosition}
 use Rattle.opening_tree.specs.Entries.{AreEntriesTo, Entry, position_in}
@@ -16,6 +19,7 @@ use Rattle.opening_tree.specs.NextMoves.{AreNextsTo, NextAt}
 use Rattle.opening_tree.specs.Packing.{cells_of}
 use Rattle.opening_tree.specs.StoredGames.{AreStored}
 use Rattle.opening_tree.specs.StoredGroups.{IsKeyAt, Stored}
+use Rattle.opening_tree.specs.Turned.{StandsTurned, TurnedWalk}
 
 -- The frame tells the opening of a position, by its canonical position, and the symmetries that bring
 -- to that.
@@ -45,6 +49,15 @@ pub record IsReadyForGame (shape : Shape) (es : List Entry) (ns : List NextAt)
   pub entries_fit : length es + 65536 ≤ 18446744073709551614
   pub nexts_fit : length ns + 65536 ≤ 18446744073709551614
 
+-- The walk stands at a node of a game with these changes, which may be an entry.
+pub record StandsAtEntry (game : tree.Tree) (changes : deltas.Deltas) (walk : TurnedWalk)
+    (entry : EntryAt) : Type 0 where
+  pub is_tree : tree.IsTree game
+  pub are_changes : AreNodeChanges game changes
+  pub stands : StandsTurned changes walk
+  pub here : walk.here ≡ Some entry.node
+  pub outcome : entry.outcome ≡ outcome_of game.info.outcome_text
+
 -- The openings have grown by the entries of the first so many nodes, and the frames at them are
 -- known.
 pub record IsGoneTo (depth number : ℕ) (game : tree.Tree) (positions : List Position) (end : ℕ)
@@ -53,8 +66,9 @@ pub record IsGoneTo (depth number : ℕ) (game : tree.Tree) (positions : List Po
   pub are_entries : AreEntriesTo depth number game positions end more
   pub are_stored : AreStored game.shape (es ++ more) ns stored
   pub are_frames : AreFramesTo depth game positions end stored frames
+  pub following : AreFollowing es ns
   pub entries_fit : length es + 65536 ≤ 18446744073709551614
-  pub nexts_fit : length ns ≤ 18446744073709551614
+  pub nexts_fit : length ns + 65536 ≤ 18446744073709551614
 
 -- The openings have grown by the next moves of the first so many nodes too.
 pub record AreNextsGone (depth : ℕ) (game : tree.Tree) (positions : List Position) (end : ℕ)

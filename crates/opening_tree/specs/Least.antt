@@ -1,11 +1,14 @@
 -- Which images of a position are the canonical position: a bit for each symmetry, the lowest for the
--- first.
-use Rattle.std.specs.Prelude.{◌≡◌, ◌↔◌, ℕ, ◌<◌, ◌≤◌, List}
+-- first. And the least of the points to which these symmetries move one.
+use Rattle.std.specs.Prelude.{◌≡◌, ◌↔◌, ℕ, ◌<◌, ◌≤◌, List, Option, Some, None}
 use Rattle.std.specs.Int.{bit_at}
 use Rattle.std.specs.declared.cmp.Ordering.{Ordering}
 use Rattle.std.specs.declared.cmp.Ordering.TheVariants as ordering
+use Rattle.kb_geometry.specs.declared.shape.Point.{Point}
 use Rattle.kb_geometry.specs.declared.shape.Shape.{Shape}
+use Rattle.kb_geometry.specs.Board.{number_of}
 use Rattle.kb_geometry.specs.Capture.{Position}
+use Rattle.kb_geometry.specs.Symmetry.{moved}
 use Rattle.opening_tree.specs.declared.least.LeastImages.{LeastImages}
 use Rattle.opening_tree.specs.Canonical.{Brings, IsBefore}
 use Rattle.opening_tree.specs.Frames.{image_in, symmetries_of}
@@ -34,3 +37,22 @@ pub record AreBringing (shape : Shape) (position canonical : Position) (all : �
   pub each : (n : ℕ) →
       n < symmetries_of shape →
       (bit_at all n ≡ 1) ↔ Brings shape n position canonical
+
+-- One of the first so many symmetries that bring to the canonical position moves a point there, and
+-- none of them moves it to a point of less number.
+pub record IsLeastMoved (shape : Shape) (position canonical : Position) (point : Point) (end : ℕ)
+    (found : Point) : Type 0 where
+  pub number : ℕ
+  pub brings : Brings shape number position canonical
+  pub is_moved : found ≡ moved number shape point
+  pub none_less : (other : ℕ) →
+      other < end →
+      Brings shape other position canonical →
+      number_of shape found ≤ number_of shape (moved other shape point)
+
+-- what is found so: none if none of the first so many symmetries brings there
+abbrev pub IsLeastTo : Shape → Position → Position → Point → ℕ → Option Point → Type 0
+IsLeastTo shape position canonical point end None =
+    (n : ℕ) → n < end → ¬ Brings shape n position canonical
+IsLeastTo shape position canonical point end (Some found) =
+    IsLeastMoved shape position canonical point end found

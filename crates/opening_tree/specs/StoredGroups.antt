@@ -1,12 +1,16 @@
 -- The openings of the entries and next moves so far, as a map keeps them.
-use Rattle.std.specs.Prelude.{◌≡◌, ◌<◌, ℕ, List, length, map, slice_index_or, All}
+use Prim.Native.Nat.{zero}
+use Rattle.std.specs.Prelude.{◌≡◌, ◌≢◌, ℕ, suc, List, [], ◌∷◌, map, All}
 use Rattle.std.specs.declared.alloc.Global.{Global}
 use Rattle.std.specs.declared.vec.Vec.{Vec}
+use Rattle.kb_geometry.specs.declared.stone.Outcome.{Outcome}
+use Rattle.game_tree.specs.declared.node.Move.{Move}
 use Rattle.opening_tree.specs.declared.answer.Opening.{Opening}
 use Rattle.opening_tree.specs.declared.groups.EntryAt.{EntryAt}
 use Rattle.opening_tree.specs.Entries.{Entry}
 use Rattle.opening_tree.specs.declared.opening_so_far.OpeningSoFar.{OpeningSoFar}
 use Rattle.opening_tree.specs.Groups.{Grouped, IsGroupWithin, with_group, with_groups}
+use Rattle.opening_tree.specs.NextMoves.{NextAt}
 use Rattle.opening_tree.specs.Packing.{AreCells, cells_of}
 
 -- the opening that is stored
@@ -73,11 +77,22 @@ pub record IsReadyForEntry (points : ℕ) (words : List ℕ) (stored : List Stor
   pub room : All (λ (g : Grouped). IsGroupWithin 18446744073709551614 g.opening)
       (groups_shown points stored)
 
--- the opening with a number has the key of these words
-pub record IsKeyAt (stored : List Stored) (at : ℕ) (words : List ℕ) : Type 0 where
-  pub in_range : at < length stored
-  pub is_key : (default : Stored) → (slice_index_or stored at default).0.items ≡ words
+-- the opening with a number is the first one whose key are these words
+abbrev pub IsKeyAt : List Stored → ℕ → List ℕ → Type 0
+IsKeyAt [] at words = ⊥
+IsKeyAt (e ∷ es) zero words = e.0.items ≡ words
+IsKeyAt (e ∷ es) (suc at) words = (e.0.items ≢ words) × IsKeyAt es at words
 
 -- the openings keep their numbers
 abbrev pub AreKeptIn : List Stored → List Stored → Type 0
 AreKeptIn before after = (at : ℕ) (words : List ℕ) → IsKeyAt before at words → IsKeyAt after at words
+
+-- ---- one next move
+
+-- a next move from the canonical position that is packed in these words
+abbrev pub next_shown : ℕ → List ℕ → Move → Outcome → NextAt
+next_shown points words played outcome = record {
+  canonical = cells_of points words;
+  played = played;
+  outcome = outcome;
+}

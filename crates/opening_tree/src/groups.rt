@@ -39,9 +39,11 @@ ghost use Rattle.opening_tree.specs.StoredGroups.{
   entry_shown,
   group_shown,
   groups_shown,
+  next_shown,
 };
 
-use crate::opening_so_far::OpeningSoFar;
+use crate::opening_so_far::{OpeningSoFar, add_to_rows};
+use game_tree::Move;
 use indexmap::IndexMap;
 use kb_geometry::{NoMemory, Outcome};
 use std::alloc::Global;
@@ -88,6 +90,28 @@ pub(crate) fn add_entry(
             Ok(at)
         }
     }
+}
+
+// Adds a next move from the canonical position of the opening with this number. The only error is
+// `NoMemory`.
+pub(crate) fn add_next(
+    openings: &mut OpeningMap,
+    at: usize,
+    played: Move,
+    outcome: Outcome,
+) -> Result<(), NoMemory>
+    requires { (points : ℕ) × (words : List ℕ) × IsReadyForEntry points words openings.old.entries
+        × IsKeyAt openings.old.entries at words }
+    ensures { OnOk result ((points : ℕ) (words : List ℕ) →
+        IsReadyForEntry points words openings.old.entries →
+        IsKeyAt openings.old.entries at words →
+        AreKeys points openings.new.entries
+        × (groups_shown points openings.new.entries ≡ with_next
+        (groups_shown points openings.old.entries) (next_shown points words played outcome))
+        × AreKeptIn openings.old.entries openings.new.entries) }
+{
+    add_to_rows(&mut openings[at].rows, played, outcome)?;
+    Ok(())
 }
 
 // Adds the openings of more games to openings. The only error is `NoMemory`.

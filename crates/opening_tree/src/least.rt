@@ -1,5 +1,6 @@
 // Which images of a position are the canonical position.
-ghost use Rattle.std.specs.Prelude.{◌≡◌, ◌⊎◌, ◌<◌, ◌≤◌, ◌+◌, List, IfNone, IfSome};
+ghost use Rattle.std.specs.Prelude.{◌≡◌, ◌⊎◌, ◌<◌, ◌≤◌, ◌+◌, ◌↔◌, List, IfNone, IfSome, IsTrue};
+ghost use Rattle.std.specs.Int.{bit_at};
 ghost use Rattle.kb_geometry.specs.declared.shape.Point.{Point};
 ghost use Rattle.kb_geometry.specs.Board.{IsOnBoard, number_of};
 ghost use Rattle.kb_geometry.specs.Capture.{Position};
@@ -74,11 +75,20 @@ fn point_in_frame(all: u8, shape: Shape, point: Point) -> Point
 {
     let mut found = None;
     for number in 0..symmetry_count(shape) {
-        if (all >> number) & 1 == 1 {
-            found = Some(lesser(shape, found, apply(symmetry(number), shape, point)));
+        if is_among(all, number) {
+            let here = apply(symmetry(number), shape, point);
+            found = Some(lesser(shape, found, here));
         }
     }
     found.unwrap_or(point)
+}
+
+// Whether the symmetry with a number is one of these.
+fn is_among(all: u8, number: u8) -> bool
+    requires { number < 8 }
+    ensures { IsTrue result ↔ (bit_at all number ≡ 1) }
+{
+    (all >> number) & 1 == 1
 }
 
 // The one of two points that has the lesser number; the second one if there is no first.

@@ -1,5 +1,5 @@
 // The openings of games, one game after another.
-ghost use Rattle.std.specs.Prelude.{◌≡◌, ◌<◌, ◌+◌, ◌++◌, ◌∷◌, [], ℕ, List, Some, IfOk, OnOk, length};
+ghost use Rattle.std.specs.Prelude.{◌≡◌, ◌<◌, ◌+◌, ◌++◌, ◌∷◌, [], ℕ, List, IfOk, OnOk, length};
 ghost use Rattle.kb_geometry.specs.Capture.{Position};
 ghost use Rattle.game_tree.specs.Position.{ArePositions};
 ghost use Rattle.game_tree.specs.Tree as trees;
@@ -7,16 +7,18 @@ ghost use Rattle.capture_board.specs.Deltas as changes;
 ghost use Rattle.node_position.specs.Games.{Game};
 ghost use Rattle.opening_tree.specs.Entries.{Entry};
 ghost use Rattle.opening_tree.specs.GameFrames.{IsPastFrom};
-ghost use Rattle.opening_tree.specs.GoneThrough.{AreNextsGone, IsGoneTo, IsReadyForGame};
-ghost use Rattle.opening_tree.specs.Groups.{AreFollowing};
+ghost use Rattle.opening_tree.specs.GoneThrough.{
+  AreNextsGone,
+  IsGoneTo,
+  IsReadyForGame,
+  StandsAtEntry,
+};
 ghost use Rattle.opening_tree.specs.NextMoves.{NextAt};
 ghost use Rattle.opening_tree.specs.StoredGames.{AreOpeningsOf};
-ghost use Rattle.opening_tree.specs.Turned.{StandsTurned};
 
-use crate::groups::{EntryAt, OpeningMap, add_entry};
+use crate::groups::{EntryAt, OpeningMap, add_entry, add_next};
 use crate::image_walker::ImageWalker;
 use crate::least::place_in_frame;
-use crate::opening_so_far::add_to_rows;
 use crate::openings::Asked;
 use crate::within::end_within;
 use capture_board::NodeDeltas;
@@ -93,7 +95,8 @@ impl OpeningsOfGames {
             return Ok(());
         }
         self.add_entries(alloc, number, game)?;
-        self.add_nexts(game)
+        self.add_nexts(game)?;
+        Ok(())
     }
 
     // Adds the entries of a game, and notes what is known of the positions at its nodes.
@@ -116,6 +119,7 @@ impl OpeningsOfGames {
             (length self.new.frames.items) es ns self.new.openings.entries self.new.frames.items) }
     {
         let tree = game.tree();
+        let _count = tree.node_count();
         let deltas = game.deltas();
         let outcome = game.outcome();
         let end = end_within(self.asked.depth, tree);
@@ -144,9 +148,9 @@ impl OpeningsOfGames {
     ) -> Result<Frame, NoMemory>
         requires in_tree { entry.node < trees.node_count tree.now }
         requires in_range { entry.node < changes.node_count deltas.now }
-        requires stands { StandsTurned deltas.now self.old.walker }
-        requires here { self.old.walker.here ≡ Some entry.node }
+        requires at_node { StandsAtEntry tree.now deltas.now self.old.walker entry }
         requires so_far { (positions : List Position) × (es : List Entry) × (ns : List NextAt)
+            × ArePositions tree.now positions
             × IsGoneTo self.old.asked.depth entry.game tree.now positions entry.node es ns
             self.old.openings.entries self.old.frames.items }
         ensures asked { self.new.asked ≡ self.old.asked }
@@ -154,7 +158,7 @@ impl OpeningsOfGames {
         ensures frames { self.new.frames ≡ self.old.frames }
         ensures gone { IfOk result (λ frame. (positions : List Position) →
             ArePositions tree.now positions → (es : List Entry) (ns : List NextAt) →
-            AreFollowing es ns → IsGoneTo self.old.asked.depth entry.game tree.now positions
+            IsGoneTo self.old.asked.depth entry.game tree.now positions
             entry.node es ns self.old.openings.entries self.old.frames.items →
             IsGoneTo self.old.asked.depth entry.game tree.now positions (entry.node + 1) es ns
             self.new.openings.entries (self.old.frames.items ++ frame ∷ [])) }
@@ -181,6 +185,10 @@ impl OpeningsOfGames {
 
     // Adds the next moves of a game of which the frames are known.
     fn add_nexts(&mut self, game: &FinishedGame) -> Result<(), NoMemory>
+        requires so_far { (positions : List Position) × (es : List Entry) × (ns : List NextAt)
+            × ArePositions game.now.tree positions
+            × AreNextsGone self.old.asked.depth game.now.tree positions 0 es ns
+            self.old.openings.entries self.old.frames.items }
         ensures asked { self.new.asked ≡ self.old.asked }
         ensures walker { self.new.walker ≡ self.old.walker }
         ensures gone { OnOk result ((positions : List Position) →
@@ -191,6 +199,7 @@ impl OpeningsOfGames {
             (length self.old.frames.items) es ns self.new.openings.entries
             self.old.frames.items) }
     {
+        let _count = game.tree().node_count();
         for n in 0..self.frames.len() {
             self.add_next(game, n as u32)?;
         }
@@ -200,7 +209,9 @@ impl OpeningsOfGames {
     // Adds the next move at a node, if there is one.
     fn add_next(&mut self, game: &FinishedGame, n: u32) -> Result<(), NoMemory>
         requires in_range { n < length self.old.frames.items }
+        requires in_game { n < trees.node_count game.now.tree }
         requires so_far { (positions : List Position) × (es : List Entry) × (ns : List NextAt)
+            × ArePositions game.now.tree positions
             × AreNextsGone self.old.asked.depth game.now.tree positions n es ns
             self.old.openings.entries self.old.frames.items }
         ensures asked { self.new.asked ≡ self.old.asked }
@@ -214,6 +225,7 @@ impl OpeningsOfGames {
             self.new.openings.entries self.old.frames.items) }
     {
         let tree = game.tree();
+        let shape = tree.shape();
         let Some(parent) = tree.parent(n) else {
             return Ok(());
         };
@@ -226,12 +238,9 @@ impl OpeningsOfGames {
         let frame = self.frames[parent as usize];
         let turned = Move {
             colour: played.colour,
-            point: place_in_frame(frame.symmetries, tree.shape(), played.point),
+            point: place_in_frame(frame.symmetries, shape, played.point),
         };
-        add_to_rows(
-            &mut self.openings[frame.opening].rows,
-            turned,
-            game.outcome(),
-        )
+        add_next(&mut self.openings, frame.opening, turned, game.outcome())?;
+        Ok(())
     }
 }

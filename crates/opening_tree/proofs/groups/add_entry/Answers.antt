@@ -1,4 +1,5 @@
 use Rattle.std.proofs.Common.{◌≡◌, ◌∙◌, List, ap, length, refl, subst, sym}
+use Rattle.indexmap.specs.IndexMap.{insert_entry}
 use Rattle.indexmap.proofs.MapLemmas.{Found-position, Missing-position}
 use Rattle.opening_tree.specs.Groups.{IsGroupWithin, none_yet, with_one}
 use Rattle.opening_tree.specs.Packing.{AreCells}
@@ -49,6 +50,7 @@ returns-in_ok-insert-in-None c points ready =
       subst (AreKeys points) (sym c.in_ok-insert-in-None.ensures.entries) (keys_inserted points _ stored key new ready.keys (subst (AreCells points) (sym is) ready.key)),
       ap (groups_shown points) c.in_ok-insert-in-None.ensures.entries
           ∙ entry_begun points words ready.key (entry_shown points words c.args.entry) refl _ (λ a b. refl) stored key new ready.keys missing.absent is (c.count-in-None.ensures ∙ ap (λ o. with_one o c.args.entry.outcome) c.none-opening.ensures),
-      ?,
+      subst (λ (es : List Stored). IsKeyAt es c.len-at.result words) (sym c.in_ok-insert-in-None.ensures.entries)
+          (subst (λ k. IsKeyAt (insert_entry _ stored key new) k words) (sym c.len-at.ensures.len) (key-inserted words _ (λ a b. refl) key is new stored missing.absent)),
       subst (AreKeptIn stored) (sym c.in_ok-insert-in-None.ensures.entries) (kept-inserted words _ (λ a b. refl) key is new stored missing.absent),
     )
