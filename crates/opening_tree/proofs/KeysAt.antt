@@ -65,11 +65,16 @@ module _ (words : List ℕ) where
         sym (ap (λ b. cond b ((x.0, new) ∷ xs) (x ∷ insert_entry eq xs key new)) apart)
 
     -- a new key stands at the end
-    pub key-inserted : (es : List Stored) → IsAbsent test es → IsKeyAt (insert_entry eq es key new) (length es) words
+    key-inserted : (es : List Stored) → IsAbsent test es → IsKeyAt (insert_entry eq es key new) (length es) words
     key-inserted [] absent = is
     key-inserted (x ∷ xs) absent =
         subst (λ (ys : List Stored). IsKeyAt ys (suc (length xs)) words) (inserted-more x xs absent.0)
         (λ e. false≢true (sym absent.0 ∙ found x e), key-inserted xs absent.1)
+
+    pub key-added : (es : List Stored) → IsAbsent test es → (more : List Stored) → more ≡ insert_entry eq es key new → (at : ℕ) → at ≡ length es → IsKeyAt more at words
+    key-added es absent more is_more at end =
+        subst (λ (ys : List Stored). IsKeyAt ys at words) (sym is_more)
+        (subst (λ k. IsKeyAt (insert_entry eq es key new) k words) (sym end) (key-inserted es absent))
 
     pub kept-inserted : (es : List Stored) → IsAbsent test es → AreKeptIn es (insert_entry eq es key new)
     kept-inserted [] absent k ws at = absurd at

@@ -20,7 +20,7 @@ use crate::groups::{EntryAt, OpeningMap, add_entry, add_next};
 use crate::image_walker::ImageWalker;
 use crate::least::place_in_frame;
 use crate::openings::Asked;
-use crate::within::end_within;
+use crate::within::{end_within, parent_alike};
 use capture_board::NodeDeltas;
 use game_tree::{GameTree, Move};
 use indexmap::IndexMap;
@@ -169,10 +169,8 @@ impl OpeningsOfGames {
                 symmetries: 0,
             });
         }
-        if let Some(parent) = tree.parent(entry.node) {
-            if deltas.changes(entry.node).is_empty() {
-                return Ok(self.frames[parent as usize]);
-            }
+        if let Some(parent) = parent_alike(deltas, entry.node) {
+            return Ok(self.frames[parent as usize]);
         }
         let turned = self.walker.turned();
         let least = turned.least();

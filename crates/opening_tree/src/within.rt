@@ -1,8 +1,8 @@
 // Which nodes of a game are gone through.
-ghost use Rattle.std.specs.Prelude.{◌≡◌, ◌<◌, ◌↔◌, IsTrue};
+ghost use Rattle.std.specs.Prelude.{◌≡◌, ◌≢◌, ◌<◌, [], Some, IfNone, IfSome, IsTrue};
 ghost use Rattle.game_tree.specs.Tree as trees;
 ghost use Rattle.capture_board.specs.Deltas as changes;
-ghost use Rattle.opening_tree.specs.GameFrames.{IsChangedWithin, IsPastAt, IsPastFrom};
+ghost use Rattle.opening_tree.specs.GameFrames.{IsPastAt, IsPastFrom};
 
 use capture_board::NodeDeltas;
 use game_tree::GameTree;
@@ -29,5 +29,25 @@ fn is_past(depth: u32, tree: &GameTree, n: u32) -> bool
     match tree.parent(n) {
         Some(parent) => tree.move_number(parent) > depth,
         None => false,
+    }
+}
+
+// The parent of a node that changes nothing: the position is the same there. The root has none.
+pub(crate) fn parent_alike(deltas: &NodeDeltas, n: u32) -> Option<u32>
+    requires { n < changes.node_count deltas.now }
+    ensures some { IfSome result (λ m. (changes.parent_of deltas.now n ≡ Some m) × (m < n)
+        × (changes.changes_of deltas.now n ≡ [])) }
+    ensures none { IfNone result (IfSome (changes.parent_of deltas.now n)
+        (λ m. changes.changes_of deltas.now n ≢ [])) }
+{
+    match deltas.parent(n) {
+        Some(parent) => {
+            if deltas.changes(n).is_empty() {
+                Some(parent)
+            } else {
+                None
+            }
+        }
+        None => None,
     }
 }

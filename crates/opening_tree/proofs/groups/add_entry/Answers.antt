@@ -1,11 +1,10 @@
 use Rattle.std.proofs.Common.{◌≡◌, ◌∙◌, List, ap, length, refl, subst, sym}
-use Rattle.indexmap.specs.IndexMap.{insert_entry}
 use Rattle.indexmap.proofs.MapLemmas.{Found-position, Missing-position}
 use Rattle.opening_tree.specs.Groups.{IsGroupWithin, none_yet, with_one}
 use Rattle.opening_tree.specs.Packing.{AreCells}
-use Rattle.opening_tree.specs.StoredGroups.{AreKeptIn, AreKeys, IsKeyAt, Stored, entry_shown, groups_shown, opening_shown}
+use Rattle.opening_tree.specs.StoredGroups.{AreKeptIn, AreKeys, Stored, entry_shown, groups_shown, opening_shown}
 use Rattle.opening_tree.proofs.GroupEntries.{entry_begun, entry_counted, keys_inserted, keys_set, said_at}
-use Rattle.opening_tree.proofs.KeysAt.{kept-inserted, kept-set, key-first, key-inserted}
+use Rattle.opening_tree.proofs.KeysAt.{kept-inserted, kept-set, key-added, key-first}
 use Rattle.opening_tree.proofs.groups.add_entry.Goals as goal
 
 pub count-requires-clause-count : goal.count-requires-clause-count
@@ -50,7 +49,6 @@ returns-in_ok-insert-in-None c points ready =
       subst (AreKeys points) (sym c.in_ok-insert-in-None.ensures.entries) (keys_inserted points _ stored key new ready.keys (subst (AreCells points) (sym is) ready.key)),
       ap (groups_shown points) c.in_ok-insert-in-None.ensures.entries
           ∙ entry_begun points words ready.key (entry_shown points words c.args.entry) refl _ (λ a b. refl) stored key new ready.keys missing.absent is (c.count-in-None.ensures ∙ ap (λ o. with_one o c.args.entry.outcome) c.none-opening.ensures),
-      subst (λ (es : List Stored). IsKeyAt es c.len-at.result words) (sym c.in_ok-insert-in-None.ensures.entries)
-          (subst (λ k. IsKeyAt (insert_entry _ stored key new) k words) (sym c.len-at.ensures.len) (key-inserted words _ (λ a b. refl) key is new stored missing.absent)),
+      key-added words _ (λ a b. refl) key is new stored missing.absent _ c.in_ok-insert-in-None.ensures.entries c.len-at.result c.len-at.ensures.len,
       subst (AreKeptIn stored) (sym c.in_ok-insert-in-None.ensures.entries) (kept-inserted words _ (λ a b. refl) key is new stored missing.absent),
     )

@@ -27,7 +27,7 @@ loop-number-preserved c position canonical are =
       | then-is_among w ↦
           subst (λ (o : Option Point). IsLeastTo shape position canonical point (n + 1) o) (sym w.found-is)
           (least_to-more shape position canonical point n c.loop-number.found w.apply-here.result w.lesser.result (c.loop-number.invariant position canonical are)
-          (told.0 (c.is_among.ensures.0 w.if-is_among.true)) (w.apply-here.ensures.value ∙ ap (λ s. moved s shape point) w.symmetry-then-is_among.ensures)
+          (told.0 (c.is_among.ensures.0 w.if-is_among.true)) (w.apply-here.ensures.value ∙ ap (λ s. moved s shape point) w.symmetry.ensures)
           w.lesser.ensures.either w.lesser.ensures.first w.lesser.ensures.second w.lesser.ensures.alone)
       | else-is_among w ↦
           subst (λ (o : Option Point). IsLeastTo shape position canonical point (n + 1) o) (sym w.found-is)
