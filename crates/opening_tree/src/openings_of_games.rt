@@ -1,10 +1,11 @@
 // The openings of games, one game after another.
-ghost use Rattle.std.specs.Prelude.{◌≡◌, ◌<◌, ◌+◌, ◌++◌, ◌∷◌, [], ℕ, List, IfOk, OnOk, length};
+ghost use Rattle.std.specs.Prelude.{◌≡◌, ◌<◌, ◌+◌, ◌++◌, ◌∷◌, [], ℕ, List, Some, IfOk, OnOk, length, slice_index_or};
 ghost use Rattle.kb_geometry.specs.Capture.{Position};
 ghost use Rattle.game_tree.specs.Position.{ArePositions};
 ghost use Rattle.game_tree.specs.Tree as trees;
 ghost use Rattle.capture_board.specs.Deltas as changes;
 ghost use Rattle.node_position.specs.Games.{Game};
+ghost use Rattle.opening_tree.specs.declared.openings_of_games.Frame.{Frame};
 ghost use Rattle.opening_tree.specs.Entries.{Entry};
 ghost use Rattle.opening_tree.specs.GameFrames.{IsPastFrom};
 ghost use Rattle.opening_tree.specs.GoneThrough.{
@@ -20,7 +21,7 @@ use crate::groups::{EntryAt, OpeningMap, add_entry, add_next};
 use crate::image_walker::ImageWalker;
 use crate::least::place_in_frame;
 use crate::openings::Asked;
-use crate::within::{end_within, parent_alike};
+use crate::within::{end_within, is_entry, next_at};
 use capture_board::NodeDeltas;
 use game_tree::{GameTree, Move};
 use indexmap::IndexMap;
@@ -148,6 +149,7 @@ impl OpeningsOfGames {
     ) -> Result<Frame, NoMemory>
         requires in_tree { entry.node < trees.node_count tree.now }
         requires in_range { entry.node < changes.node_count deltas.now }
+        requires known { length self.old.frames.items ≡ entry.node }
         requires at_node { StandsAtEntry tree.now deltas.now self.old.walker entry }
         requires so_far { (positions : List Position) × (es : List Entry) × (ns : List NextAt)
             × ArePositions tree.now positions
@@ -163,14 +165,8 @@ impl OpeningsOfGames {
             IsGoneTo self.old.asked.depth entry.game tree.now positions (entry.node + 1) es ns
             self.new.openings.entries (self.old.frames.items ++ frame ∷ [])) }
     {
-        if tree.move_number(entry.node) > self.asked.depth {
-            return Ok(Frame {
-                opening: 0,
-                symmetries: 0,
-            });
-        }
-        if let Some(parent) = parent_alike(deltas, entry.node) {
-            return Ok(self.frames[parent as usize]);
+        if !is_entry(self.asked.depth, tree, deltas, entry.node) {
+            return Ok(self.frame_above(deltas, entry.node));
         }
         let turned = self.walker.turned();
         let least = turned.least();
@@ -179,6 +175,22 @@ impl OpeningsOfGames {
             opening,
             symmetries: least.all,
         })
+    }
+
+    // The frame of the position at the parent of a node, if it has one.
+    fn frame_above(&self, deltas: &NodeDeltas, n: u32) -> Frame
+        requires in_range { n < changes.node_count deltas.now }
+        requires known { length self.now.frames.items ≡ n }
+        ensures { (m : ℕ) (default : Frame) → changes.parent_of deltas.now n ≡ Some m →
+            result ≡ slice_index_or self.now.frames.items m default }
+    {
+        match deltas.parent(n) {
+            Some(parent) => self.frames[parent as usize],
+            None => Frame {
+                opening: 0,
+                symmetries: 0,
+            },
+        }
     }
 
     // Adds the next moves of a game of which the frames are known.
@@ -224,19 +236,14 @@ impl OpeningsOfGames {
     {
         let tree = game.tree();
         let shape = tree.shape();
-        let Some(parent) = tree.parent(n) else {
+        let Some(next) = next_at(self.asked.depth, tree, n) else {
             return Ok(());
         };
-        let Some(played) = tree.played(n) else {
-            return Ok(());
-        };
-        if tree.move_number(parent) > self.asked.depth {
-            return Ok(());
-        }
-        let frame = self.frames[parent as usize];
+        let frame = self.frames[next.parent as usize];
+        let point = place_in_frame(frame.symmetries, shape, next.played.point);
         let turned = Move {
-            colour: played.colour,
-            point: place_in_frame(frame.symmetries, shape, played.point),
+            colour: next.played.colour,
+            point,
         };
         add_next(&mut self.openings, frame.opening, turned, game.outcome())?;
         Ok(())
