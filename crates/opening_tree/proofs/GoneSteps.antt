@@ -15,28 +15,29 @@ use Rattle.game_tree.specs.Position.{ArePositions}
 use Rattle.game_tree.specs.Result.{outcome_of}
 use Rattle.game_tree.specs.Tree as tree
 use Rattle.capture_board.specs.Deltas as deltas
-use Rattle.node_position.specs.Games.{AreNodeChanges}
+use Rattle.node_position.specs.Games.{AreNodeChanges, Game}
 use Rattle.opening_tree.specs.declared.least.LeastImages.{LeastImages}
 use Rattle.opening_tree.specs.declared.openings_of_games.Frame.{Frame}
 use Rattle.opening_tree.specs.Canonical.{IsCanonicalPosition}
 use Rattle.opening_tree.specs.Entries.{AreEntriesTo, Entry, position_in}
 use Rattle.opening_tree.specs.Frames.{AreImages, image_in, symmetries_of}
 use Rattle.opening_tree.specs.GameFrames.{IsChangedWithin, IsNextOf, IsPastFrom}
+use Rattle.opening_tree.specs.Games.{AreOnBoard}
 use Rattle.opening_tree.specs.GoneThrough.{AreFramesTo, AreNextsGone, IsFrameOf, IsGoneTo, IsReadyForGame}
 use Rattle.opening_tree.specs.Groups.{Grouped, IsGroupWithin, with_entry, with_next}
 use Rattle.opening_tree.specs.Least.{AreBringing, AreLeastOf}
 use Rattle.opening_tree.specs.NextMoves.{AreNextsTo, IsNextAt, IsPlaceInFrame, NextAt}
 use Rattle.opening_tree.specs.Packing.{AreCells, cells_of}
-use Rattle.opening_tree.specs.StoredGames.{AreStored}
+use Rattle.opening_tree.specs.StoredGames.{AreOpeningsOf, AreStored}
 use Rattle.opening_tree.specs.StoredGroups.{AreKeptIn, AreKeys, IsKeyAt, IsReadyForEntry, Stored, groups_shown, next_shown}
 use Rattle.opening_tree.specs.Turned.{StandsTurned, TurnedState, TurnedWalk}
 use Rattle.opening_tree.proofs.Bringing.{least-words}
-use Rattle.opening_tree.proofs.FoundNodes.{entries-skip, is_entry, nexts-more, nexts-skip, same_there}
+use Rattle.opening_tree.proofs.FoundNodes.{entries-end, entries-skip, is_entry, nexts-end, nexts-more, nexts-skip, same_there}
 use Rattle.opening_tree.proofs.FramesOfGames.{move_number-above, position-there}
 use Rattle.opening_tree.proofs.GamesRead.{entries-few, nexts-few, place-on_board}
 use Rattle.opening_tree.proofs.KeysAt.{key-cells}
 use Rattle.opening_tree.proofs.OneOpening.{played_on_board}
-use Rattle.opening_tree.proofs.StoredSteps.{entry-stored, following-longer, next-stored, stored-room}
+use Rattle.opening_tree.proofs.StoredSteps.{entry-stored, following-longer, next-stored, openings-more, stored-room}
 
 suc_is : (n : ℕ) → suc n ≡ n + 1
 suc_is n = omega arith
@@ -224,9 +225,8 @@ module _ (depth : ℕ) (game : tree.Tree) (positions : List Position) (n : ℕ) 
         (omega (arith, length-append ns to.more, nexts-few depth 0 game is_tree positions are n to.more to.are_nexts, lt, to.past.in_game, is_tree.most, to.nexts_fit))
 
     -- the frame of a parent
-    frame-above : (m : ℕ) → tree.parent_of game n ≡ Some m → tree.move_number_of game m ≤ depth → (frame : Frame) → frame ≡ get_or frames m frame → IsFrameOf game.shape (position_in positions m) stored frame
-    frame-above m up within frame at =
-        subst (IsFrameOf game.shape (position_in positions m) stored) (sym at) (to.are_frames.each m frame (omega (arith, lt, parent-lt is_tree.parents n m up)) within)
+    frame-above : (m : ℕ) → tree.parent_of game n ≡ Some m → tree.move_number_of game m ≤ depth → (d : Frame) → IsFrameOf game.shape (position_in positions m) stored (get_or frames m d)
+    frame-above m up within d = to.are_frames.each m d (omega (arith, lt, parent-lt is_tree.parents n m up)) within
 
     nexts-one : (next : NextAt) → IsNextOf depth game positions n next → (new : List Stored) → AreKeys (point_count game.shape) new → groups_shown (point_count game.shape) new ≡ with_next (groups_shown (point_count game.shape) stored) next → AreKeptIn stored new → AreNextsGone depth game positions (n + 1) es ns new frames
     nexts-one next is new keys added kept =
@@ -244,9 +244,12 @@ module _ (depth : ℕ) (game : tree.Tree) (positions : List Position) (n : ℕ) 
           nexts_fit = to.nexts_fit;
         }
 
-    module _ (m : ℕ) (played : Move) (next : IsNextAt depth game n m played) (frame : Frame) (at : frame ≡ get_or frames m frame) where
+    module _ (m : ℕ) (played : Move) (next : IsNextAt depth game n m played) (d : Frame) where
+      abbrev frame : Frame
+      frame = get_or frames m d
+
       above : IsFrameOf game.shape (position_in positions m) stored frame
-      above = frame-above m next.is_parent next.within frame at
+      above = frame-above m next.is_parent next.within d
 
       -- the point of the move can be turned
       pub next-bringing : (position : Position) × (canonical : Position) × AreBringing game.shape position canonical frame.symmetries
@@ -282,3 +285,22 @@ module _ (depth : ℕ) (game : tree.Tree) (positions : List Position) (n : ℕ) 
             in_frame = record { same_colour = refl; place = placed (position_in positions m) (cells_of (point_count game.shape) above.words) above.are_bringing };
             outcome = ended;
           }) new grown.0 grown.1 grown.2
+
+-- the same openings, told of what is the same
+pub nexts-carried : (depth same_depth : ℕ) (game : tree.Tree) (positions : List Position) (n : ℕ) (es : List Entry) (ns : List NextAt) (stored : List Stored) (frames same_frames : List Frame) → depth ≡ same_depth → frames ≡ same_frames → AreNextsGone depth game positions n es ns stored frames → AreNextsGone same_depth game positions n es ns stored same_frames
+nexts-carried depth same_depth game positions n es ns stored frames same_frames e f to =
+    subst (λ d. AreNextsGone d game positions n es ns stored same_frames) e (subst (λ (fs : List Frame). AreNextsGone depth game positions n es ns stored fs) f to)
+
+-- ---- one game
+
+-- all entries and next moves of a game on the board are added
+pub game-added : (shape : Shape) (depth number : ℕ) (game : Game) (is_tree : tree.IsTree game.tree) (first : ℕ) (games : List Game) (count : first + length games ≡ number) (few : number < 400000) (stored : List Stored) (are : AreOpeningsOf first shape depth games stored) → game.tree.shape ≡ shape
+    → (positions : List Position) → ArePositions game.tree positions → (new last : List Stored) (frames : List Frame) → IsPastFrom depth game.tree (length frames) → (to : IsGoneTo depth number game.tree positions (length frames) are.entries are.nexts new frames)
+    → AreNextsGone depth game.tree positions (length frames) (are.entries ++ to.more) are.nexts last frames → AreOpeningsOf first shape depth (games ++ game ∷ []) last
+game-added shape depth number game is_tree first games count few stored are on positions at new last frames past to gone =
+    openings-more shape depth number game is_tree first games count few stored are to.more gone.more (AreOnBoard.on_board on (record {
+      positions = positions;
+      are_positions = at;
+      are_entries = entries-end depth game.tree is_tree positions (length frames) past number to.more to.are_entries;
+      are_nexts = nexts-end depth game.tree is_tree positions (length frames) past gone.more gone.are_nexts;
+    })) last (subst (λ (s : Shape). AreStored s (are.entries ++ to.more) (are.nexts ++ gone.more) last) on gone.are_stored)

@@ -1,5 +1,5 @@
 // The openings of games, one game after another.
-ghost use Rattle.std.specs.Prelude.{◌≡◌, ◌<◌, ◌+◌, ◌++◌, ◌∷◌, [], ℕ, List, Some, IfOk, OnOk, length, slice_index_or};
+ghost use Rattle.std.specs.Prelude.{◌≡◌, ◌<◌, ◌≤◌, ◌+◌, ◌++◌, ◌∷◌, ◌↔◌, [], ℕ, List, Some, IfOk, IsTrue, OnOk, length, slice_index_or};
 ghost use Rattle.kb_geometry.specs.Capture.{Position};
 ghost use Rattle.game_tree.specs.Position.{ArePositions};
 ghost use Rattle.game_tree.specs.Tree as trees;
@@ -25,7 +25,7 @@ use crate::within::{end_within, is_entry, next_at};
 use capture_board::NodeDeltas;
 use game_tree::{GameTree, Move};
 use indexmap::IndexMap;
-use kb_geometry::NoMemory;
+use kb_geometry::{NoMemory, Shape};
 use segment_store::FinishedGame;
 use std::alloc::Global;
 
@@ -92,7 +92,8 @@ impl OpeningsOfGames {
             AreOpeningsOf first self.old.asked.shape self.old.asked.depth (games ++ game.now ∷ [])
             self.new.openings.entries) }
     {
-        if game.tree().shape() != self.asked.shape {
+        let _count = game.tree().node_count();
+        if !is_on(game, self.asked.shape) {
             return Ok(());
         }
         self.add_entries(alloc, number, game)?;
@@ -157,7 +158,7 @@ impl OpeningsOfGames {
             self.old.openings.entries self.old.frames.items }
         ensures asked { self.new.asked ≡ self.old.asked }
         ensures walker { self.new.walker ≡ self.old.walker }
-        ensures frames { self.new.frames ≡ self.old.frames }
+        ensures frames { self.new.frames.items ≡ self.old.frames.items }
         ensures gone { IfOk result (λ frame. (positions : List Position) →
             ArePositions tree.now positions → (es : List Entry) (ns : List NextAt) →
             IsGoneTo self.old.asked.depth entry.game tree.now positions
@@ -195,6 +196,7 @@ impl OpeningsOfGames {
 
     // Adds the next moves of a game of which the frames are known.
     fn add_nexts(&mut self, game: &FinishedGame) -> Result<(), NoMemory>
+        requires few { length self.old.frames.items ≤ 65536 }
         requires so_far { (positions : List Position) × (es : List Entry) × (ns : List NextAt)
             × ArePositions game.now.tree positions
             × AreNextsGone self.old.asked.depth game.now.tree positions 0 es ns
@@ -209,7 +211,6 @@ impl OpeningsOfGames {
             (length self.old.frames.items) es ns self.new.openings.entries
             self.old.frames.items) }
     {
-        let _count = game.tree().node_count();
         for n in 0..self.frames.len() {
             self.add_next(game, n as u32)?;
         }
@@ -226,7 +227,7 @@ impl OpeningsOfGames {
             self.old.openings.entries self.old.frames.items }
         ensures asked { self.new.asked ≡ self.old.asked }
         ensures walker { self.new.walker ≡ self.old.walker }
-        ensures frames { self.new.frames ≡ self.old.frames }
+        ensures frames { self.new.frames.items ≡ self.old.frames.items }
         ensures gone { OnOk result ((positions : List Position) →
             ArePositions game.now.tree positions → (es : List Entry) (ns : List NextAt) →
             AreNextsGone self.old.asked.depth game.now.tree positions n es ns
@@ -248,4 +249,11 @@ impl OpeningsOfGames {
         add_next(&mut self.openings, frame.opening, turned, game.outcome())?;
         Ok(())
     }
+}
+
+// Whether the board of a game has this shape.
+fn is_on(game: &FinishedGame, shape: Shape) -> bool
+    ensures { IsTrue result ↔ (game.now.tree.shape ≡ shape) }
+{
+    game.tree().shape() == shape
 }

@@ -81,7 +81,7 @@ loop-node-preserved c =
       gone = λ positions are es ns ready.
           let so_far = subst (λ (a : Asked). IsGoneTo a.depth c.args.number tree positions n es ns c.loop-node.self.openings.entries c.loop-node.self.frames.items) (sym c.loop-node.invariant.asked) (c.loop-node.invariant.gone positions are es ns ready) in
           subst (λ (fs : List Frame). IsGoneTo c.args.self.now.asked.depth c.args.number tree positions (n + 1) es ns c.frame_here.new.self.openings.entries fs)
-          (sym (c.in_ok-push.ensures.items ∙ ap (λ (fs : List Frame). fs ++ c.in_ok-frame.frame ∷ []) (ap (λ v. v.items) c.frame_here.ensures.frames)))
+          (sym (c.in_ok-push.ensures.items ∙ ap (λ (fs : List Frame). fs ++ c.in_ok-frame.frame ∷ []) c.frame_here.ensures.frames))
           (subst (λ (a : Asked). IsGoneTo a.depth c.args.number tree positions (n + 1) es ns c.frame_here.new.self.openings.entries (c.loop-node.self.frames.items ++ c.in_ok-frame.frame ∷ [])) c.loop-node.invariant.asked
           (c.in_ok-frame.ensures.gone positions are es ns so_far));
     }
