@@ -162,12 +162,12 @@ module _ (depth number : ℕ) (game : tree.Tree) (is_tree : tree.IsTree game) (c
         (subst (λ (p : Position). AreImages walk.shape p turned.images) (ap (deltas.position_where changes) at_node ∙ here)
         (subst (AreImages walk.shape (deltas.position_where changes walk.here)) (sym same_images) stands.are_images))
 
+    ready : AreCells (point_count turned.shape) words → IsReadyForEntry (point_count game.shape) words stored
+    ready cells = record { keys = to.are_stored.keys; key = subst (λ (s : Shape). AreCells (point_count s) words) board cells; room = gone-room }
+
     -- an entry can be added
     pub entry-ready : AreCells (point_count turned.shape) words → (points : ℕ) × IsReadyForEntry points words stored
-    entry-ready cells = (
-      point_count game.shape,
-      record { keys = to.are_stored.keys; key = subst (λ (s : Shape). AreCells (point_count s) words) board cells; room = gone-room },
-    )
+    entry-ready cells = (point_count game.shape, ready cells)
 
     -- and with it the openings have grown
     pub gone-at : IsChangedWithin depth game changes n → AreCells (point_count turned.shape) words → (least : LeastImages) → AreLeastOf (symmetries_of turned.shape) turned.images least → cells_of (point_count turned.shape) words ≡ image_in turned.images least.first
@@ -177,8 +177,7 @@ module _ (depth number : ℕ) (game : tree.Tree) (is_tree : tree.IsTree game) (c
         → IsGoneTo depth number game positions (n + 1) es ns new (frames ++ record { opening = opening; symmetries = least.all } ∷ [])
     gone-at is cells least of_least value outcome ended new opening added =
         let told = least-words game.shape (position_in positions n) turned least words board images of_least value in
-        let ready = entry-ready cells in
-        let grown = added ready.0 ready.1 in
+        let grown = added (point_count game.shape) (ready cells) in
         gone-entry is words outcome new (record { opening = opening; symmetries = least.all }) ended told.0 told.1 grown.0 grown.1 grown.2 grown.3
 
 -- all nodes that are gone through
@@ -225,8 +224,9 @@ module _ (depth : ℕ) (game : tree.Tree) (positions : List Position) (n : ℕ) 
         (omega (arith, length-append ns to.more, nexts-few depth 0 game is_tree positions are n to.more to.are_nexts, lt, to.past.in_game, is_tree.most, to.nexts_fit))
 
     -- the frame of a parent
-    frame-above : (m : ℕ) → tree.parent_of game n ≡ Some m → tree.move_number_of game m ≤ depth → (d : Frame) → IsFrameOf game.shape (position_in positions m) stored (get_or frames m d)
-    frame-above m up within d = to.are_frames.each m d (omega (arith, lt, parent-lt is_tree.parents n m up)) within
+    frame-above : (m : ℕ) → tree.parent_of game n ≡ Some m → tree.move_number_of game m ≤ depth → (frame : Frame) → frame ≡ get_or frames m frame → IsFrameOf game.shape (position_in positions m) stored frame
+    frame-above m up within frame at =
+        subst (IsFrameOf game.shape (position_in positions m) stored) (sym at) (to.are_frames.each m frame (omega (arith, lt, parent-lt is_tree.parents n m up)) within)
 
     nexts-one : (next : NextAt) → IsNextOf depth game positions n next → (new : List Stored) → AreKeys (point_count game.shape) new → groups_shown (point_count game.shape) new ≡ with_next (groups_shown (point_count game.shape) stored) next → AreKeptIn stored new → AreNextsGone depth game positions (n + 1) es ns new frames
     nexts-one next is new keys added kept =
@@ -244,29 +244,24 @@ module _ (depth : ℕ) (game : tree.Tree) (positions : List Position) (n : ℕ) 
           nexts_fit = to.nexts_fit;
         }
 
-    module _ (m : ℕ) (played : Move) (next : IsNextAt depth game n m played) (d : Frame) where
-      abbrev frame : Frame
-      frame = get_or frames m d
-
+    module _ (m : ℕ) (played : Move) (next : IsNextAt depth game n m played) (frame : Frame) (at : frame ≡ get_or frames m frame) where
       above : IsFrameOf game.shape (position_in positions m) stored frame
-      above = frame-above m next.is_parent next.within d
+      above = frame-above m next.is_parent next.within frame at
 
       -- the point of the move can be turned
       pub next-bringing : (position : Position) × (canonical : Position) × AreBringing game.shape position canonical frame.symmetries
       next-bringing = (position_in positions m, cells_of (point_count game.shape) above.words, above.are_bringing)
 
+      ready_words : IsReadyForEntry (point_count game.shape) above.words stored
+      ready_words = record {
+        keys = to.are_stored.keys;
+        key = key-cells (point_count game.shape) stored frame.opening above.words to.are_stored.keys above.is_key;
+        room = nexts-room;
+      }
+
       -- the move can be added
       pub next-ready : (points : ℕ) × (words : List ℕ) × IsReadyForEntry points words stored × IsKeyAt stored frame.opening words
-      next-ready = (
-        point_count game.shape,
-        above.words,
-        record {
-          keys = to.are_stored.keys;
-          key = key-cells (point_count game.shape) stored frame.opening above.words to.are_stored.keys above.is_key;
-          room = nexts-room;
-        },
-        above.is_key,
-      )
+      next-ready = (point_count game.shape, above.words, ready_words, above.is_key)
 
       -- and with it the openings have grown
       pub nexts-at : (place : Option Point) → ((position canonical : Position) → AreBringing game.shape position canonical frame.symmetries → IsPlaceInFrame game.shape position canonical played.point place)
@@ -275,8 +270,7 @@ module _ (depth : ℕ) (game : tree.Tree) (positions : List Position) (n : ℕ) 
           → AreKeys points new × (groups_shown points new ≡ with_next (groups_shown points stored) (next_shown points words (record { colour = played.colour; point = place }) outcome)) × AreKeptIn stored new)
           → AreNextsGone depth game positions (n + 1) es ns new frames
       nexts-at place placed outcome ended new added =
-          let ready = next-ready in
-          let grown = added ready.0 ready.1 ready.2 ready.3 in
+          let grown = added (point_count game.shape) above.words ready_words above.is_key in
           nexts-one (next_shown (point_count game.shape) above.words (record { colour = played.colour; point = place }) outcome) (record {
             parent = m;
             played = played;

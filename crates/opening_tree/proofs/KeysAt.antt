@@ -60,8 +60,8 @@ module _ (words : List ℕ) where
 
   module _ (eq : Key → Key → Bool) (is_eq : (a b : Key) → eq a b ≡ pointwise nat_eq a.items b.items) (key : Key) (is : key.items ≡ words) (new : OpeningSoFar) where
     inserted-more : (x : Stored) (xs : List Stored) → test x.0 ≡ false → x ∷ insert_entry eq xs key new ≡ insert_entry eq (x ∷ xs) key new
-    inserted-more x xs no =
-        let apart : eq key x.0 ≡ false = is_eq key x.0 ∙ ap (λ (ws : List ℕ). pointwise nat_eq ws x.0.items) is ∙ no in
+    inserted-more x xs off =
+        let apart : eq key x.0 ≡ false = is_eq key x.0 ∙ ap (λ (ws : List ℕ). pointwise nat_eq ws x.0.items) is ∙ off in
         sym (ap (λ b. cond b ((x.0, new) ∷ xs) (x ∷ insert_entry eq xs key new)) apart)
 
     -- a new key stands at the end

@@ -1,5 +1,5 @@
 // The openings of games, one game after another.
-ghost use Rattle.std.specs.Prelude.{◌≡◌, ◌<◌, ◌≤◌, ◌+◌, ◌++◌, ◌∷◌, ◌↔◌, [], ℕ, List, Some, IfOk, IsTrue, OnOk, length, slice_index_or};
+ghost use Rattle.std.specs.Prelude.{◌≡◌, ◌<◌, ◌+◌, ◌++◌, ◌∷◌, ◌↔◌, [], ℕ, List, Some, IfOk, IsTrue, OnOk, length, slice_index_or};
 ghost use Rattle.kb_geometry.specs.Capture.{Position};
 ghost use Rattle.game_tree.specs.Position.{ArePositions};
 ghost use Rattle.game_tree.specs.Tree as trees;
@@ -89,7 +89,7 @@ impl OpeningsOfGames {
             first + length games ≡ number →
             AreOpeningsOf first self.old.asked.shape self.old.asked.depth games
             self.old.openings.entries →
-            AreOpeningsOf first self.old.asked.shape self.old.asked.depth (games ++ game.now ∷ [])
+            AreOpeningsOf first self.new.asked.shape self.new.asked.depth (games ++ game.now ∷ [])
             self.new.openings.entries) }
     {
         let _count = game.tree().node_count();
@@ -158,7 +158,7 @@ impl OpeningsOfGames {
             self.old.openings.entries self.old.frames.items }
         ensures asked { self.new.asked ≡ self.old.asked }
         ensures walker { self.new.walker ≡ self.old.walker }
-        ensures frames { self.new.frames.items ≡ self.old.frames.items }
+        ensures frames { self.new.frames ≡ self.old.frames }
         ensures gone { IfOk result (λ frame. (positions : List Position) →
             ArePositions tree.now positions → (es : List Entry) (ns : List NextAt) →
             IsGoneTo self.old.asked.depth entry.game tree.now positions
@@ -196,7 +196,6 @@ impl OpeningsOfGames {
 
     // Adds the next moves of a game of which the frames are known.
     fn add_nexts(&mut self, game: &FinishedGame) -> Result<(), NoMemory>
-        requires few { length self.old.frames.items ≤ 65536 }
         requires so_far { (positions : List Position) × (es : List Entry) × (ns : List NextAt)
             × ArePositions game.now.tree positions
             × AreNextsGone self.old.asked.depth game.now.tree positions 0 es ns
@@ -211,6 +210,7 @@ impl OpeningsOfGames {
             (length self.old.frames.items) es ns self.new.openings.entries
             self.old.frames.items) }
     {
+        let _count = game.tree().node_count();
         for n in 0..self.frames.len() {
             self.add_next(game, n as u32)?;
         }
@@ -227,7 +227,7 @@ impl OpeningsOfGames {
             self.old.openings.entries self.old.frames.items }
         ensures asked { self.new.asked ≡ self.old.asked }
         ensures walker { self.new.walker ≡ self.old.walker }
-        ensures frames { self.new.frames.items ≡ self.old.frames.items }
+        ensures frames { self.new.frames ≡ self.old.frames }
         ensures gone { OnOk result ((positions : List Position) →
             ArePositions game.now.tree positions → (es : List Entry) (ns : List NextAt) →
             AreNextsGone self.old.asked.depth game.now.tree positions n es ns

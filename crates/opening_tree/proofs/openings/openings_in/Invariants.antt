@@ -4,7 +4,7 @@ use Rattle.opening_tree.proofs.openings.openings_in.Given as goal
 
 abbrev pub invariant-loop-at : goal.invariant-loop-at
 invariant-loop-at l = record {
-  kept : AreOpeningsOf l.first l.asked.shape l.asked.depth (map (λ g. g.now) (take l.at l.games)) l.openings.openings.entries;
+  kept : AreOpeningsOf l.first l.openings.asked.shape l.openings.asked.depth (map (λ g. g.now) (take l.at l.games)) l.openings.openings.entries;
   asked : l.openings.asked ≡ l.asked;
   board : l.openings.walker.shape ≡ l.openings.asked.shape;
 }

@@ -10,7 +10,7 @@ abbrev pub invariant-loop-n : goal.invariant-loop-n
 invariant-loop-n l = record {
   asked : l.self.asked ≡ l.fn.self.asked;
   walker : l.self.walker ≡ l.fn.self.walker;
-  frames : l.self.frames.items ≡ l.fn.self.frames.items;
+  frames : l.self.frames ≡ l.fn.self.frames;
   gone : (positions : List Position) → ArePositions l.game.tree positions → (es : List Entry) (ns : List NextAt) →
       AreNextsGone l.fn.self.asked.depth l.game.tree positions 0 es ns l.fn.self.openings.entries l.fn.self.frames.items →
       AreNextsGone l.fn.self.asked.depth l.game.tree positions l.n es ns l.self.openings.entries l.fn.self.frames.items;
