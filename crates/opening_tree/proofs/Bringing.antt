@@ -1,5 +1,5 @@
 -- Which symmetries bring a position to its canonical position, by the least of its images.
-use Rattle.std.proofs.Common.{◌≡◌, ℕ, ◌<◌, List, length, sym, ap, ◌∙◌, subst, arith}
+use Rattle.std.proofs.Common.{◌≡◌, ℕ, List, sym, ap, ◌∙◌, subst, arith}
 use Rattle.kb_geometry.specs.declared.shape.Shape.{Shape}
 use Rattle.kb_geometry.specs.Board.{point_count}
 use Rattle.kb_geometry.specs.Capture.{Position}

@@ -1,10 +1,9 @@
 -- What is found at the nodes of a game: entries and next moves, one node after another.
 use Prim.Native.Nat.{zero}
-use Rattle.std.proofs.Common.{◌≡◌, ◌≢◌, ℕ, ◌+◌, ◌-◌, ◌<◌, ◌≤◌, List, [], ◌∷◌, ◌++◌, get_or, Option, Some, None, suc, refl, sym, ap, ◌∙◌, subst, arith}
+use Rattle.std.proofs.Common.{◌≡◌, ◌≢◌, ℕ, ◌+◌, ◌-◌, ◌<◌, ◌≤◌, List, [], ◌∷◌, ◌++◌, Option, Some, None, suc, refl, sym, ap, ◌∙◌, subst, arith}
 use Rattle.std.specs.Prelude.{IfSome}
 use Rattle.kb_geometry.specs.declared.stone.Change.{Change}
 use Rattle.kb_geometry.specs.declared.stone.Outcome.{Outcome}
-use Rattle.kb_geometry.specs.declared.shape.Point.{Point}
 use Rattle.kb_geometry.specs.Capture.{Position}
 use Rattle.node_paths.proofs.Ancestors.{parent-lt}
 use Rattle.game_tree.specs.declared.node.Move.{Move}
@@ -16,10 +15,9 @@ use Rattle.capture_board.specs.Deltas as deltas
 use Rattle.capture_board.proofs.DeltaPaths.{position_at-step}
 use Rattle.capture_board.proofs.NetChanges.{LeadFrom-none, LeadFrom-unique}
 use Rattle.node_position.specs.Games.{AreNodeChanges}
-use Rattle.opening_tree.specs.Canonical.{IsCanonicalPosition}
 use Rattle.opening_tree.specs.Entries.{AreEntriesTo, Entry, IsEntryAt, position_in}
 use Rattle.opening_tree.specs.GameFrames.{IsChangedWithin, IsNextOf, IsPastAt, IsPastFrom}
-use Rattle.opening_tree.specs.NextMoves.{AreNextsTo, IsNextAt, IsPlaceInFrame, NextAt}
+use Rattle.opening_tree.specs.NextMoves.{AreNextsTo, IsNextAt, NextAt}
 use Rattle.opening_tree.proofs.FramesOfGames.{move_number-above, position-there}
 
 suc_is : (n : ℕ) → suc n ≡ n + 1
@@ -126,15 +124,3 @@ module _ (depth : ℕ) (game : tree.Tree) (positions : List Position) (n : ℕ) 
       ap (λ (o : Outcome). record { canonical = next.canonical; played = next.played; outcome = o }) is.outcome in
       subst (λ k. AreNextsTo depth game positions k more) (suc_is n)
       (subst (AreNextsTo depth game positions (suc n)) (sym (pushed ∙ ap (λ e. nexts ++ e ∷ []) last)) (AreNextsTo.next is.parent is.played next.canonical next.played to is.is_next is.is_canonical is.in_frame))
-
-  pub no_parent : None ≡ tree.parent_of game n → (parent : ℕ) (played : Move) → ¬ IsNextAt depth game n parent played
-  no_parent none parent played is = let bad : None ≡ Some parent = none ∙ is.is_parent in absurd cc
-
-  pub no_play : None ≡ (tree.node_at game n).played → (parent : ℕ) (played : Move) → ¬ IsNextAt depth game n parent played
-  no_play none parent played is = let bad : None ≡ Some played = none ∙ is.plays in absurd cc
-
-  pub too_deep : (m : ℕ) → Some m ≡ tree.parent_of game n → depth < tree.move_number_of game m → (parent : ℕ) (played : Move) → ¬ IsNextAt depth game n parent played
-  too_deep m up deep parent played is =
-      let e : Some m ≡ Some parent = up ∙ is.is_parent in
-      let same : m ≡ parent = cc in
-      omega (arith, deep, is.within, ap (tree.move_number_of game) same)

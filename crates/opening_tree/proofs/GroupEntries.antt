@@ -85,14 +85,6 @@ module _ (points : ℕ) (words : List ℕ) (are : AreCells points words) where
         ap (λ gs. group_shown points x ∷ gs) (changed_at xs at old new (All-tail (λ (y : Stored). AreCells points y.0.items) x xs keys) first.1 is made)
         ∙ sym (pass (group_shown points x) (groups_shown points xs) e)
 
-    -- of one that isn't there
-    unchanged : (es : List Stored) → AreKeys points es → IsAbsent test es → W [] ≡ [] → W (groups_shown points es) ≡ groups_shown points es
-    unchanged [] keys absent end = end
-    unchanged (x ∷ xs) keys absent end =
-        let e : is_same_position (cells_of points words) (cells_of points x.0.items) ≡ false = sym (same_key x (All-head (λ (y : Stored). AreCells points y.0.items) x xs keys)) ∙ absent.0 in
-        pass (group_shown points x) (groups_shown points xs) e
-        ∙ ap (λ gs. group_shown points x ∷ gs) (unchanged xs (All-tail (λ (y : Stored). AreCells points y.0.items) x xs keys) absent.1 end)
-
   -- ---- an entry
 
   module _ (e : Entry) (canonical : cells_of points words ≡ e.canonical) where
@@ -135,9 +127,6 @@ module _ (points : ℕ) (words : List ℕ) (are : AreCells points words) where
 
     pub next_counted : (es : List Stored) (at : ℕ) (old new : OpeningSoFar) → AreKeys points es → IsFirst test es at → slice_get (values_of es) at ≡ Some old → opening_shown new ≡ with_rows (opening_shown old) (with_row old.rows.items n.played n.outcome) → groups_shown points (set_value_at es at new) ≡ with_next (groups_shown points es) n
     next_counted = changed_at (λ gs. with_next gs n) (λ o. with_rows o (with_row o.nexts n.played n.outcome)) own_next pass_next
-
-    pub next_nowhere : (es : List Stored) → AreKeys points es → IsAbsent test es → groups_shown points es ≡ with_next (groups_shown points es) n
-    next_nowhere es keys absent = sym (unchanged (λ gs. with_next gs n) (λ o. with_rows o (with_row o.nexts n.played n.outcome)) own_next pass_next es keys absent refl)
 
   -- ---- an opening of more games
 

@@ -1,5 +1,5 @@
 -- The least of the first images and those that are like it, with one image more.
-use Rattle.std.proofs.Common.{◌≡◌, ◌≢◌, ℕ, ◌+◌, ◌*◌, ◌%◌, ◌^◌, ◌<◌, ◌≤◌, inl, inr, List, refl, sym, ap, ◌∙◌, subst, arith, bit_or}
+use Rattle.std.proofs.Common.{◌≡◌, ◌≢◌, ℕ, ◌+◌, ◌*◌, ◌%◌, ◌^◌, ◌<◌, inl, inr, List, sym, ap, ◌∙◌, subst, arith, bit_or}
 use Rattle.std.proofs.Math.Nat.{zero-div}
 use Rattle.std.proofs.lemmas.Bool.{cases_eq}
 use Rattle.std.proofs.lemmas.Nat.Bits.{bit_at_or, bit_at_set_other, bit_at_set_same}
@@ -10,7 +10,7 @@ use Rattle.opening_tree.specs.Canonical.{IsBefore}
 use Rattle.opening_tree.specs.Frames.{image_in}
 use Rattle.opening_tree.specs.Least.{AreLeastOf}
 use Rattle.opening_tree.proofs.LeastImages.{none_below-kept, none_below-moved}
-use Rattle.opening_tree.proofs.PositionOrder.{IsBefore-trans, not_before_itself}
+use Rattle.opening_tree.proofs.PositionOrder.{not_before_itself}
 
 -- one bit alone
 abbrev pub one_bit : ℕ → ℕ
@@ -29,22 +29,6 @@ other_bit : (k i : ℕ) → k < 8 → i ≢ k → bit_at (one_bit k) i ≡ 0
 other_bit k i lt ne = alone (one_bit k) i ∙ bit_at_set_other w8 0 k lt i ne ∙ no_bit i
 
 module _ (images : List Position) (k : ℕ) (below : k < 8) (least : LeastImages) (are : AreLeastOf k images least) where
-  -- the image comes behind
-  pub least-kept : IsBefore (image_in images least.first) (image_in images k) → AreLeastOf (k + 1) images least
-  least-kept before =
-      let none : ¬ IsBefore (image_in images k) (image_in images least.first) = λ back. not_before_itself (image_in images k) (IsBefore-trans (image_in images k) (image_in images least.first) (image_in images k) back before) in
-      record {
-        within = omega (arith, are.within);
-        none_before = none_below-kept images least.first k are.none_before none;
-        alike = λ n lt. elim (cases_eq n k) [
-          | inl e ↦ (
-            λ one. absurd (omega (arith, one, are.rest n (omega (arith, e)))),
-            λ same. absurd (not_before_itself (image_in images k) (subst (λ (p : Position). IsBefore p (image_in images k)) (sym same ∙ ap (image_in images) e) before)),
-          )
-          | inr ne ↦ are.alike n (omega (arith, lt, ne))
-        ];
-        rest = λ n le. are.rest n (omega (arith, le));
-      }
 
   -- it is like the least
   pub least-alike : image_in images k ≡ image_in images least.first → AreLeastOf (k + 1) images (record { first = least.first; all = bit_or least.all (one_bit k) })

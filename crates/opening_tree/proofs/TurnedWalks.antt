@@ -6,7 +6,7 @@ use Rattle.node_paths.proofs.Ancestors.{parent-lt}
 use Rattle.kb_geometry.specs.declared.shape.Shape.{Shape}
 use Rattle.kb_geometry.specs.declared.stone.Change.{Change}
 use Rattle.kb_geometry.specs.Board.{point_count}
-use Rattle.kb_geometry.specs.Capture.{Position, empty_board}
+use Rattle.kb_geometry.specs.Capture.{Position}
 use Rattle.capture_board.specs.Changes.{AreChangesOf, with_changes}
 use Rattle.capture_board.specs.Deltas.{AreDeltas, Deltas, changes_of, node_count, parent_of, position_where}
 use Rattle.capture_board.specs.StoredWalking.{with_old_cells}

@@ -1,9 +1,7 @@
 -- What the private functions that go through a game tell of its nodes.
-use Rattle.std.specs.Prelude.{◌≡◌, ◌≢◌, ℕ, ◌<◌, ◌≤◌, List, [], length, slice_index_or, IfSome, Some}
-use Rattle.kb_geometry.specs.declared.shape.Shape.{Shape}
+use Rattle.std.specs.Prelude.{◌≡◌, ◌≢◌, ℕ, ◌<◌, ◌≤◌, List, [], IfSome, Some}
 use Rattle.kb_geometry.specs.Capture.{Position}
 use Rattle.game_tree.specs.declared.node.Move.{Move}
-use Rattle.game_tree.specs.Position.{ArePositions}
 use Rattle.game_tree.specs.Result.{outcome_of}
 use Rattle.game_tree.specs.Tree as tree
 use Rattle.capture_board.specs.Deltas as deltas

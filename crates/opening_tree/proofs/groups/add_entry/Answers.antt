@@ -1,8 +1,8 @@
-use Rattle.std.proofs.Common.{◌≡◌, ◌∙◌, List, ap, length, refl, subst, sym}
+use Rattle.std.proofs.Common.{◌≡◌, ◌∙◌, ap, refl, subst, sym}
 use Rattle.indexmap.proofs.MapLemmas.{Found-position, Missing-position}
-use Rattle.opening_tree.specs.Groups.{IsGroupWithin, none_yet, with_one}
+use Rattle.opening_tree.specs.Groups.{IsGroupWithin, with_one}
 use Rattle.opening_tree.specs.Packing.{AreCells}
-use Rattle.opening_tree.specs.StoredGroups.{AreKeptIn, AreKeys, Stored, entry_shown, groups_shown, opening_shown}
+use Rattle.opening_tree.specs.StoredGroups.{AreKeptIn, AreKeys, entry_shown, groups_shown}
 use Rattle.opening_tree.proofs.GroupEntries.{entry_begun, entry_counted, keys_inserted, keys_set, said_at}
 use Rattle.opening_tree.proofs.KeysAt.{kept-inserted, kept-set, key-added, key-first}
 use Rattle.opening_tree.proofs.groups.add_entry.Goals as goal

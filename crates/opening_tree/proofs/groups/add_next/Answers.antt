@@ -1,4 +1,4 @@
-use Rattle.std.proofs.Common.{◌≡◌, ap, refl}
+use Rattle.std.proofs.Common.{ap, refl}
 use Rattle.opening_tree.specs.Groups.{IsGroupWithin, with_rows}
 use Rattle.opening_tree.specs.StoredGroups.{next_shown, opening_shown}
 use Rattle.opening_tree.proofs.GroupEntries.{keys_set, next_counted, said_at}

@@ -1,4 +1,4 @@
-use Rattle.std.proofs.Common.{◌≡◌, ◌<◌, ◌≤◌, ◌∙◌, ap, arith, refl, subst, sym}
+use Rattle.std.proofs.Common.{◌≡◌, ◌<◌, ◌≤◌, ◌∙◌, ap, refl, subst, sym}
 use Rattle.kb_geometry.specs.Symmetry.{IsAllowed}
 use Rattle.opening_tree.specs.Frames.{symmetries_of}
 use Rattle.opening_tree.specs.Turned.{TurnedState}
