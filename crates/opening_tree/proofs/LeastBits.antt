@@ -29,7 +29,6 @@ other_bit : (k i : ℕ) → k < 8 → i ≢ k → bit_at (one_bit k) i ≡ 0
 other_bit k i lt ne = alone (one_bit k) i ∙ bit_at_set_other w8 0 k lt i ne ∙ no_bit i
 
 module _ (images : List Position) (k : ℕ) (below : k < 8) (least : LeastImages) (are : AreLeastOf k images least) where
-
   -- it is like the least
   pub least-alike : image_in images k ≡ image_in images least.first → AreLeastOf (k + 1) images (record { first = least.first; all = bit_or least.all (one_bit k) })
   least-alike same =
