@@ -19,7 +19,7 @@ loop-at-init c =
 pub returns : goal.returns
 returns c =
     let games = c.args.games.now in
-    let all : length games ≤ c.loop-at.at = omega (arith, c.loop-at-test.false, c.len-at-end.ensures) in
+    let all : length games ≤ c.loop-at.at = omega (arith, c.loop-at-test.false) in
     subst (λ (stored : List Stored). AreOpeningsOf c.args.first c.args.asked.shape c.args.asked.depth (map (λ (g : Bor Game). g.now) games) stored) (sym c.into_openings.ensures)
     (subst (λ gs. AreOpeningsOf c.args.first c.args.asked.shape c.args.asked.depth (map (λ (g : Bor Game). g.now) gs) c.loop-at.openings.openings.entries) (take_all c.loop-at.at games all)
     (subst (λ (a : Asked). AreOpeningsOf c.args.first a.shape a.depth (map (λ (g : Bor Game). g.now) (take c.loop-at.at games)) c.loop-at.openings.openings.entries) c.loop-at.invariant.asked c.loop-at.invariant.kept))
