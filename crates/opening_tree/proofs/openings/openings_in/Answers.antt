@@ -1,5 +1,5 @@
-use Rattle.std.proofs.Common.{◌≤◌, List, [], Bor, ◌∙◌, ap, arith, length, map, subst, sym, take}
-use Rattle.std.proofs.lemmas.List.{take_all}
+use Rattle.std.proofs.Common.{◌≡◌, ◌<◌, ◌≤◌, ℕ, ◌+◌, List, [], ◌∷◌, ◌++◌, Bor, ◌∙◌, ap, arith, get_or, length, map, subst, sym, take}
+use Rattle.std.proofs.lemmas.List.{length-map, length-take-le, map-append, take_all, take_more}
 use Rattle.node_position.specs.Games.{Game}
 use Rattle.opening_tree.specs.declared.openings.Asked.{Asked}
 use Rattle.opening_tree.specs.StoredGames.{AreOpeningsOf}
@@ -23,3 +23,27 @@ returns c =
     subst (λ (stored : List Stored). AreOpeningsOf c.args.first c.args.asked.shape c.args.asked.depth (map (λ (g : Bor Game). g.now) games) stored) (sym c.into_openings.ensures)
     (subst (λ gs. AreOpeningsOf c.args.first c.args.asked.shape c.args.asked.depth (map (λ (g : Bor Game). g.now) gs) c.loop-at.openings.openings.entries) (take_all c.loop-at.at games all)
     (subst (λ (a : Asked). AreOpeningsOf c.args.first a.shape a.depth (map (λ (g : Bor Game). g.now) (take c.loop-at.at games)) c.loop-at.openings.openings.entries) c.loop-at.invariant.asked c.loop-at.invariant.kept))
+
+-- one game more
+one-more : {A : Type 0} (f : A → Game) (xs : List A) (at : ℕ) (x : A) → at < length xs → x ≡ get_or xs at x → map f (take at xs) ++ f x ∷ [] ≡ map f (take (at + 1) xs)
+one-more f xs at x lt is =
+    let last : ◌≡◌ {A = List Game} (f (get_or xs at x) ∷ []) (f x ∷ []) = ap (λ y. f y ∷ []) (sym is) in
+    sym (ap (map f) (take_more xs at x lt) ∙ map-append f (take at xs) (get_or xs at x ∷ []) ∙ ap (λ gs. map f (take at xs) ++ gs) last)
+
+before : {A : Type 0} (f : A → Game) (xs : List A) (at first : ℕ) → at < length xs → first + length (map f (take at xs)) ≡ first + at
+before f xs at first lt =
+    let low : at ≤ length xs = omega (arith, lt) in
+    ap (λ n. first + n) (length-map (take at xs) f ∙ length-take-le at xs low)
+
+pub loop-at-preserved : goal.loop-at-preserved
+loop-at-preserved c =
+    let games = c.args.games.now in
+    let at = c.loop-at.at in
+    let new = c.add_game.new.self in
+    record {
+      kept =
+          subst (λ (gs : List Game). AreOpeningsOf c.args.first new.asked.shape new.asked.depth gs new.openings.entries) (one-more (λ (g : Bor Game). g.now) games at c.index-games-at.result c.loop-at-test.true c.index-games-at.is)
+          (c.in_ok-add_game.ensures.added c.args.first (map (λ (g : Bor Game). g.now) (take at games)) (before (λ (g : Bor Game). g.now) games at c.args.first c.loop-at-test.true) c.loop-at.invariant.kept);
+      asked = c.add_game.ensures.asked ∙ c.loop-at.invariant.asked;
+      board = c.in_ok-add_game.ensures.board;
+    }
