@@ -1,10 +1,9 @@
 -- What is found at the nodes of a game: entries and next moves, one node after another.
 use Prim.Native.Nat.{zero}
-use Rattle.std.proofs.Common.{◌≡◌, ◌≢◌, ℕ, ◌+◌, ◌-◌, ◌<◌, ◌≤◌, List, [], ◌∷◌, ◌++◌, get_or, Option, Some, None, suc, refl, sym, ap, ◌∙◌, subst, arith}
+use Rattle.std.proofs.Common.{◌≡◌, ◌≢◌, ℕ, ◌+◌, ◌-◌, ◌<◌, ◌≤◌, List, [], ◌∷◌, ◌++◌, Option, Some, None, suc, refl, sym, ap, ◌∙◌, subst, arith}
 use Rattle.std.specs.Prelude.{IfSome}
 use Rattle.kb_geometry.specs.declared.stone.Change.{Change}
 use Rattle.kb_geometry.specs.declared.stone.Outcome.{Outcome}
-use Rattle.kb_geometry.specs.declared.shape.Point.{Point}
 use Rattle.kb_geometry.specs.Capture.{Position}
 use Rattle.node_paths.proofs.Ancestors.{parent-lt}
 use Rattle.game_tree.specs.declared.node.Move.{Move}
@@ -16,12 +15,9 @@ use Rattle.capture_board.specs.Deltas as deltas
 use Rattle.capture_board.proofs.DeltaPaths.{position_at-step}
 use Rattle.capture_board.proofs.NetChanges.{LeadFrom-none, LeadFrom-unique}
 use Rattle.node_position.specs.Games.{AreNodeChanges}
-use Rattle.opening_tree.specs.declared.frame.Frame.{Frame}
-use Rattle.opening_tree.specs.Canonical.{IsCanonicalPosition}
 use Rattle.opening_tree.specs.Entries.{AreEntriesTo, Entry, IsEntryAt, position_in}
-use Rattle.opening_tree.specs.Frames.{image_in}
-use Rattle.opening_tree.specs.GameFrames.{AreFrames, IsChangedWithin, IsFrameOf, IsNextOf, IsPastAt, IsPastFrom}
-use Rattle.opening_tree.specs.NextMoves.{AreNextsTo, IsNextAt, IsPlaceInFrame, NextAt}
+use Rattle.opening_tree.specs.GameFrames.{IsChangedWithin, IsNextOf, IsPastAt, IsPastFrom}
+use Rattle.opening_tree.specs.NextMoves.{AreNextsTo, IsNextAt, NextAt}
 use Rattle.opening_tree.proofs.FramesOfGames.{move_number-above, position-there}
 
 suc_is : (n : ℕ) → suc n ≡ n + 1
@@ -52,7 +48,8 @@ module _ (depth : ℕ) (game : tree.Tree) (is_tree : tree.IsTree game) (changes 
         none_from_same (deltas.position_where changes (deltas.parent_of changes n)) (deltas.changes_of changes n) (of.net.changes n (omega (arith, lt, of.lead.each_node)))
         (sym step ∙ same ∙ sym above)
 
-    same_there : deltas.changes_of changes n ≡ [] → position_in positions n ≡ position_in positions m
+    -- a node that changes nothing has its parent's position
+    pub same_there : deltas.changes_of changes n ≡ [] → position_in positions n ≡ position_in positions m
     same_there none = step ∙ ap (with_changes (deltas.position_where changes (deltas.parent_of changes n))) none ∙ above
 
   changed-differs : (o : Option ℕ) → tree.parent_of game n ≡ o → IfSome o (λ m. deltas.changes_of changes n ≢ []) → IfSome o (λ m. position_in positions n ≢ position_in positions m)
@@ -72,25 +69,10 @@ module _ (depth : ℕ) (game : tree.Tree) (is_tree : tree.IsTree game) (changes 
   pub no_entry : ¬ IsChangedWithin depth game changes n → ¬ IsEntryAt depth game positions n
   no_entry not is = not (is.within, subst (λ (o : Option ℕ). IfSome o (λ m. deltas.changes_of changes n ≢ [])) (sym same_parent) (differs-changed (tree.parent_of game n) refl is.changed))
 
-  -- the frame of the position here
-  pub frame_there : (frames : List Frame) (frame : Frame) → AreFrames depth game frames → tree.move_number_of game n ≤ depth → frame ≡ get_or frames n frame → IsFrameOf game.shape (position_in positions n) frame
-  frame_there frames frame framed within at = subst (IsFrameOf game.shape (position_in positions n)) (sym at) (framed.each positions are n frame lt within)
-
   -- ---- entries
 
   pub entries-skip : (number : ℕ) (entries : List Entry) → AreEntriesTo depth number game positions n entries → ¬ IsChangedWithin depth game changes n → AreEntriesTo depth number game positions (n + 1) entries
   entries-skip number entries to not = subst (λ k. AreEntriesTo depth number game positions k entries) (suc_is n) (AreEntriesTo.left_out to (no_entry not))
-
-  pub entries-more : (number : ℕ) (entries more : List Entry) (frames : List Frame) (frame : Frame) (canonical : Position) (outcome : Outcome) → AreFrames depth game frames → AreEntriesTo depth number game positions n entries → IsChangedWithin depth game changes n
-      → frame ≡ get_or frames n frame → canonical ≡ image_in frame.images.items frame.least → outcome ≡ outcome_of game.info.outcome_text
-      → more ≡ entries ++ record { game = number; node = n; canonical = canonical; outcome = outcome } ∷ [] → AreEntriesTo depth number game positions (n + 1) more
-  entries-more number entries more frames frame canonical outcome framed to is at can ended pushed =
-      let of_node : IsFrameOf game.shape (position_in positions n) frame = subst (IsFrameOf game.shape (position_in positions n)) (sym at) (framed.each positions are n frame lt is.0) in
-      let is_canonical : IsCanonicalPosition game.shape (position_in positions n) canonical = subst (IsCanonicalPosition game.shape (position_in positions n)) (sym can) of_node.is_canonical in
-      let last : ◌≡◌ {A = Entry} (record { game = number; node = n; canonical = canonical; outcome = outcome }) (record { game = number; node = n; canonical = canonical; outcome = outcome_of game.info.outcome_text }) =
-      ap (λ (o : Outcome). record { game = number; node = n; canonical = canonical; outcome = o }) ended in
-      subst (λ k. AreEntriesTo depth number game positions k more) (suc_is n)
-      (subst (AreEntriesTo depth number game positions (suc n)) (sym (pushed ∙ ap (λ e. entries ++ e ∷ []) last)) (AreEntriesTo.entry canonical to (is_entry is) is_canonical))
 
 -- ---- the nodes past the depth
 
@@ -142,34 +124,3 @@ module _ (depth : ℕ) (game : tree.Tree) (positions : List Position) (n : ℕ) 
       ap (λ (o : Outcome). record { canonical = next.canonical; played = next.played; outcome = o }) is.outcome in
       subst (λ k. AreNextsTo depth game positions k more) (suc_is n)
       (subst (AreNextsTo depth game positions (suc n)) (sym (pushed ∙ ap (λ e. nexts ++ e ∷ []) last)) (AreNextsTo.next is.parent is.played next.canonical next.played to is.is_next is.is_canonical is.in_frame))
-
-  pub is_next-made : (frames : List Frame) (frame : Frame) (parent : ℕ) (played : Move) (canonical : Position) (place : Option Point) (outcome : Outcome) → AreFrames depth game frames → ArePositions game positions → n < tree.node_count game → parent < n → Some parent ≡ tree.parent_of game n → Some played ≡ (tree.node_at game n).played
-      → tree.move_number_of game parent ≤ depth → frame ≡ get_or frames parent frame → canonical ≡ image_in frame.images.items frame.least
-      → ((position : Position) → IsFrameOf game.shape position frame → IsPlaceInFrame game.shape position (image_in frame.images.items frame.least) played.point place) → outcome ≡ outcome_of game.info.outcome_text
-      → IsNextOf depth game positions n (record { canonical = canonical; played = record { colour = played.colour; point = place }; outcome = outcome })
-  is_next-made frames frame parent played canonical place outcome framed are lt less up plays within at can placed ended =
-      let position = position_in positions parent in
-      let of_node : IsFrameOf game.shape (position_in positions parent) frame = subst (IsFrameOf game.shape (position_in positions parent)) (sym at) (framed.each positions are parent frame (omega (arith, lt, less)) within) in
-      record {
-        parent = parent;
-        played = played;
-        is_next = record { is_parent = sym up; within = within; plays = sym plays };
-        is_canonical = subst (IsCanonicalPosition game.shape position) (sym can) of_node.is_canonical;
-        in_frame = record {
-          same_colour = refl;
-          place = subst (λ (c : Position). IsPlaceInFrame game.shape position c played.point place) (sym can) (placed position of_node);
-        };
-        outcome = ended;
-      }
-
-  pub no_parent : None ≡ tree.parent_of game n → (parent : ℕ) (played : Move) → ¬ IsNextAt depth game n parent played
-  no_parent none parent played is = let bad : None ≡ Some parent = none ∙ is.is_parent in absurd cc
-
-  pub no_play : None ≡ (tree.node_at game n).played → (parent : ℕ) (played : Move) → ¬ IsNextAt depth game n parent played
-  no_play none parent played is = let bad : None ≡ Some played = none ∙ is.plays in absurd cc
-
-  pub too_deep : (m : ℕ) → Some m ≡ tree.parent_of game n → depth < tree.move_number_of game m → (parent : ℕ) (played : Move) → ¬ IsNextAt depth game n parent played
-  too_deep m up deep parent played is =
-      let e : Some m ≡ Some parent = up ∙ is.is_parent in
-      let same : m ≡ parent = cc in
-      omega (arith, deep, is.within, ap (tree.move_number_of game) same)

@@ -60,14 +60,14 @@ module _ (depth number : ℕ) (tree : Tree) (is_tree : IsTree tree) (positions :
       All-push (λ (e : Entry). length e.canonical ≡ point_count tree.shape) xs (entry_of n c) (entries-on n xs before) can.is_image.1.each_point
   entries-on _ _ (AreEntriesTo.left_out {n = n} {entries = xs} before not) = entries-on n xs before
 
-  entries-few : (n : ℕ) (es : List Entry) → entries_to n es → length es ≤ n
+  pub entries-few : (n : ℕ) (es : List Entry) → entries_to n es → length es ≤ n
   entries-few _ _ AreEntriesTo.nothing = omega arith
   entries-few _ _ (AreEntriesTo.entry {n = n} {entries = xs} c before is can) = omega (arith, length-append xs (entry_of n c ∷ []), entries-few n xs before)
   entries-few _ _ (AreEntriesTo.left_out {n = n} {entries = xs} before not) = omega (arith, entries-few n xs before)
 
   -- ---- next moves
 
-  place-on_board : (position canonical : Position) (o f : Option Point) → IfSome o (λ (q : Point). IsOnBoard tree.shape q) → IsPlaceInFrame tree.shape position canonical o f → IfSome f (λ (q : Point). IsOnBoard tree.shape q)
+  pub place-on_board : (position canonical : Position) (o f : Option Point) → IfSome o (λ (q : Point). IsOnBoard tree.shape q) → IsPlaceInFrame tree.shape position canonical o f → IfSome f (λ (q : Point). IsOnBoard tree.shape q)
   place-on_board position canonical None f on at = subst (λ (g : Option Point). IfSome g (λ (q : Point). IsOnBoard tree.shape q)) (sym at) tt
   place-on_board position canonical (Some p) f on at =
       subst (λ (g : Option Point). IfSome g (λ (q : Point). IsOnBoard tree.shape q)) (sym at.1) (frame-on_board tree.shape position canonical p at.0 on at.2)
@@ -85,7 +85,7 @@ module _ (depth number : ℕ) (tree : Tree) (is_tree : IsTree tree) (positions :
       (place-on_board (position_in positions parent) c played.point framed.point (played_on_board depth tree is_tree positions n played (omega (arith, most)) is.plays) in_frame.place)
   nexts-points _ _ most (AreNextsTo.left_out {n = n} {nexts = xs} before not) = nexts-points n xs (omega (arith, most)) before
 
-  nexts-few : (n : ℕ) (ns : List NextAt) → nexts_to n ns → length ns ≤ n
+  pub nexts-few : (n : ℕ) (ns : List NextAt) → nexts_to n ns → length ns ≤ n
   nexts-few _ _ AreNextsTo.nothing = omega arith
   nexts-few _ _ (AreNextsTo.next {n = n} {nexts = xs} parent played c framed before is can in_frame) = omega (arith, length-append xs (next_of c framed ∷ []), nexts-few n xs before)
   nexts-few _ _ (AreNextsTo.left_out {n = n} {nexts = xs} before not) = omega (arith, nexts-few n xs before)

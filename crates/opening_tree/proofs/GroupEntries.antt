@@ -55,13 +55,13 @@ module _ (points : ℕ) (xs ys : List ℕ) (are_xs : AreCells points xs) (are_ys
 -- ---- where a key stands
 
 -- the entry with this number is the first one whose key passes
-abbrev IsFirst : (Key → Bool) → List Stored → ℕ → Type 0
+abbrev pub IsFirst : (Key → Bool) → List Stored → ℕ → Type 0
 IsFirst test [] at = ⊥
 IsFirst test (e ∷ es) zero = test e.0 ≡ true
 IsFirst test (e ∷ es) (suc at) = (test e.0 ≡ false) × IsFirst test es at
 
 -- no key passes
-abbrev IsAbsent : (Key → Bool) → List Stored → Type 0
+abbrev pub IsAbsent : (Key → Bool) → List Stored → Type 0
 IsAbsent test es = AllByRecursion (λ key. test key ≡ false) (keys_of es)
 
 module _ (points : ℕ) (words : List ℕ) (are : AreCells points words) where
@@ -84,14 +84,6 @@ module _ (points : ℕ) (words : List ℕ) (are : AreCells points words) where
         let e : is_same_position (cells_of points words) (cells_of points x.0.items) ≡ false = sym (same_key x (All-head (λ (y : Stored). AreCells points y.0.items) x xs keys)) ∙ first.0 in
         ap (λ gs. group_shown points x ∷ gs) (changed_at xs at old new (All-tail (λ (y : Stored). AreCells points y.0.items) x xs keys) first.1 is made)
         ∙ sym (pass (group_shown points x) (groups_shown points xs) e)
-
-    -- of one that isn't there
-    unchanged : (es : List Stored) → AreKeys points es → IsAbsent test es → W [] ≡ [] → W (groups_shown points es) ≡ groups_shown points es
-    unchanged [] keys absent end = end
-    unchanged (x ∷ xs) keys absent end =
-        let e : is_same_position (cells_of points words) (cells_of points x.0.items) ≡ false = sym (same_key x (All-head (λ (y : Stored). AreCells points y.0.items) x xs keys)) ∙ absent.0 in
-        pass (group_shown points x) (groups_shown points xs) e
-        ∙ ap (λ gs. group_shown points x ∷ gs) (unchanged xs (All-tail (λ (y : Stored). AreCells points y.0.items) x xs keys) absent.1 end)
 
   -- ---- an entry
 
@@ -135,9 +127,6 @@ module _ (points : ℕ) (words : List ℕ) (are : AreCells points words) where
 
     pub next_counted : (es : List Stored) (at : ℕ) (old new : OpeningSoFar) → AreKeys points es → IsFirst test es at → slice_get (values_of es) at ≡ Some old → opening_shown new ≡ with_rows (opening_shown old) (with_row old.rows.items n.played n.outcome) → groups_shown points (set_value_at es at new) ≡ with_next (groups_shown points es) n
     next_counted = changed_at (λ gs. with_next gs n) (λ o. with_rows o (with_row o.nexts n.played n.outcome)) own_next pass_next
-
-    pub next_nowhere : (es : List Stored) → AreKeys points es → IsAbsent test es → groups_shown points es ≡ with_next (groups_shown points es) n
-    next_nowhere es keys absent = sym (unchanged (λ gs. with_next gs n) (λ o. with_rows o (with_row o.nexts n.played n.outcome)) own_next pass_next es keys absent refl)
 
   -- ---- an opening of more games
 

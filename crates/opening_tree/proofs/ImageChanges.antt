@@ -1,22 +1,17 @@
--- The images of a position with one more cell put, with changes, and of the empty board. Which symmetries a board allows.
-use Rattle.std.proofs.Common.{◌≡◌, ◌≢◌, ℕ, ◌+◌, ◌<◌, ◌≤◌, inl, inr, cond, List, [], ◌∷◌, length, get_or, set, take, sym, ap, ◌∙◌, subst, arith}
+-- The images of a position with one more cell put, and of the empty board. Which symmetries a board allows.
+use Rattle.std.proofs.Common.{◌≡◌, ◌≢◌, ℕ, ◌<◌, inl, inr, cond, length, set, sym, ap, ◌∙◌, subst, arith}
 use Rattle.std.proofs.lemmas.Bool.{cases_eq, cases_lt}
 use Rattle.std.proofs.lemmas.Bool.Decides.{eqb_tells}
-use Rattle.std.proofs.lemmas.List.{get_or-replicate, get_or-set_other, get_or-set_same, length-replicate, length-set, take_all, take_more}
+use Rattle.std.proofs.lemmas.List.{get_or-replicate, get_or-set_other, get_or-set_same, length-replicate, length-set}
 use Rattle.kb_geometry.specs.declared.shape.Point.{Point}
 use Rattle.kb_geometry.specs.declared.shape.Shape.{Shape}
 use Rattle.kb_geometry.specs.declared.stone.Cell.{Cell}
 use Rattle.kb_geometry.specs.declared.stone.Cell.TheVariants as cell
-use Rattle.kb_geometry.specs.declared.stone.Change.{Change}
 use Rattle.kb_geometry.specs.Board.{IsOnBoard, cols_of, number_of, point_count, rows_of}
 use Rattle.kb_geometry.specs.Capture.{Position, cell_at, empty_board}
 use Rattle.kb_geometry.specs.Symmetry.{IsAllowed, inverse_number, moved}
 use Rattle.kb_geometry.proofs.Shapes.{number_of-lt-count}
 use Rattle.kb_geometry.proofs.Symmetries.{moved-inverse, moved-on_board}
-use Rattle.capture_board.specs.Changes.{AreChangesOf, with_changes}
-use Rattle.capture_board.specs.Deltas.{AreDeltas, Deltas, changes_of, parent_of, position_at, position_where}
-use Rattle.capture_board.proofs.DeltaPaths.{position_at-step}
-use Rattle.capture_board.proofs.MadeChanges.{length-with_changes, with_changes-append}
 use Rattle.opening_tree.specs.Canonical.{Brings}
 use Rattle.opening_tree.specs.Frames.{symmetries_of}
 use Rattle.opening_tree.proofs.PositionImages.{same_point_from_number}
@@ -44,24 +39,7 @@ allowed-symmetry shape n lt allowed =
       ]
     ]
 
-pub symmetries-square : (shape : Shape) → cols_of shape ≡ rows_of shape → 8 ≡ symmetries_of shape
-symmetries-square shape is =
-    elim (eqb_tells (cols_of shape) (rows_of shape)) [
-      | inl (e, _) ↦ ap (λ b. cond b 8 4) (sym e)
-      | inr (e, ne) ↦ absurd (ne is)
-    ]
-
-pub symmetries-other : (shape : Shape) → cols_of shape ≢ rows_of shape → 4 ≡ symmetries_of shape
-symmetries-other shape ne =
-    elim (eqb_tells (cols_of shape) (rows_of shape)) [
-      | inl (e, is) ↦ absurd (ne is)
-      | inr (e, _) ↦ ap (λ b. cond b 8 4) (sym e)
-    ]
-
-pub some_symmetry : (shape : Shape) → 0 < symmetries_of shape
-some_symmetry shape = allowed-symmetry shape 0 (omega arith) (λ le. absurd (omega (arith, le)))
-
--- ---- one cell more, and changes
+-- ---- one cell more
 
 module _ (shape : Shape) (s : ℕ) where
   -- two points that are moved to one point are one
@@ -91,18 +69,6 @@ module _ (shape : Shape) (s : ℕ) where
       ];
     }
 
-  -- one change more
-  pub Brings-change : (before : Position) (cs : List Change) → length before ≡ point_count shape → (i : ℕ) (d : Change) → i < length cs → (image : Position) → Brings shape s (with_changes before (take i cs)) image → (p q : Point) (k : ℕ) → IsOnBoard shape p → number_of shape p ≡ (get_or cs i d).point → q ≡ moved s shape p → k ≡ number_of shape q → Brings shape s (with_changes before (take (i + 1) cs)) (set image k (get_or cs i d).new)
-  Brings-change before cs long i d lt image brings p q k on at moved_is number_is =
-      let now = with_changes before (take i cs) in
-      let stone = (get_or cs i d).new in
-      let made : with_changes before (take (i + 1) cs) ≡ set (with_changes before (take i cs)) (number_of shape p) (get_or cs i d).new =
-      ap (with_changes before) (take_more cs i d lt) ∙ with_changes-append before (take i cs) (get_or cs i d ∷ []) ∙ ap (λ n. set (with_changes before (take i cs)) n (get_or cs i d).new) (sym at) in
-      let there : k ≡ number_of shape (moved s shape p) = number_is ∙ ap (number_of shape) moved_is in
-      subst (λ (x : Position). Brings shape s x (set image k stone)) (sym made)
-      (subst (λ n. Brings shape s (set now (number_of shape p) stone) (set image n stone)) (sym there)
-      (Brings-set now image (length-with_changes before (take i cs) ∙ long) brings p on stone))
-
   -- ---- the empty board
 
   pub Brings-empty : s < 8 → IsAllowed s shape → Brings shape s (empty_board shape) (empty_board shape)
@@ -114,16 +80,3 @@ module _ (shape : Shape) (s : ℕ) where
         get_or-replicate (point_count shape) (number_of shape (moved s shape p)) cell.Empty cell.Empty (number_of-lt-count shape (moved s shape p) (moved-on_board shape p on s lt allowed))
         ∙ sym (get_or-replicate (point_count shape) (number_of shape p) cell.Empty cell.Empty (number_of-lt-count shape p on));
   }
-
--- the point of a change lies on the board
-pub change-on_board : (shape : Shape) (before : Position) (cs : List Change) → AreChangesOf before cs → length before ≡ point_count shape → (i : ℕ) (d : Change) → i < length cs → (get_or cs i d).point < point_count shape
-change-on_board shape before cs are long i d lt =
-    let on : (get_or cs i d).point < length before = are.on_board i d lt in
-    omega (arith, on, long)
-
--- all changes of a node
-pub Brings-end : (deltas : Deltas) → AreDeltas deltas → (n : ℕ) (shape : Shape) (s i : ℕ) (cs : List Change) (image : Position) → shape ≡ deltas.shape → cs ≡ changes_of deltas n → length cs ≤ i → Brings shape s (with_changes (position_where deltas (parent_of deltas n)) (take i cs)) image → Brings deltas.shape s (position_at deltas n) image
-Brings-end deltas are n shape s i cs image same is past brings =
-    let made : with_changes (position_where deltas (parent_of deltas n)) (take i cs) ≡ position_at deltas n =
-    ap (with_changes (position_where deltas (parent_of deltas n))) (take_all i cs past ∙ is) ∙ sym (position_at-step deltas are n) in
-    subst (λ (sh : Shape). Brings sh s (position_at deltas n) image) same (subst (λ (p : Position). Brings shape s p image) made brings)

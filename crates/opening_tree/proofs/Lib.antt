@@ -22,4 +22,12 @@ pub mod GroupBounds
 pub mod GroupEntries
 pub mod GamesRead
 pub mod StoredSteps
+pub mod GoneSteps
+pub mod TurnedWords
+pub mod TurnedSteps
+pub mod TurnedWalks
+pub mod LeastBits
+pub mod LeastPoints
+pub mod KeysAt
+pub mod Bringing
 pub mod StoredJoin

@@ -7,7 +7,10 @@ pub mod Openings
 -- Definitions of private functions.
 pub mod Packing
 pub mod Frames
+pub mod Least
+pub mod Turned
 pub mod GameFrames
 pub mod Groups
 pub mod StoredGroups
 pub mod StoredGames
+pub mod GoneThrough

@@ -1,5 +1,5 @@
 -- The openings of the games so far, as a map keeps them.
-use Rattle.std.specs.Prelude.{◌≡◌, ℕ, ◌+◌, ◌*◌, ◌≤◌, List, All, IfSome, length}
+use Rattle.std.specs.Prelude.{◌≡◌, ℕ, ◌*◌, ◌≤◌, List, All, IfSome, length}
 use Rattle.kb_geometry.specs.declared.shape.Point.{Point}
 use Rattle.kb_geometry.specs.declared.shape.Shape.{Shape}
 use Rattle.kb_geometry.specs.Board.{IsOnBoard, point_count}
@@ -24,23 +24,6 @@ AreEntriesOn points entries = All (λ (e : Entry). length e.canonical ≡ points
 pub record AreNextsOn (shape : Shape) (nexts : List NextAt) : Type 0 where
   pub positions : All (λ (n : NextAt). length n.canonical ≡ point_count shape) nexts
   pub points : All (λ (n : NextAt). IfSome n.played.point (λ (p : Point). IsOnBoard shape p)) nexts
-
--- The map keeps the openings of some entries and next moves, and these entries can be added.
-pub record IsReadyForEntries (shape : Shape) (es : List Entry) (ns : List NextAt)
-    (more : List Entry) (stored : List Stored) : Type 0 where
-  pub so_far : AreStored shape es ns stored
-  pub following : AreFollowing es ns
-  pub each : AreEntriesOn (point_count shape) more
-  pub entries_fit : length es + length more ≤ 18446744073709551614
-  pub nexts_fit : length ns ≤ 18446744073709551614
-
--- The same for next moves.
-pub record IsReadyForNexts (shape : Shape) (es : List Entry) (ns : List NextAt)
-    (more : List NextAt) (stored : List Stored) : Type 0 where
-  pub so_far : AreStored shape es ns stored
-  pub each : AreNextsOn shape more
-  pub entries_fit : length es ≤ 18446744073709551614
-  pub nexts_fit : length ns + length more ≤ 18446744073709551614
 
 -- The map keeps the openings of these games, which are numbered from a first number on.
 pub record AreOpeningsOf (first : ℕ) (shape : Shape) (depth : ℕ) (games : List Game)

@@ -8,6 +8,7 @@ ghost use Rattle.std.specs.Prelude.{
   [],
   ℕ,
   All,
+  IfOk,
   IfSome,
   List,
   OnOk,
@@ -29,62 +30,87 @@ ghost use Rattle.opening_tree.specs.Groups.{
 };
 ghost use Rattle.opening_tree.specs.NextMoves.{NextAt};
 ghost use Rattle.opening_tree.specs.StoredGroups.{
+  AreKeptIn,
   AreKeys,
+  IsKeyAt,
+  IsReadyForEntry,
   IsReadyForGroup,
   IsReadyForGroups,
+  entry_shown,
   group_shown,
   groups_shown,
+  next_shown,
 };
 
-use crate::found::{FoundEntry, FoundNext};
 use crate::opening_so_far::{OpeningSoFar, add_to_rows};
+use game_tree::Move;
 use indexmap::IndexMap;
-use kb_geometry::NoMemory;
+use kb_geometry::{NoMemory, Outcome};
 use std::alloc::Global;
 
 // Openings by the words of their canonical positions.
 pub(crate) type OpeningMap = IndexMap<Vec<u64>, OpeningSoFar>;
 
-// Adds an entry to the openings of positions with as many points. The only error is `NoMemory`.
+// An entry: the number of its game, its node, and how the game ended.
+#[derive(Clone, Copy, Debug)]
+pub(crate) struct EntryAt {
+    pub(crate) game: u32,
+    pub(crate) node: u32,
+    pub(crate) outcome: Outcome,
+}
+
+// Adds an entry with this canonical position, packed in words, and gives the number of its opening.
+// The key is copied only where the opening is new. The only error is `NoMemory`.
 pub(crate) fn add_entry(
     alloc: Global,
     openings: &mut OpeningMap,
-    entry: &FoundEntry,
-) -> Result<(), NoMemory>
-    requires keys { AreKeys (length entry.now.canonical) openings.old.entries }
-    requires room { All (λ (g : Grouped). IsGroupWithin 18446744073709551614 g.opening)
-        (groups_shown (length entry.now.canonical) openings.old.entries) }
-    ensures keys { OnOk result (AreKeys (length entry.now.canonical) openings.new.entries) }
-    ensures added { OnOk result (groups_shown (length entry.now.canonical) openings.new.entries
-        ≡ with_entry (groups_shown (length entry.now.canonical) openings.old.entries) entry.now) }
+    words: &[u64],
+    entry: EntryAt,
+) -> Result<usize, NoMemory>
+    requires { (points : ℕ) × IsReadyForEntry points words.now openings.old.entries }
+    ensures { IfOk result (λ at. (points : ℕ) →
+        IsReadyForEntry points words.now openings.old.entries →
+        AreKeys points openings.new.entries
+        × (groups_shown points openings.new.entries ≡ with_entry
+        (groups_shown points openings.old.entries) (entry_shown points words.now entry))
+        × IsKeyAt openings.new.entries at words.now
+        × AreKeptIn openings.old.entries openings.new.entries) }
 {
-    let words = entry.canonical().words();
     match openings.get_index_of(words) {
-        Some(at) => openings[at].count(entry.outcome()),
+        Some(at) => {
+            openings[at].count(entry.outcome);
+            Ok(at)
+        }
         None => {
+            let at = openings.len();
             let key = words.to_vec(alloc)?;
-            let mut opening = OpeningSoFar::none(alloc, entry.game(), entry.node());
-            opening.count(entry.outcome());
+            let mut opening = OpeningSoFar::none(alloc, entry.game, entry.node);
+            opening.count(entry.outcome);
             openings.insert(key, opening)?;
+            Ok(at)
         }
     }
-    Ok(())
 }
 
-// Adds a next move to the opening from whose canonical position it was played, if there is that
-// opening. The only error is `NoMemory`.
-pub(crate) fn add_next(openings: &mut OpeningMap, next: &FoundNext) -> Result<(), NoMemory>
-    requires keys { AreKeys (length next.now.canonical) openings.old.entries }
-    requires room { All (λ (g : Grouped). IsGroupWithin 18446744073709551614 g.opening)
-        (groups_shown (length next.now.canonical) openings.old.entries) }
-    ensures keys { OnOk result (AreKeys (length next.now.canonical) openings.new.entries) }
-    ensures added { OnOk result (groups_shown (length next.now.canonical) openings.new.entries
-        ≡ with_next (groups_shown (length next.now.canonical) openings.old.entries) next.now) }
+// Adds a next move from the canonical position of the opening with this number. The only error is
+// `NoMemory`.
+pub(crate) fn add_next(
+    openings: &mut OpeningMap,
+    at: usize,
+    played: Move,
+    outcome: Outcome,
+) -> Result<(), NoMemory>
+    requires { (points : ℕ) × (words : List ℕ) × IsReadyForEntry points words openings.old.entries
+        × IsKeyAt openings.old.entries at words }
+    ensures { OnOk result ((points : ℕ) (words : List ℕ) →
+        IsReadyForEntry points words openings.old.entries →
+        IsKeyAt openings.old.entries at words →
+        AreKeys points openings.new.entries
+        × (groups_shown points openings.new.entries ≡ with_next
+        (groups_shown points openings.old.entries) (next_shown points words played outcome))
+        × AreKeptIn openings.old.entries openings.new.entries) }
 {
-    let words = next.canonical().words();
-    if let Some(at) = openings.get_index_of(words) {
-        add_to_rows(&mut openings[at].rows, next.played(), next.outcome())?;
-    }
+    add_to_rows(&mut openings[at].rows, played, outcome)?;
     Ok(())
 }
 

@@ -10,16 +10,18 @@
 #![tactic(auto)]
 
 mod answer;
-mod found;
-mod frame;
-mod game_frames;
 mod groups;
-mod images;
+mod image_walker;
 mod laws;
+mod least;
 mod opening_so_far;
 mod openings;
+mod openings_of_games;
 mod packed;
 mod pieces;
+mod symmetries;
+mod turned;
+mod within;
 
 pub use answer::{NextMove, NextMoves, Opening};
 pub use laws::{

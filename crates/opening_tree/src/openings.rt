@@ -1,41 +1,15 @@
 // The openings of a version.
-ghost use Rattle.std.specs.Prelude.{
-  ◌≡◌,
-  ◌<◌,
-  ◌≤◌,
-  ◌+◌,
-  ◌++◌,
-  ◌∷◌,
-  [],
-  ℕ,
-  IfOk,
-  List,
-  OnOk,
-  filter,
-  length,
-  map,
-  nat_le,
-};
+ghost use Rattle.std.specs.Prelude.{◌≡◌, ◌≤◌, ◌+◌, IfOk, filter, length, map, nat_le};
 ghost use Rattle.std.specs.Map.{values_of};
-ghost use Rattle.node_position.specs.Games.{Game};
 ghost use Rattle.version_publisher.specs.Contents.{items_in};
 ghost use Rattle.opening_tree.specs.declared.answer.Opening.{Opening};
-ghost use Rattle.opening_tree.specs.Entries.{Entry};
-ghost use Rattle.opening_tree.specs.NextMoves.{NextAt};
 ghost use Rattle.opening_tree.specs.Openings.{IsOpenings};
-ghost use Rattle.opening_tree.specs.StoredGames.{
-  AreOpeningsOf,
-  AreStored,
-  IsReadyForEntries,
-  IsReadyForNexts,
-};
+ghost use Rattle.opening_tree.specs.StoredGames.{AreOpeningsOf};
 ghost use Rattle.opening_tree.specs.StoredGroups.{opening_shown};
-ghost use Rattle.kb_geometry.specs.declared.shape.Shape.{Shape};
 
 use crate::answer::Opening;
-use crate::found::{FoundEntry, FoundNext, found_in};
-use crate::groups::{OpeningMap, add_entry, add_next};
-use indexmap::IndexMap;
+use crate::groups::OpeningMap;
+use crate::openings_of_games::OpeningsOfGames;
 use kb_geometry::{NoMemory, Shape};
 use segment_store::{FinishedGame, Segment, games};
 use std::alloc::Global;
@@ -79,66 +53,11 @@ pub(crate) fn openings_in(
         AreOpeningsOf first asked.shape asked.depth (map (λ g. g.now) games.now)
         openings.entries) }
 {
-    let mut openings = IndexMap::new(alloc);
+    let mut openings = OpeningsOfGames::new(alloc, asked)?;
     for at in 0..games.len() {
-        add_game(alloc, &mut openings, asked, first + at as u32, games[at])?;
+        openings.add_game(alloc, first + at as u32, games[at])?;
     }
-    Ok(openings)
-}
-
-// Adds the game with this number to the openings of those before it.
-fn add_game(
-    alloc: Global,
-    openings: &mut OpeningMap,
-    asked: Asked,
-    number: u32,
-    game: &FinishedGame,
-) -> Result<(), NoMemory>
-    requires most { number < 400000 }
-    requires so_far { (first : ℕ) × (games : List Game) × (first + length games ≡ number)
-        × AreOpeningsOf first asked.shape asked.depth games openings.old.entries }
-    ensures { OnOk result ((first : ℕ) (games : List Game) → first + length games ≡ number →
-        AreOpeningsOf first asked.shape asked.depth games openings.old.entries →
-        AreOpeningsOf first asked.shape asked.depth (games ++ game.now ∷ [])
-        openings.new.entries) }
-{
-    let _nodes = game.tree().node_count();
-    let found = found_in(alloc, asked.shape, asked.depth, number, game)?;
-    add_entries(alloc, openings, found.entries.as_slice())?;
-    add_nexts(openings, found.nexts.as_slice())?;
-    Ok(())
-}
-
-// Adds these entries.
-fn add_entries(
-    alloc: Global,
-    openings: &mut OpeningMap,
-    entries: &[FoundEntry],
-) -> Result<(), NoMemory>
-    requires { (shape : Shape) × (es : List Entry) × (ns : List NextAt)
-        × IsReadyForEntries shape es ns entries.now openings.old.entries }
-    ensures { OnOk result ((shape : Shape) (es : List Entry) (ns : List NextAt) →
-        IsReadyForEntries shape es ns entries.now openings.old.entries →
-        AreStored shape (es ++ entries.now) ns openings.new.entries) }
-{
-    for entry in entries {
-        add_entry(alloc, openings, entry)?;
-    }
-    Ok(())
-}
-
-// Adds these next moves.
-fn add_nexts(openings: &mut OpeningMap, nexts: &[FoundNext]) -> Result<(), NoMemory>
-    requires { (shape : Shape) × (es : List Entry) × (ns : List NextAt)
-        × IsReadyForNexts shape es ns nexts.now openings.old.entries }
-    ensures { OnOk result ((shape : Shape) (es : List Entry) (ns : List NextAt) →
-        IsReadyForNexts shape es ns nexts.now openings.old.entries →
-        AreStored shape es (ns ++ nexts.now) openings.new.entries) }
-{
-    for next in nexts {
-        add_next(openings, next)?;
-    }
-    Ok(())
+    Ok(openings.into_openings())
 }
 
 // Those of the openings that have at least so many entries, as they are answered. The only error is

@@ -1,6 +1,10 @@
-use Rattle.std.proofs.Common.{map, take}
+use Rattle.std.proofs.Common.{◌≡◌, map, take}
 use Rattle.opening_tree.specs.StoredGames.{AreOpeningsOf}
 use Rattle.opening_tree.proofs.openings.openings_in.Given as goal
 
 abbrev pub invariant-loop-at : goal.invariant-loop-at
-invariant-loop-at l = AreOpeningsOf l.first l.asked.shape l.asked.depth (map (λ g. g.now) (take l.at l.games)) l.openings.entries
+invariant-loop-at l = record {
+  kept : AreOpeningsOf l.first l.openings.asked.shape l.openings.asked.depth (map (λ g. g.now) (take l.at l.games)) l.openings.openings.entries;
+  asked : l.openings.asked ≡ l.fn.asked;
+  board : l.openings.walker.shape ≡ l.openings.asked.shape;
+}

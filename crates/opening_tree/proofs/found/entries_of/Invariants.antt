@@ -1,8 +1,0 @@
-use Rattle.std.proofs.Common.{List}
-use Rattle.kb_geometry.specs.Capture.{Position}
-use Rattle.game_tree.specs.Position.{ArePositions}
-use Rattle.opening_tree.specs.Entries.{AreEntriesTo}
-use Rattle.opening_tree.proofs.found.entries_of.Given as goal
-
-abbrev pub invariant-loop-at : goal.invariant-loop-at
-invariant-loop-at l = (positions : List Position) → ArePositions l.game.tree positions → AreEntriesTo l.depth l.number l.game.tree positions l.at l.entries.items
