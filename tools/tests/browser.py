@@ -17,6 +17,19 @@ from typing import Any
 WAIT_SECONDS = 40
 START_LINE = re.compile(r"DevTools listening on ws://([^:/]+):(\d+)(/\S+)")
 
+# Scrolls to fifty places of the list, and tells how long each took, in order.
+SCROLL = """(() => {
+    const box = document.querySelector(".long-list"), waits = [];
+    for (let i = 0; i < 50; i++) {
+        const before = performance.now();
+        box.scrollTop = (box.scrollHeight - box.clientHeight) * (i * 37 % 50) / 49;
+        box.dispatchEvent(new Event("scroll"));
+        box.getBoundingClientRect();
+        waits.push(performance.now() - before);
+    }
+    return waits.sort((a, b) => a - b);
+})()"""
+
 
 def find_browser() -> str | None:
     return shutil.which("chromium")

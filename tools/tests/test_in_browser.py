@@ -16,7 +16,7 @@ from answers_page.answers import Hit, Search, Watched
 from answers_page.record import read_record
 from answers_page.script import Question, read_script
 
-from .browser import BrowserTest
+from .browser import SCROLL, BrowserTest
 from .samples import NATIVE, ROOT, page_of, program, program_that_tells, program_with_games, scripts
 from .test_answers import WATCHED, WATCHES
 from .test_page import ENDING, FIRST_GAME, MARKUP, hostile_page
@@ -227,17 +227,7 @@ class InBrowser(BrowserTest):
                 asked=told, folder=self.folder)
         self.browser.open(self.folder / "big.html")
         opened = self.browser.run("performance.getEntriesByType('navigation')[0].domContentLoadedEventEnd")
-        waits = self.browser.run("""(() => {
-            const box = document.querySelector(".long-list"), waits = [];
-            for (let i = 0; i < 50; i++) {
-                const before = performance.now();
-                box.scrollTop = (box.scrollHeight - box.clientHeight) * (i * 37 % 50) / 49;
-                box.dispatchEvent(new Event("scroll"));
-                box.getBoundingClientRect();
-                waits.push(performance.now() - before);
-            }
-            return waits.sort((a, b) => a - b);
-        })()""")
+        waits = self.browser.run(SCROLL)
         print(f"100,000 hits: opened in {opened:.0f} ms, a scroll takes {waits[25]:.1f} ms, the longest {waits[-1]:.1f} ms")
         self.assertLess(self.browser.run("document.querySelectorAll('.rows .row').length"), 60)
         # Generous bounds, for machines that do other things too.

@@ -16,7 +16,7 @@ from answers_page.record import read_record
 from answers_page.script import read_script
 
 from . import opening_trees
-from .browser import BrowserTest
+from .browser import SCROLL, BrowserTest
 from .opening_trees import PlainGame, played
 from .samples import NATIVE, ROOT, page_of, program, program_with_games
 from .stand_in import stored_games
@@ -67,20 +67,6 @@ WAIT = """(async () => {
     }
     while (document.querySelector('.opening[data-indexed="false"]'))
         await new Promise(done => setTimeout(done, 10));
-})()"""
-
-
-# Scrolls to fifty places of the list, and tells how long each took, in order.
-SCROLL = """(() => {
-    const box = document.querySelector(".long-list"), waits = [];
-    for (let i = 0; i < 50; i++) {
-        const before = performance.now();
-        box.scrollTop = (box.scrollHeight - box.clientHeight) * (i * 37 % 50) / 49;
-        box.dispatchEvent(new Event("scroll"));
-        box.getBoundingClientRect();
-        waits.push(performance.now() - before);
-    }
-    return waits.sort((a, b) => a - b);
 })()"""
 
 # Puts an address into the browser, and waits until the page has seen it.
