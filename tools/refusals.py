@@ -10,8 +10,11 @@ each such call, in which that one call fails, until a run makes fewer. Each run 
 status that its kind of call may have. After an allocation or a write that failed what is written has to
 be a prefix of the whole output, and the whole where the status is 0; after a read of the script that
 failed, nothing. After a call of the folder that failed the run is done; what it answers hangs on what
-was read, so that only the lines and the names of the statements are compared. Prints how many runs
-there were and how they ended; the exit status is 0 where all is so.
+was read, so that only the lines and the names of the statements are compared.
+
+What the run in one batch wrote is then audited as a record, with the same calls refused: after a call of
+the folder that failed the status is that of a folder that could not be read, or the call was none that
+the audit needs. Prints how many runs there were and how they ended; the exit status is 0 where all is so.
 
 Beside an import several threads make allocations, in no fixed order, so that the calls of one kind are
 not the same ones in each run.
@@ -115,8 +118,10 @@ import e
 search X where player "Ann"
 """
 
-# The statuses that a run may have in which a call of this kind failed.
+# The statuses that a run, and an audit, may have in which a call of this kind failed.
 STATUSES = {"allocation": {0, 5}, "script": {3}, "folder": {0}, "write": {4}}
+AUDIT_STATUSES = {**STATUSES, "folder": {0, 6}}
+AUDIT = ["audit", "r"]
 
 
 def run(program, folder, words, **told):
@@ -132,12 +137,13 @@ def without_reports(output):
             and line.split(b" ")[0].isdigit()]
 
 
-def is_told(kind, status, output, whole):
-    if status not in STATUSES[kind]:
+def is_told(words, kind, status, output, whole):
+    is_audit = words == AUDIT
+    if status not in (AUDIT_STATUSES if is_audit else STATUSES)[kind]:
         return False
-    if kind == "folder":
+    if kind == "folder" and not is_audit:
         return without_reports(output) == without_reports(whole)
-    if kind == "script":
+    if kind == "script" or status == 6:
         return output == b""
     return output == whole if status == 0 else whole.startswith(output)
 
@@ -153,10 +159,28 @@ def try_each(program, folder, shim, kind, words, whole):
         if not os.path.exists(told):
             return ended
         os.remove(told)
-        if not is_told(kind, status, output, whole):
+        if not is_told(words, kind, status, output, whole):
             print("%s %d refused: status %d after\n%s" % (kind, at, status, output.decode()))
             return None
         ended[status] += 1
+
+
+def try_kinds(program, folder, shim, words, whole):
+    """Whether each run with these words, whose whole output is this, is as it has to be."""
+    good = True
+    for kind in STATUSES:
+        ended = try_each(program, folder, shim, kind, words, whole)
+        good = good and ended is not None
+        if ended is not None:
+            print("%s %s: %d runs, by status %s" % (" ".join(words) or "no words", kind,
+                  sum(ended.values()), dict(sorted(ended.items()))))
+    return good
+
+
+def keep_record(folder, record):
+    os.mkdir(os.path.join(folder, "r"))
+    with open(os.path.join(folder, "r", "record"), "wb") as file:
+        file.write(record)
 
 
 def main():
@@ -169,17 +193,13 @@ def main():
         for name, text in GAMES.items():
             with open(os.path.join(folder, "d", name), "w") as file:
                 file.write(text)
+        keep_record(folder, run(program, folder, [])[1])
         good = True
-        for words in ([], ["--batch", "1"], ["--serial"]):
+        for words in ([], ["--batch", "1"], ["--serial"], AUDIT):
             status, whole = run(program, folder, words)
-            if status != 0:
-                sys.exit("the whole run ended with status %d" % status)
-            for kind in STATUSES:
-                ended = try_each(program, folder, shim, kind, words, whole)
-                good = good and ended is not None
-                if ended is not None:
-                    print("%s %s: %d runs, by status %s" % (" ".join(words) or "no words", kind,
-                          sum(ended.values()), dict(sorted(ended.items()))))
+            if status != 0 or words == AUDIT and whole != b"audit lawful\n":
+                sys.exit("the whole run ended with status %d and %r" % (status, whole))
+            good = try_kinds(program, folder, shim, words, whole) and good
         sys.exit(0 if good else 1)
 
 

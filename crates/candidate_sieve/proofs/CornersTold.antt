@@ -152,15 +152,18 @@ module _ (deltas : Deltas) (placement : Placement) (placed : IsPlacedOn deltas.s
   abbrev HadCorner : Type 0
   HadCorner = (n : ℕ) × (n < node_count deltas) × HasCornerOf deltas placement corner n
 
-  pub key-told : (key : ℕ) → IsKeyTo deltas.shape placement corner 36 key → (has : Bool) → (has ≡ true) ↔ Contains (keys_of keys corner) key → (has ≡ true) ↔ (CoversCorner deltas.shape placement corner → HadCorner)
-  key-told key is has told = (
-    λ t covers.
-        let had = (are corner few key).0 (told.0 t) in
+  pub key-had : (key : ℕ) → IsKeyTo deltas.shape placement corner 36 key → Contains (keys_of keys corner) key ↔ (CoversCorner deltas.shape placement corner → HadCorner)
+  key-had key is = (
+    λ there covers.
+        let had = (are corner few key).0 there in
         (had.1.0, had.1.1, number-has deltas.shape placement placed corner few sides key is (position_at deltas had.1.0) had.1.2),
     λ h.
         let at = h (covers-told deltas.shape placement placed corner few sides is.exact) in
-        told.1 ((are corner few key).1 (sides, (at.0, at.1, has-number deltas.shape placement placed corner few sides key is (position_at deltas at.0) at.2))),
+        (are corner few key).1 (sides, (at.0, at.1, has-number deltas.shape placement placed corner few sides key is (position_at deltas at.0) at.2)),
   )
+
+  pub key-told : (key : ℕ) → IsKeyTo deltas.shape placement corner 36 key → (has : Bool) → (has ≡ true) ↔ Contains (keys_of keys corner) key → (has ≡ true) ↔ (CoversCorner deltas.shape placement corner → HadCorner)
+  key-told key is has told = (λ t. (key-had key is).0 (told.0 t), λ h. told.1 ((key-had key is).1 h))
 
   pub open-told : IsOpenAt deltas.shape placement corner → (true ≡ true) ↔ (CoversCorner deltas.shape placement corner → HadCorner)
   open-told unmet = (λ t covers. absurd (open-covers deltas.shape placement placed corner few sides unmet covers), λ h. refl)

@@ -7,5 +7,8 @@ pub mod BegunLists
 pub mod GamesTold
 pub mod CandidateLists
 pub mod PlacementLists
+pub mod ClassLists
 pub mod RowsSieved
 pub mod OccurrencesKept
+pub mod CornerGames
+pub mod KeptRows

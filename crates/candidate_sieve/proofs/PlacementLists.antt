@@ -13,7 +13,7 @@ use Rattle.candidate_sieve.specs.PlacementRows.{ArePlacedTo, AreRowsOf, AreRowsT
 
 module _ (images : ImageList) where
   -- a placement has one class
-  class-once : AreDistinct images.grids → (i c d : ℕ) → HasClass images i c → HasClass images i d → c ≡ d
+  pub class-once : AreDistinct images.grids → (i c d : ℕ) → HasClass images i c → HasClass images i d → c ≡ d
   class-once different i c d one other = different c d one.in_range other.in_range (one.cells ∙ sym other.cells)
 
   pub placed-start : ArePlacedTo images 0 0 []

@@ -7,3 +7,4 @@ pub mod BlockGames
 pub mod FrameCells
 pub mod Noting
 pub mod PlacementRows
+pub mod KeptWords

@@ -17,6 +17,23 @@ pub record HasClass (images : ImageList) (i class : ℕ) : Type 0 where
   pub in_range : class < length images.grids
   pub cells : grid_at images.grids class ≡ (placement_at images.placements i).grid
 
+-- The list has exactly the placements of the class among the first so many, ascending.
+pub record AreOfClass (images : ImageList) (class count : ℕ) (list : List ℕ) : Type 0 where
+  pub sound : (k : ℕ) → k < length list →
+      (slice_index list k < count) × HasClass images (slice_index list k) class
+  pub complete : (i : ℕ) → i < count → HasClass images i class →
+      (k : ℕ) × (k < length list) × (slice_index list k ≡ i)
+  pub ascending : (j k : ℕ) → j < k → k < length list → slice_index list j < slice_index list k
+
+-- the list at a place
+abbrev pub list_at : List (List ℕ) → ℕ → List ℕ
+list_at lists class = slice_index_or lists class []
+
+-- there is such a list for each class
+abbrev pub AreByClass : ImageList → ℕ → List (List ℕ) → Type 0
+AreByClass images count lists = (class : ℕ) → class < length images.grids →
+    AreOfClass images class count (list_at lists class)
+
 -- the list has each placement of the classes before this one, and of this one the first so many,
 -- each once
 pub record ArePlacedTo (images : ImageList) (class count : ℕ) (numbers : List ℕ) : Type 0 where

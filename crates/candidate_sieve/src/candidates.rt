@@ -189,8 +189,8 @@ fn games_with_either(planes: &Planes, one: Cell, other: Cell, point: u16, games:
 }
 
 // Fills the room with so many words, one for each placement of a row: those of the games `among` that
-// may have it.
-fn fill_room(
+// may have it. The word of one placement alone is made by itself.
+pub(crate) fn fill_room(
     planes: &Planes,
     ever_empty: u64,
     base: u16,
@@ -208,6 +208,10 @@ fn fill_room(
         wants.now among (length wants.now) (slice_index room.new.items k)) }
 {
     room.clear();
+    if count == 1 {
+        room.push(games_at(planes, ever_empty, base, wants, among))?;
+        return Ok(());
+    }
     room.resize(count, among)?;
     keep_wanted(planes, ever_empty, base, wants, room);
     Ok(())

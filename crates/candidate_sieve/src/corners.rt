@@ -19,10 +19,10 @@ use kb_geometry::{Point, Shape, Symmetry, apply};
 use pattern_images::{Images, PatternCell};
 
 // How many corners a board has.
-const CORNERS: u8 = 4;
+pub(crate) const CORNERS: u8 = 4;
 
 // How many columns and rows a corner has.
-const SIDE: u8 = 6;
+pub(crate) const SIDE: u8 = 6;
 
 // How many places the frame of a corner has: its columns times its rows.
 const PLACES: u8 = 36;
@@ -67,7 +67,7 @@ fn meets_corner(corners: &CornerKeys, images: &Images, i: usize, corner: u8) -> 
 }
 
 // Whether a board of this shape has corners.
-fn has_corners(shape: Shape) -> bool
+pub(crate) fn has_corners(shape: Shape) -> bool
     ensures { IsTrue result ↔ HasCorners shape }
 {
     shape.cols() >= SIDE && shape.rows() >= SIDE
@@ -75,7 +75,7 @@ fn has_corners(shape: Shape) -> bool
 
 // The number that a corner has where it has the cells of a placement. `None` where some point of
 // the corner isn't under an empty, black or white cell.
-fn corner_key(images: &Images, i: usize, corner: u8) -> Option<u64>
+pub(crate) fn corner_key(images: &Images, i: usize, corner: u8) -> Option<u64>
     requires placement { i < length images.now.placements }
     requires corner { corner < 4 }
     requires sides { HasCorners images.now.shape }

@@ -8,7 +8,9 @@
 mod asked;
 mod candidates;
 mod cells;
+mod corner_games;
 mod corners;
+mod kept_words;
 mod laws;
 mod nodes;
 mod placement_rows;
@@ -17,6 +19,7 @@ mod sieve;
 pub use asked::AskedPoints;
 pub use candidates::{Candidate, add_candidates};
 pub use corners::meets_corners;
+pub use kept_words::kept_games;
 pub use laws::{
     a_game_with_an_occurrence_is_kept, a_placement_is_kept_by_its_cells_and_corners,
     a_placement_that_holds_meets_the_sets, an_occurrence_is_at_a_node_candidate,

@@ -1,12 +1,15 @@
 // The placements of images in rows, to be sieved a row at a time.
-ghost use Rattle.std.specs.Prelude.{◌≡◌, ◌<◌, ◌+◌, IfOk, IsTrue, OnOk, length};
+ghost use Rattle.std.specs.Prelude.{◌≡◌, ◌<◌, ◌+◌, ℕ, [], IfOk, IsTrue, OnOk, length, map};
 ghost use Rattle.capture_index.specs.Wants.{base_of};
 ghost use Rattle.pattern_images.specs.ImageList.{placement_at};
 ghost use Rattle.candidate_sieve.specs.PlacementRows.{
+  AreByClass,
+  AreOfClass,
   ArePlacedTo,
   AreRowsOf,
   AreRowsTo,
   IsRowGrown,
+  list_at,
 };
 
 use kb_geometry::{Label, NoMemory, Point};
@@ -42,10 +45,11 @@ impl<'a> PlacementRows<'a> {
     pub fn of(alloc: Global, images: &'a Images) -> Result<Self, NoMemory>
         ensures { IfOk result (λ rows. rows.images.now ≡ images.now) }
     {
+        let classes = by_class(alloc, images)?;
         let mut numbers = Vec::with_capacity(alloc, images.len())?;
         let mut rows = Vec::new(alloc);
         for class in 0..images.class_count() {
-            add_class(images, class, &mut numbers, &mut rows)?;
+            add_class(images, class, &classes[class], &mut numbers, &mut rows)?;
         }
         Ok(PlacementRows {
             images,
@@ -55,26 +59,53 @@ impl<'a> PlacementRows<'a> {
     }
 }
 
-// Adds the placements of a class, in order of the board, and their rows.
+// The numbers of the placements of each class, ascending. All placements are gone over once.
+fn by_class(alloc: Global, images: &Images) -> Result<Vec<Vec<u32>>, NoMemory>
+    ensures count { IfOk result (λ lists. length lists.items ≡ length images.now.grids) }
+    ensures each { IfOk result (λ lists. AreByClass images.now (length images.now.placements)
+        (map (λ v. v.items) lists.items)) }
+{
+    let mut lists = no_lists(alloc, images.class_count())?;
+    for i in 0..images.len() {
+        let _label = label(images, i);
+        lists[images.class_of(i)].push(i as u32)?;
+    }
+    Ok(lists)
+}
+
+// So many empty lists.
+fn no_lists(alloc: Global, count: usize) -> Result<Vec<Vec<u32>>, NoMemory>
+    ensures count { IfOk result (λ lists. length lists.items ≡ count) }
+    ensures empty { IfOk result (λ lists. (c : ℕ) →
+        list_at (map (λ v. v.items) lists.items) c ≡ []) }
+{
+    let mut lists = Vec::with_capacity(alloc, count)?;
+    for _class in 0..count {
+        lists.push(Vec::new(alloc))?;
+    }
+    Ok(lists)
+}
+
+// Adds the placements of a class, whose numbers these are, and their rows.
 fn add_class(
     images: &Images,
     class: usize,
+    of_class: &[u32],
     numbers: &mut Vec<u32>,
     rows: &mut Vec<PlacementRow>,
 ) -> Result<(), NoMemory>
     requires in_range { class < length images.now.grids }
+    requires of_class { AreOfClass images.now class (length images.now.placements) of_class.now }
     requires placed { ArePlacedTo images.now class 0 numbers.old.items }
     requires rows { AreRowsTo images.now numbers.old.items rows.old.items }
     ensures placed { OnOk result (ArePlacedTo images.now class (length images.now.placements)
         numbers.new.items) }
     ensures rows { OnOk result (AreRowsTo images.now numbers.new.items rows.new.items) }
 {
-    for i in 0..images.len() {
-        let _label = label(images, i);
-        if images.class_of(i) == class {
-            add_to_rows(class, base(images, i), numbers.len(), rows)?;
-            numbers.push(i as u32)?;
-        }
+    let _count = images.len();
+    for i in of_class {
+        add_to_rows(class, base(images, *i as usize), numbers.len(), rows)?;
+        numbers.push(*i)?;
     }
     Ok(())
 }

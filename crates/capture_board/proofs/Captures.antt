@@ -8,7 +8,7 @@ use Rattle.kb_geometry.specs.declared.stone.Cell.{Cell}
 use Rattle.kb_geometry.specs.declared.stone.Cell.TheVariants as cell
 use Rattle.kb_geometry.specs.declared.stone.Colour.{Colour}
 use Rattle.kb_geometry.specs.Board.{AreNeighbours, point_count}
-use Rattle.kb_geometry.specs.Capture.{Position, IsInGroup, HasLiberty, IsWithout, IsCaptured, IsSuicide, IsPlayed, cell_at, stone_of, other_side}
+use Rattle.kb_geometry.specs.Capture.{Position, IsInGroup, HasLiberty, IsWithout, IsCaptured, IsSuicide, IsPlayed, cell_at, stay, stone_of, other_side}
 use Rattle.capture_board.proofs.Neighbours.{neighbour-lt-count}
 use Rattle.capture_board.proofs.Walks.{walk-lt-count}
 
@@ -85,6 +85,10 @@ module _ (shape : Shape) (position : Position) (point : ℕ) where
   -- a group with a liberty is no suicide
   pub no_suicide : HasLiberty shape position point → (q : ℕ) → IsSuicide shape position point q → ⊥
   no_suicide free q h = h.surrounded free
+
+  -- a point with an empty neighbour has a liberty
+  pub free_beside : (q : ℕ) → AreNeighbours shape point q → cell_at position q ≡ cell.Empty → HasLiberty shape position point
+  free_beside q near empty = record { member = point; liberty = q; in_group = stay refl; neighbour = near; empty = empty }
 
   -- the group of the point, if it has no liberty
   pub suicide_is : ¬ HasLiberty shape position point → (group : List ℕ) → ((q : ℕ) → Contains group q ↔ IsInGroup shape position point q) → (q : ℕ) → Contains group q ↔ IsSuicide shape position point q

@@ -15,7 +15,8 @@ neighbour-lt-count shape p q h = rw (← h.to_number) (number_of-lt-count shape 
 none_not_some : (q : ℕ) → ◌≡◌ {A = Option ℕ} None (Some q) → ⊥
 none_not_some q e = cc
 
-some_entry : (around : List (Option ℕ)) (k q : ℕ) → get_or around k None ≡ Some q → Contains around (Some q)
+-- what stands in a list of neighbours is in it
+pub some_entry : (around : List (Option ℕ)) (k q : ℕ) → get_or around k None ≡ Some q → Contains around (Some q)
 some_entry around k q e = elim (cases_lt k (length around)) [ inl lt ↦ (k, lt, get_or_default around k (Some q) None lt ∙ e) | inr le ↦ absurd (none_not_some q (sym (get_or_past around k None le) ∙ e)) ]
 
 -- an entry of the list of neighbours is a neighbour

@@ -6,7 +6,8 @@ ghost use Rattle.capture_board.specs.Changes.{LeadFrom, MayBeUndone, IsUndone};
 ghost use Rattle.capture_board.specs.ChangedPoints.{NotesChanges};
 
 use crate::change_list::{ChangeList, ChangedPoints, list_changes, put};
-use captures::{find_captured, other_side, stone_of, take_off};
+use adjacent::neighbours;
+use captures::{breathes, find_captured, other_side, stone_of, take_off};
 use groups::find_surrounded;
 use kb_geometry::{Cell, Change, Colour, MAX_POINTS, Point, Rect, Shape};
 use point_set::PointSet;
@@ -239,9 +240,13 @@ fn play_on(
     ensures none_captured { sets.new.captured ≡ [] }
 {
     put(cells, changed, point, stone_of(colour));
-    find_captured(shape, cells, other_side(colour), point, sets);
+    let around = neighbours(shape, point);
+    find_captured(shape, cells, other_side(colour), &around, sets);
     take_off(cells, changed, &sets.captured);
     sets.captured.clear();
+    if breathes(cells, &around) {
+        return;
+    }
     if find_surrounded(shape, cells, point, &mut sets.group) {
         take_off(cells, changed, &sets.group);
     }

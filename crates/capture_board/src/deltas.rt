@@ -1,5 +1,5 @@
 // The changes at each node of a game.
-ghost use Rattle.std.specs.Prelude.{◌≡◌, ◌<◌, ◌≤◌, IfOk, IfSome, OnErr, OnOk, length};
+ghost use Rattle.std.specs.Prelude.{◌≡◌, ◌<◌, ◌≤◌, ◌++◌, IfOk, IfSome, OnErr, OnOk, length};
 ghost use Rattle.capture_board.specs.StoredDeltas.{changes_start};
 
 use kb_geometry::{Change, NoMemory, Shape};
@@ -123,7 +123,7 @@ impl NodeDeltas {
         ensures error { OnErr result (self.new ≡ self.old) }
     {
         self.nodes.reserve(1)?;
-        self.changes.extend_from_slice(changes)?;
+        append(&mut self.changes, changes)?;
         let end = self.changes.len() as u32;
         let node = StoredNode::new(parent.unwrap_or(0) as u16, end);
         self.nodes.push(node)?;
@@ -189,6 +189,19 @@ impl NodeDeltas {
             changes,
         })
     }
+}
+
+// Adds changes to others. Mostly there is one.
+fn append(all: &mut Vec<Change>, changes: &[Change]) -> Result<(), NoMemory>
+    ensures ok { OnOk result (all.new.items ≡ all.old.items ++ changes.now) }
+    ensures error { OnErr result (all.new.items ≡ all.old.items) }
+{
+    if let [change] = changes {
+        all.push(*change)?;
+        return Ok(());
+    }
+    all.extend_from_slice(changes)?;
+    Ok(())
 }
 
 // Where the changes of a node begin: where those of the node before it end.

@@ -6,7 +6,7 @@ use Rattle.std.proofs.lemmas.List.{drop_all}
 use Rattle.std.specs.Prelude.{IsTrue}
 use Rattle.capture_index.specs.declared.run.Run.{Run}
 use Rattle.capture_index.specs.declared.stretch.Want.{Want}
-use Rattle.capture_index.specs.Bounds.{IsHullTo}
+use Rattle.capture_index.specs.Hulls.{IsHullTo}
 use Rattle.capture_index.specs.Lists.{IsWantedBy}
 use Rattle.capture_index.specs.Runs.{AreToldBehind, cell_by}
 use Rattle.capture_index.specs.Stretches.{is_wanted}

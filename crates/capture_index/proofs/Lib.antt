@@ -4,7 +4,7 @@ pub mod OnBoard
 pub mod Made
 pub mod Steps
 pub mod CutRuns
-pub mod WordsTold
+pub mod Times
 pub mod Hulls
 pub mod Narrowing
 pub mod Packed

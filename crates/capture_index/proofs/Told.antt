@@ -14,7 +14,7 @@ use Rattle.capture_board.proofs.DeltaPaths.{length-position_at}
 use Rattle.capture_index.specs.declared.packed_runs.PackedRuns.{PackedRuns}
 use Rattle.capture_index.specs.declared.stretch.Stretch.{Stretch}
 use Rattle.capture_index.specs.declared.stretch.Want.{Want}
-use Rattle.capture_index.specs.declared.time.Time.{Time}
+use Rattle.capture_index.specs.declared.time.PackedTime.{PackedTime}
 use Rattle.capture_index.specs.Begins.{BeginsFor, HasBegun}
 use Rattle.capture_index.specs.Branches.{parent_by}
 use Rattle.capture_index.specs.Finding.{AreMet, IsRunIndexOf, no_time, packed_cell}
@@ -34,7 +34,7 @@ module _ (packed : PackedRuns) where
   count_in-packed = length-map-range_with_len (packed_position packed) 0 packed.nodes
 
   pub packed_position-cell : (p n : ℕ) → p < point_count packed.shape → cell_at (packed_position packed n) p ≡ packed_cell packed p n
-  packed_position-cell p n lt = get_or-map (λ (time : Time). cell_by (runs_of packed.ends.items packed.runs.items time) n) packed.times.items p no_time stone.Empty (omega (arith, packed.points))
+  packed_position-cell p n lt = get_or-map (λ (time : PackedTime). cell_by (runs_of packed.ends.items packed.runs.items time) n) packed.times.items p no_time stone.Empty (omega (arith, packed.points))
 
   pub cell_in-packed : (p n : ℕ) → p < point_count packed.shape → n < packed.nodes → cell_in (seen_by packed) p n ≡ packed_cell packed p n
   cell_in-packed p n lt ln =
@@ -98,7 +98,7 @@ module _ (deltas : Deltas) (packed : PackedRuns) (is : IsRunIndexOf deltas packe
 
   position-told : (n : ℕ) → n < node_count deltas → packed_position packed n ≡ position_at deltas n
   position-told n lt =
-      let f : Time → Cell = λ time. cell_by (runs_of packed.ends.items packed.runs.items time) n in
+      let f : PackedTime → Cell = λ time. cell_by (runs_of packed.ends.items packed.runs.items time) n in
       same_lists (packed_position packed n) (position_at deltas n) (length-map packed.times.items f ∙ count ∙ sym (length-position_at deltas n))
       (λ k d l.
       let within : k < length packed.times.items = omega (arith, l, length-map packed.times.items f) in

@@ -1,7 +1,7 @@
 -- The wants of classes, one list after another.
 use Rattle.std.proofs.Common.{◌≡◌, ◌≢◌, ◌⊎◌, ℕ, suc, ◌+◌, ◌-◌, ◌*◌, ◌<◌, ◌≤◌, List, [], ◌∷◌, ◌++◌, length, get_or, take, drop, refl, sym, ap, ◌∙◌, arith, subst, inl, inr, append_assoc}
-use Rattle.std.specs.Prelude.{All, Any, slice_index_or, slice_range}
-use Rattle.std.proofs.lemmas.Bool.{cases_Bool, cases_eq, cases_lt, false_from_ne_true, false≢true}
+use Rattle.std.specs.Prelude.{All, Any, false, not, slice_index_or, slice_range, true}
+use Rattle.std.proofs.lemmas.Bool.{cases_eq, cases_lt, false_from_ne_true, false≢true}
 use Rattle.std.proofs.Math.Seq.{get_or-append_right}
 use Rattle.std.proofs.lemmas.Nat.{mul-add-lt}
 use Rattle.std.proofs.lemmas.List.{append-nil, length-append, length-drop, length_push, get_or_append_left, get_or_default, get_or_push, drop-append-le, take-append-le, drop_at, take_all}
@@ -14,15 +14,14 @@ use Rattle.kb_geometry.proofs.Lists.{Any-weaker}
 use Rattle.pattern_images.specs.declared.cell.PatternCell.{PatternCell}
 use Rattle.pattern_images.specs.declared.cell.PatternCell.TheVariants as cell
 use Rattle.pattern_images.specs.Grid.{Grid, cell_in}
-use Rattle.pattern_images.specs.Holds.{Allows}
 use Rattle.pattern_images.specs.ImageList.{grid_at}
 use Rattle.pattern_images.proofs.Turned.{point-numbered}
 use Rattle.capture_index.specs.declared.stretch.Want.{Want}
 use Rattle.capture_index.specs.declared.wants.WantRange.{WantRange}
 use Rattle.capture_index.specs.declared.wanted.OtherWants.{OtherWants}
-use Rattle.capture_index.specs.StoredWants.{AreClassWants, AreParted, ArePartedOn, AreWantsAdded, HasRank, HaveWantsTo, IsClassAdded, IsWantPut, IsOfStone, IsRangeOf, IsWantWith, MayBeEmpty, cell_with, grid_with, rank_of, wants_in}
+use Rattle.capture_index.specs.StoredWants.{AreClassWants, AreParted, ArePartedOn, AreWantsAdded, HasRank, HaveWantsTo, IsClassAdded, IsWantPut, IsRangeOf, IsWantWith, MayBeEmpty, cell_with, grid_with, rank_of, wants_in}
 use Rattle.capture_index.specs.Stretches.{no_want}
-use Rattle.capture_index.specs.Wants.{AreEmptiesFrom, AreWantsOf, ClassesOn, IsOfEmpty, IsWantAt, IsWantIn, IsWantOf}
+use Rattle.capture_index.specs.Wants.{AreEmptiesFrom, AreStonesTo, AreWantsOf, ClassesOn, IsOfEmpty, IsOfStone, IsWantAt, IsWantIn, IsWantOf}
 
 -- ---- some element of two lists
 Any-left : {X : Type 0} (P : X → Type 0) (xs ys : List X) → Any P xs → Any P (xs ++ ys)
@@ -56,18 +55,20 @@ may_be_empty cell.Any want is r = absurd cc
 
 -- not where it must be a stone
 must_be_stone : OfKind 0 IsOfStone
-must_be_stone c want is r = elim (cases_Bool want.empty) [
-  | inl t ↦ absurd (no_empty c ((is stone.Empty).0 t) r)
-  | inr f ↦ f
-]
-  where
-    no_empty : (c : PatternCell) → Allows c stone.Empty → rank_of c ≡ 0 → ⊥
-    no_empty cell.Black e r = cc
-    no_empty cell.White e r = cc
-    no_empty cell.Empty e r = cc
-    no_empty cell.NotWhite e r = cc
-    no_empty cell.NotBlack e r = cc
-    no_empty cell.Any e r = cc
+must_be_stone cell.Black want is r =
+    let white : want.white ≡ false = false_from_ne_true want.white (λ t. let e : stone.White ≡ stone.Black = (is stone.White).0 t in absurd cc) in (
+      false_from_ne_true want.empty (λ t. let e : stone.Empty ≡ stone.Black = (is stone.Empty).0 t in absurd cc),
+      (is stone.Black).1 refl ∙ sym (ap not white),
+    )
+must_be_stone cell.White want is r =
+    let white : want.white ≡ true = (is stone.White).1 refl in (
+      false_from_ne_true want.empty (λ t. let e : stone.Empty ≡ stone.White = (is stone.Empty).0 t in absurd cc),
+      false_from_ne_true want.black (λ t. let e : stone.Black ≡ stone.White = (is stone.Black).0 t in absurd cc) ∙ sym (ap not white),
+    )
+must_be_stone cell.Empty want is r = absurd cc
+must_be_stone cell.NotWhite want is r = absurd cc
+must_be_stone cell.NotBlack want is r = absurd cc
+must_be_stone cell.Any want is r = absurd cc
 
 -- and an empty point alone where it must be empty
 must_be_empty : OfKind 2 IsOfEmpty
@@ -235,13 +236,19 @@ module _ (shape : Shape) (grid : Grid) where
       stones_first = λ j k less lt e. elim (cases_lt k (length stones)) [
         | inl stone ↦
             let early : slice_index_or (stones ++ behind) j no_want ≡ slice_index_or stones j no_want = get_or_append_left stones behind no_want j (omega (arith, less, stone)) in
-            absurd (false≢true (sym (parted.stones.kind j no_want (omega arith)) ∙ ap (λ (w : Want). w.empty) (sym early) ∙ e))
+            absurd (false≢true (sym (parted.stones.kind j no_want (omega arith)).0 ∙ ap (λ (w : Want). w.empty) (sym early) ∙ e))
         | inr other ↦
             let late : slice_index_or (stones ++ behind) k no_want ≡ slice_index_or behind (k - length stones) no_want = get_or-append_right stones behind k no_want other in
             let below : k - length stones < length behind = omega (arith, length-append stones behind) in
             ap (λ (w : Want). w.empty) late ∙ behind-kind (k - length stones) no_want below
       ];
     }
+
+    -- before the others each is of a stone
+    pub AreStonesTo-parted : (to : ℕ) → to ≡ length stones → AreStonesTo to (stones ++ behind)
+    AreStonesTo-parted to is k lt =
+        let below : k < length stones = omega (arith, lt, is) in
+        subst IsOfStone (sym (get_or_append_left stones behind no_want k below)) (parted.stones.kind k no_want below)
 
     -- behind the stones and those that may be one each is of an empty point alone
     pub AreEmptiesFrom-parted : (from : ℕ) → from ≡ length stones + length mixed → AreEmptiesFrom from (stones ++ behind)
@@ -271,7 +278,7 @@ the_classes shape grids = record { shape = shape; grids = grids }
 module _ (shape : Shape) (grids : List Grid) where
   -- the range has the wants of a class
   abbrev HasClass : ℕ → List Want → WantRange → Type 0
-  HasClass k wants range = AreClassWants shape (grid_at grids k) (range.empties - range.start) (wants_in wants range)
+  HasClass k wants range = AreClassWants shape (grid_at grids k) (range.mixed - range.start) (range.empties - range.start) (wants_in wants range)
 
   pub HaveWantsTo-start : (ranges : List WantRange) (wants : List Want) → ranges ≡ [] → HaveWantsTo shape grids 0 ranges wants
   HaveWantsTo-start ranges wants none = record {
@@ -280,39 +287,38 @@ module _ (shape : Shape) (grids : List Grid) where
     each = λ k d lt. absurd (omega arith);
   }
 
-  pub HaveWantsTo-more : (n : ℕ) (ranges later : List WantRange) (wants now : List Want) (range : WantRange) → HaveWantsTo shape grids n ranges wants → IsClassAdded shape (grid_at grids n) range.empties wants now →
-      range.start ≡ length wants → range.end ≡ length now → later ≡ ranges ++ range ∷ [] → HaveWantsTo shape grids (n + 1) later now
-  HaveWantsTo-more n ranges later wants now range have class from to pushed =
+  pub HaveWantsTo-more : (n : ℕ) (ranges later : List WantRange) (wants now : List Want) (range : WantRange) → HaveWantsTo shape grids n ranges wants → IsClassAdded shape (grid_at grids n) range wants now → later ≡ ranges ++ range ∷ [] → HaveWantsTo shape grids (n + 1) later now
+  HaveWantsTo-more n ranges later wants now range have class pushed =
+      let from : range.start ≡ length wants = class.start in
+      let to : range.end ≡ length now = class.end in
       let more : List Want = class.more in
       let added : now ≡ wants ++ more = class.added in
       let longer : length now ≡ length wants + length more = ap length added ∙ length-append wants more in
-      let kept : All (IsRangeOf now) ranges = All-weaker (IsRangeOf wants) (IsRangeOf now) (λ r w. record { ordered = w.ordered; within = w.within; ends = omega (arith, w.ends) }) ranges have.within in
+      let kept : All (IsRangeOf now) ranges = All-weaker (IsRangeOf wants) (IsRangeOf now) (λ r w. record { ordered = w.ordered; stones = w.stones; within = w.within; ends = omega (arith, w.ends) }) ranges have.within in
       record {
         count = ap length pushed ∙ length_push ranges range ∙ ap (λ (i : ℕ). i + 1) have.count;
-        within = subst (All (IsRangeOf now)) (sym pushed) (All-push (IsRangeOf now) ranges range kept (record { ordered = omega (arith, class.behind); within = omega (arith, class.behind, class.wants.within, longer); ends = omega arith }));
+        within = subst (All (IsRangeOf now)) (sym pushed) (All-push (IsRangeOf now) ranges range kept (record { ordered = class.behind; stones = class.ordered; within = omega (arith, class.behind, class.ordered, class.wants.within, longer, from, to); ends = omega (arith, to) }));
         each = λ k d lt. subst (λ (rs : List WantRange). HasClass k now (get_or rs k d)) (sym pushed) (elim (cases_lt k n) [
           | inl below ↦
               let same : get_or (ranges ++ range ∷ []) k d ≡ get_or ranges k d = get_or_append_left ranges (range ∷ []) d k (omega (arith, have.count)) in
               let here : wants_in now (get_or ranges k d) ≡ wants_in wants (get_or ranges k d) =
               ap (λ (ws : List Want). wants_in ws (get_or ranges k d)) added
               ∙ sym (wants_in-kept wants more (get_or ranges k d) (have.within k d (omega (arith, have.count)))) in
-              subst (HasClass k now) (sym same) (subst (AreClassWants shape (grid_at grids k) ((get_or ranges k d).empties - (get_or ranges k d).start)) (sym here) (have.each k d below))
+              subst (HasClass k now) (sym same) (subst (AreClassWants shape (grid_at grids k) ((get_or ranges k d).mixed - (get_or ranges k d).start) ((get_or ranges k d).empties - (get_or ranges k d).start)) (sym here) (have.each k d below))
           | inr last ↦
               let here : n ≡ k = omega arith in
               let at : get_or (ranges ++ range ∷ []) k d ≡ range = get_or_push ranges range d k (have.count ∙ here) in
               let last_wants : wants_in now range ≡ more =
               ap (λ (ws : List Want). wants_in ws range) added ∙ wants_in-last wants more range from (to ∙ ap length added) in
-              let start : range.empties - length wants ≡ range.empties - range.start = ap (λ (i : ℕ). range.empties - i) (sym from) in
-              subst (HasClass k now) (sym at) (subst (AreClassWants shape (grid_at grids k) (range.empties - range.start)) (sym last_wants)
-              (subst (λ (i : ℕ). AreClassWants shape (grid_at grids i) (range.empties - range.start) more) here
-              (subst (λ (i : ℕ). AreClassWants shape (grid_at grids n) i more) start class.wants)))
+              subst (HasClass k now) (sym at) (subst (AreClassWants shape (grid_at grids k) (range.mixed - range.start) (range.empties - range.start)) (sym last_wants)
+              (subst (λ (i : ℕ). AreClassWants shape (grid_at grids i) (range.mixed - range.start) (range.empties - range.start) more) here class.wants))
         ]);
       }
 
 -- the wants of a class, as they are read
 pub wants-read : (shape : Shape) (grids : List Grid) (seen : ClassesOn) (ranges : List WantRange) (wants read : List Want) (k : ℕ) (range : WantRange) → the_classes shape grids ≡ seen → HaveWantsTo shape grids (length grids) ranges wants → k < length seen.grids →
-    range ≡ get_or ranges k range → read ≡ wants → AreClassWants seen.shape (grid_at seen.grids k) (range.empties - range.start) (slice_range read range.start range.end)
+    range ≡ get_or ranges k range → read ≡ wants → AreClassWants seen.shape (grid_at seen.grids k) (range.mixed - range.start) (range.empties - range.start) (slice_range read range.start range.end)
 wants-read shape grids seen ranges wants read k range is have lt at same =
-    subst (λ (s : ClassesOn). k < length s.grids → AreClassWants s.shape (grid_at s.grids k) (range.empties - range.start) (slice_range read range.start range.end)) is
-    (λ below. subst (λ (ws : List Want). AreClassWants shape (grid_at grids k) (range.empties - range.start) (slice_range ws range.start range.end)) (sym same)
-    (subst (λ (r : WantRange). AreClassWants shape (grid_at grids k) (r.empties - r.start) (wants_in wants r)) (sym at) (have.each k range below))) lt
+    subst (λ (s : ClassesOn). k < length s.grids → AreClassWants s.shape (grid_at s.grids k) (range.mixed - range.start) (range.empties - range.start) (slice_range read range.start range.end)) is
+    (λ below. subst (λ (ws : List Want). AreClassWants shape (grid_at grids k) (range.mixed - range.start) (range.empties - range.start) (slice_range ws range.start range.end)) (sym same)
+    (subst (λ (r : WantRange). AreClassWants shape (grid_at grids k) (r.mixed - r.start) (r.empties - r.start) (wants_in wants r)) (sym at) (have.each k range below))) lt

@@ -4,13 +4,15 @@ pub mod Stretches
 pub mod Wants
 -- Definitions of private functions.
 pub mod Begins
-pub mod Bounds
 pub mod Branches
 pub mod Building
 pub mod Finding
+pub mod Hulls
 pub mod Links
 pub mod Lists
+pub mod Narrowing
 pub mod Packing
 pub mod Runs
 pub mod Seen
 pub mod StoredWants
+pub mod Times

@@ -1,13 +1,16 @@
--- The words of points and the lists of their runs: definitions for the private functions.
-use Rattle.std.specs.Prelude.{◌≡◌, ℕ, ◌-◌, ◌/◌, ◌%◌, ◌<◌, ◌≤◌, ◌==◌, nat_le, Bool, IsTrue, List, [], ◌∷◌, if◌then◌else◌, length, slice_index_or, slice_range}
-use Rattle.kb_geometry.specs.declared.stone.Cell.TheVariants as stone
+-- The lists of runs, and the runs that words tell: definitions for the private functions.
+use Rattle.std.specs.Prelude.{◌≡◌, ℕ, ◌-◌, ◌<◌, ◌≤◌, ◌==◌, IsTrue, List, [], ◌∷◌, if◌then◌else◌, length, slice_index_or, slice_range}
+use Rattle.kb_geometry.specs.declared.stone.Colour.{Colour}
+use Rattle.kb_geometry.specs.Capture.{stone_of}
 use Rattle.capture_index.specs.declared.run.Run.{Run}
+use Rattle.capture_index.specs.declared.time.PackedTime.{PackedTime}
 use Rattle.capture_index.specs.declared.time.Time.{Time}
-use Rattle.capture_index.specs.declared.time.TheConstants.{MANY}
+use Rattle.capture_index.specs.declared.time.Time.TheVariants as time
 use Rattle.capture_index.specs.declared.stretch.Stretch.{Stretch}
 use Rattle.capture_index.specs.declared.stretch.Want.{Want}
 use Rattle.capture_index.specs.Runs.{cell_by}
 use Rattle.capture_index.specs.Stretches.{IsWithin, is_wanted}
+use Rattle.capture_index.specs.Times.{told_by}
 
 -- the node is in one of the first so many stretches
 abbrev pub IsInFirst : ℕ → List Stretch → ℕ → Type 0
@@ -28,25 +31,29 @@ pub record AreLists (ends : List ℕ) (runs : List Run) : Type 0 where
       (slice_index_or ends k 0 ≤ length runs)
   pub whole : list_start ends (length ends) ≡ length runs
 
--- the word is the number of a list
-abbrev pub is_many : Time → Bool
-is_many time = nat_le MANY time.word
-
 -- the list of the word is there, if it is the number of one
-abbrev pub IsWord : List ℕ → Time → Type 0
-IsWord ends time = MANY ≤ time.word → time.word - MANY < length ends
+abbrev pub IsWord : List ℕ → PackedTime → Type 0
+IsWord ends packed = (list : ℕ) → told_by packed ≡ time.Many list → list < length ends
 
--- the run of a word
-abbrev pub run_of_word : Time → Run
-run_of_word time = record {
-  first = time.word / 2;
-  cell = if (time.word % 2) == 1 then stone.White else stone.Black;
-}
+-- the run that begins where a point has its stone
+abbrev pub stone_run : ℕ → Colour → Run
+stone_run node stone = record { first = node; cell = stone_of stone }
+
+-- the run of a point that has one, if it has no list
+abbrev pub one_run : Time → List Run
+one_run (time.First node stone) = stone_run node stone ∷ []
+one_run (time.Many list) = []
+one_run time.Never = []
+
+-- the runs of a point
+abbrev pub runs_told : List ℕ → List Run → Time → List Run
+runs_told ends runs (time.First node stone) = stone_run node stone ∷ []
+runs_told ends runs (time.Many list) = list_in ends runs list
+runs_told ends runs time.Never = []
 
 -- the runs of a word
-abbrev pub runs_of : List ℕ → List Run → Time → List Run
-runs_of ends runs time =
-    if is_many time then list_in ends runs (time.word - MANY) else run_of_word time ∷ []
+abbrev pub runs_of : List ℕ → List Run → PackedTime → List Run
+runs_of ends runs packed = runs_told ends runs (told_by packed)
 
 -- the cell that these runs tell at a node is wanted
 abbrev pub IsWantedBy : Want → List Run → ℕ → Type 0

@@ -1,6 +1,6 @@
 -- The wants of classes in one list, and how they are added to it: definitions for the private
 -- functions.
-use Rattle.std.specs.Prelude.{◌≡◌, ◌≢◌, ℕ, ◌+◌, ◌-◌, ◌*◌, ◌<◌, ◌≤◌, true, false, List, [], ◌∷◌, ◌++◌, length, slice_index_or, slice_range, All, Any}
+use Rattle.std.specs.Prelude.{◌≡◌, ◌≢◌, ℕ, ◌+◌, ◌-◌, ◌*◌, ◌<◌, ◌≤◌, true, List, [], ◌∷◌, ◌++◌, length, slice_index_or, slice_range, All, Any}
 use Rattle.kb_geometry.specs.declared.shape.Shape.{Shape}
 use Rattle.kb_geometry.specs.Board.{cols_of, rows_of}
 use Rattle.pattern_images.specs.declared.cell.PatternCell.{PatternCell}
@@ -10,7 +10,7 @@ use Rattle.pattern_images.specs.ImageList.{grid_at}
 use Rattle.capture_index.specs.declared.stretch.Want.{Want}
 use Rattle.capture_index.specs.declared.wanted.OtherWants.{OtherWants}
 use Rattle.capture_index.specs.declared.wants.WantRange.{WantRange}
-use Rattle.capture_index.specs.Wants.{AreEmptiesFrom, AreWantsOf, IsOfEmpty, IsWantAt, IsWantIn, IsWantOf}
+use Rattle.capture_index.specs.Wants.{AreEmptiesFrom, AreStonesTo, AreWantsOf, IsOfEmpty, IsOfStone, IsWantAt, IsWantIn, IsWantOf}
 
 -- the wants in the range
 abbrev pub wants_in : List Want → WantRange → List Want
@@ -18,14 +18,19 @@ wants_in wants range = slice_range wants range.start range.end
 
 -- the range lies within the list of wants, and its empty points in it
 pub record IsRangeOf (wants : List Want) (range : WantRange) : Type 0 where
-  pub ordered : range.start ≤ range.empties
+  pub ordered : range.start ≤ range.mixed
+  pub stones : range.mixed ≤ range.empties
   pub within : range.empties ≤ range.end
   pub ends : range.end ≤ length wants
 
--- The wants are those of a rectangle, and from a place on of empty points alone.
-pub record AreClassWants (shape : Shape) (grid : Grid) (from : ℕ) (wants : List Want) : Type 0 where
+-- The wants are those of a rectangle, up to one place of stones alone, and from another on of empty points
+-- alone.
+pub record AreClassWants (shape : Shape) (grid : Grid) (mixed from : ℕ) (wants : List Want)
+    : Type 0 where
   pub are : AreWantsOf shape grid wants
+  pub ordered : mixed ≤ from
   pub within : from ≤ length wants
+  pub stones : AreStonesTo mixed wants
   pub empties : AreEmptiesFrom from wants
 
 -- each of the first so many classes has its wants in a range
@@ -35,6 +40,7 @@ pub record HaveWantsTo (shape : Shape) (grids : List Grid) (n : ℕ) (ranges : L
   pub within : All (IsRangeOf wants) ranges
   pub each : (k : ℕ) (d : WantRange) → k < n →
       AreClassWants shape (grid_at grids k)
+      ((slice_index_or ranges k d).mixed - (slice_index_or ranges k d).start)
       ((slice_index_or ranges k d).empties - (slice_index_or ranges k d).start)
       (wants_in wants (slice_index_or ranges k d))
 
@@ -74,10 +80,6 @@ IsWantPut rank cell offset before after =
     × (after ≡ before ++ want ∷ []))
     × (rank_of cell ≢ rank → after ≡ before)
 
--- the want allows no empty point
-abbrev pub IsOfStone : Want → Type 0
-IsOfStone want = want.empty ≡ false
-
 -- the want allows an empty point
 abbrev pub MayBeEmpty : Want → Type 0
 MayBeEmpty want = want.empty ≡ true
@@ -110,11 +112,14 @@ abbrev pub ArePartedOn : Shape → Grid → ℕ → ℕ → List Want → OtherW
 ArePartedOn shape grid from to stones others stones' others' = (before : List Want) →
     AreParted shape grid from before stones others → AreParted shape grid to before stones' others'
 
--- the list grows by the wants of the class with this rectangle, from `empties` on, counted in the whole
--- list, of empty points alone
-pub record IsClassAdded (shape : Shape) (grid : Grid) (empties : ℕ)
+-- the list grows by the wants of the class with this rectangle, which stand in the range
+pub record IsClassAdded (shape : Shape) (grid : Grid) (range : WantRange)
     (before after : List Want) : Type 0 where
   pub more : List Want
   pub added : after ≡ before ++ more
-  pub behind : length before ≤ empties
-  pub wants : AreClassWants shape grid (empties - length before) more
+  pub start : range.start ≡ length before
+  pub end : range.end ≡ length after
+  pub behind : range.start ≤ range.mixed
+  pub ordered : range.mixed ≤ range.empties
+  pub wants : AreClassWants shape grid (range.mixed - range.start) (range.empties - range.start)
+      more

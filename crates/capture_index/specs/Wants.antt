@@ -1,5 +1,5 @@
 -- What the classes of a query's images ask of points.
-use Rattle.std.specs.Prelude.{◌≡◌, ◌≢◌, ℕ, ◌+◌, ◌*◌, ◌<◌, ◌≤◌, ◌↔◌, IsTrue, false, true, List, length, slice_index_or, All, Any}
+use Rattle.std.specs.Prelude.{◌≡◌, ◌≢◌, ℕ, ◌+◌, ◌*◌, ◌<◌, ◌≤◌, ◌↔◌, IsTrue, false, true, not, List, length, slice_index_or, All, Any}
 use Rattle.kb_geometry.specs.declared.shape.Shape.{Shape}
 use Rattle.kb_geometry.specs.declared.stone.Cell.{Cell}
 use Rattle.kb_geometry.specs.Board.{cols_of, number_of}
@@ -40,6 +40,14 @@ IsWantIn shape grid want =
 abbrev pub AreStonesFirst : List Want → Type 0
 AreStonesFirst wants = (j k : ℕ) → j < k → k < length wants →
     IsTrue (slice_index_or wants j no_want).empty → IsTrue (slice_index_or wants k no_want).empty
+
+-- the want is that of a stone of one colour
+abbrev pub IsOfStone : Want → Type 0
+IsOfStone want = (want.empty ≡ false) × (want.black ≡ not want.white)
+
+-- so is each before the one with this number
+abbrev pub AreStonesTo : ℕ → List Want → Type 0
+AreStonesTo to wants = (k : ℕ) → k < to → IsOfStone (slice_index_or wants k no_want)
 
 -- the want is that of an empty point alone
 abbrev pub IsOfEmpty : Want → Type 0

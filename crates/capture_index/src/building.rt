@@ -9,16 +9,16 @@ ghost use Rattle.capture_board.specs.StoredWalking.{with_old_cells};
 ghost use Rattle.capture_index.specs.Branches.{AreBranchesTo};
 ghost use Rattle.capture_index.specs.Building.{AreBuilt, IsMade};
 ghost use Rattle.capture_index.specs.Finding.{IsRunIndexOf};
-ghost use Rattle.capture_index.specs.Packing.{IsPacked, IsWordOf, IsWordOfRun};
+ghost use Rattle.capture_index.specs.Packing.{IsPacked, IsTimeOfFew, IsTimeOfRun};
 ghost use Rattle.capture_index.specs.Runs.{BeginBy, position_by, runs_at};
 ghost use Rattle.capture_index.specs.Lists.{AreLists};
 
 use crate::growing::{Few, Growing};
 use crate::packed_runs::PackedRuns;
 use crate::run::{Branch, Run};
-use crate::time::{MANY, NEVER, Time};
+use crate::time::{MANY, NEVER, PackedTime, Time};
 use capture_board::NodeDeltas;
-use kb_geometry::{Cell, Change, NoMemory};
+use kb_geometry::{Cell, Change, Colour, NoMemory};
 use std::alloc::Global;
 
 impl PackedRuns {
@@ -143,11 +143,11 @@ fn pack(
 {
     let nodes = deltas.node_count();
     let shape = deltas.shape();
-    let mut times = vec![in alloc; Time::never(); usize::from(shape.count())]?;
+    let mut times = vec![in alloc; Time::Never.packed(); usize::from(shape.count())]?;
     let mut ends = Vec::new(alloc);
     let mut runs = Vec::new(alloc);
     for p in 0..shape.count() {
-        let time = pack_point(growing, nodes, p, &mut ends, &mut runs)?;
+        let time = pack_point(growing, p, &mut ends, &mut runs)?;
         times[usize::from(p)] = time;
     }
     ends.shrink_to_fit();
@@ -166,48 +166,49 @@ fn pack(
 // Packs the runs of a point: in one word where it tells their cells, and else as a list.
 fn pack_point(
     growing: &Growing,
-    nodes: u32,
     point: u16,
     ends: &mut Vec<u32>,
     runs: &mut Vec<Run>,
-) -> Result<Time, NoMemory>
+) -> Result<PackedTime, NoMemory>
     requires point { point < length growing.now }
     requires lists { AreLists ends.old.items runs.old.items }
-    ensures { IfOk result (IsPacked nodes (runs_at growing.now point) ends.old.items runs.old.items
+    ensures { IfOk result (IsPacked (runs_at growing.now point) ends.old.items runs.old.items
         ends.new.items runs.new.items) }
 {
-    match word_of(growing, nodes, point) {
-        Some(time) => Ok(time),
+    match one_time(growing.few(point)) {
+        Some(time) => Ok(time.packed()),
         None => Ok(pack_list(growing, point, ends, runs)?),
     }
 }
 
-// The word that tells the cells of a point, if there is one.
-fn word_of(growing: &Growing, nodes: u32, point: u16) -> Option<Time>
-    requires { point < length growing.now }
-    ensures { IfSome result (IsWordOf nodes (runs_at growing.now point)) }
+// When a point with one run at most has its stone, if a word can tell that.
+fn one_time(few: Few) -> Option<Time>
+    ensures { IfSome result (IsTimeOfFew few) }
 {
-    if nodes > u32::from(NEVER) {
-        return None;
-    }
-    match growing.few(point) {
-        Few::Never => Some(Time::never()),
-        Few::Once(run) => word_of_run(run),
+    match few {
+        Few::Never => Some(Time::Never),
+        Few::Once(run) => time_of_run(run),
         Few::Many => None,
     }
 }
 
-// The word that tells the cells of a point with one run, if there is one.
-fn word_of_run(run: Run) -> Option<Time>
-    ensures { IfSome result (IsWordOfRun run) }
+// When a point with this run alone has its stone, if a word can tell that.
+fn time_of_run(run: Run) -> Option<Time>
+    ensures { IfSome result (IsTimeOfRun run) }
 {
     if run.first >= NEVER {
         return None;
     }
     match run.cell {
         Cell::Empty => None,
-        Cell::Black => Some(Time::once(run.first, false)),
-        Cell::White => Some(Time::once(run.first, true)),
+        Cell::Black => Some(Time::First {
+            node: run.first,
+            stone: Colour::Black,
+        }),
+        Cell::White => Some(Time::First {
+            node: run.first,
+            stone: Colour::White,
+        }),
     }
 }
 
@@ -217,12 +218,11 @@ fn pack_list(
     point: u16,
     ends: &mut Vec<u32>,
     runs: &mut Vec<Run>,
-) -> Result<Time, NoMemory>
+) -> Result<PackedTime, NoMemory>
     requires point { point < length growing.now }
     requires lists { AreLists ends.old.items runs.old.items }
-    ensures { IfOk result (λ time. (nodes : ℕ) →
-        IsPacked nodes (runs_at growing.now point) ends.old.items runs.old.items ends.new.items
-        runs.new.items time) }
+    ensures { IfOk result (IsPacked (runs_at growing.now point) ends.old.items runs.old.items
+        ends.new.items runs.new.items) }
 {
     let list = ends.len();
     if list >= usize::from(MANY) {
@@ -233,5 +233,6 @@ fn pack_list(
         return Err(NoMemory);
     }
     ends.push(runs.len() as u32)?;
-    Ok(Time::many(list as u16))
+    let time = Time::Many { list: list as u16 };
+    Ok(time.packed())
 }

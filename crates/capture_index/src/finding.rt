@@ -1,17 +1,43 @@
 // The nodes at which wanted cells stand.
-ghost use Rattle.std.specs.Prelude.{◌≡◌, ◌+◌, ◌<◌, ◌↔◌, ℕ, [], All, OnErr, OnOk, length};
+ghost use Rattle.std.specs.Prelude.{
+  ◌≡◌,
+  ◌+◌,
+  ◌<◌,
+  ◌↔◌,
+  ℕ,
+  [],
+  All,
+  IfNone,
+  IfSome,
+  OnErr,
+  OnOk,
+  false,
+  length,
+  true,
+};
 ghost use mathlib.Core.List.{IsPrefix};
 ghost use Rattle.capture_index.specs.declared.stretch.Want.{Want};
 ghost use Rattle.kb_geometry.specs.Board.{point_count};
 ghost use Rattle.capture_index.specs.Begins.{AreFalling, HasBegun};
-ghost use Rattle.capture_index.specs.Finding.{AreMet, IsCutAt, IsCutBy, time_at};
+ghost use Rattle.capture_index.specs.Finding.{
+  AreMet,
+  IsCutAt,
+  IsCutBy,
+  is_listed,
+  packed_cell,
+  time_at,
+};
+ghost use Rattle.capture_index.specs.Narrowing.{IsLeftByLists};
+ghost use Rattle.capture_index.specs.Runs.{cell_by};
 ghost use Rattle.capture_index.specs.Stretches.{AreApart, IsIn};
 
 use crate::begins::push_begins;
+use crate::by_lists::Hull;
 use crate::cutting::cut;
 use crate::packed_runs::PackedRuns;
+use crate::run::Run;
 use crate::stretch::{Stretch, Want};
-use crate::time::Time;
+use crate::time::{PackedTime, Time};
 use crate::wants::ClassWants;
 use kb_geometry::NoMemory;
 
@@ -32,16 +58,14 @@ impl PackedRuns {
         ensures refused { OnErr result (found.new.items ≡ []) }
     {
         found.clear();
-        let Some(bounds) = self.bounds(base, class) else {
+        let Some(hull) = self.left(base, class) else {
             return Ok(());
         };
-        let from = bounds.latest / 2;
-        let to = bounds.least / 2;
-        if from >= to {
-            return Ok(());
-        }
-        found.push(Stretch { from, to })?;
-        if bounds.gaps == 0 {
+        found.push(Stretch {
+            from: hull.from,
+            to: hull.to,
+        })?;
+        if !hull.gap {
             return Ok(());
         }
         if let Err(error) = self.cut_all(base, class.wants, found, spare) {
@@ -66,12 +90,44 @@ impl PackedRuns {
         Ok(())
     }
 
+    // What words leave of all nodes, and then lists, as bounds; none, where the wants are met at no node.
+    fn left(&self, base: u16, class: ClassWants) -> Option<Hull>
+        requires { All (λ (w : Want). base + w.offset < point_count self.now.shape)
+            class.wants.now }
+        ensures some { IfSome result (IsLeftByLists self.now base class.entry.wants.now
+            (length class.entry.wants.now)) }
+        ensures none { IfNone result ((n : ℕ) → n < self.now.nodes →
+            ¬ AreMet self.now base class.entry.wants.now n) }
+    {
+        let Some(left) = self.left_by_words(base, class) else {
+            return None;
+        };
+        if left.nodes.from >= left.nodes.to {
+            return None;
+        }
+        self.left_by_lists(base, class.wants, left)
+    }
+
     // The word of the point so far behind base.
-    pub(crate) fn time_of(&self, base: u16, offset: u16) -> Time
+    pub(crate) fn time_of(&self, base: u16, offset: u16) -> PackedTime
         requires { base + offset < point_count self.now.shape }
         ensures { result ≡ time_at self.now (base + offset) }
     {
         self.times[usize::from(base) + usize::from(offset)]
+    }
+
+    // The runs of the point so far behind base, if it has a list of them.
+    pub(crate) fn listed(&self, base: u16, offset: u16) -> Option<&[Run]>
+        requires { base + offset < point_count self.now.shape }
+        ensures some { IfSome result (λ runs. is_listed self.now (base + offset) ≡ true
+            × ((n : ℕ) → cell_by runs.now n ≡ packed_cell self.now (base + offset) n)) }
+        ensures none { IfNone result (is_listed self.now (base + offset) ≡ false) }
+    {
+        match self.time_of(base, offset).unpack() {
+            Time::First { node: _, stone: _ } => None,
+            Time::Many { list } => Some(self.list(list)),
+            Time::Never => None,
+        }
     }
 
     // Cuts the stretches at each wanted point with a list of runs.
@@ -111,11 +167,10 @@ impl PackedRuns {
         ensures nodes { OnOk result (IsCutAt self.now base want found.old.items found.new.items) }
         ensures apart { OnOk result (AreApart 0 self.now.nodes found.new.items) }
     {
-        let time = self.time_of(base, want.offset);
-        if !time.is_many() {
+        let Some(runs) = self.listed(base, want.offset) else {
             return Ok(());
-        }
-        cut(self.list(time.list()), want, found, spare)?;
+        };
+        cut(runs, want, found, spare)?;
         Ok(())
     }
 }

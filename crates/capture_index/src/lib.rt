@@ -5,13 +5,13 @@
 #![tactic(auto)]
 
 mod begins;
-mod bounds;
 mod branches;
 mod building;
+mod by_lists;
+mod by_words;
 mod cutting;
 mod finding;
 mod growing;
-mod hull;
 mod laws;
 mod node_cells;
 mod nodes_where;
@@ -22,7 +22,6 @@ mod stretch;
 mod time;
 mod wanted;
 mod wants;
-mod word_bounds;
 
 pub use laws::{
     a_placement_holds_where_its_wants_are_met, nodes_where_the_parent_has_another_cell,

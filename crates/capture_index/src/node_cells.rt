@@ -2,14 +2,14 @@
 ghost use Rattle.std.specs.Prelude.{◌≡◌, ◌+◌, ◌<◌, [], ◌∷◌};
 ghost use Rattle.kb_geometry.specs.Board.{point_count};
 ghost use Rattle.capture_index.specs.Finding.{packed_cell};
-ghost use Rattle.capture_index.specs.Lists.{run_of_word};
+ghost use Rattle.capture_index.specs.Lists.{stone_run};
 ghost use Rattle.capture_index.specs.Runs.{cell_by};
 ghost use Rattle.capture_index.specs.Seen.{StaysTo};
 
 use crate::packed_runs::PackedRuns;
 use crate::run::Run;
-use crate::time::Time;
-use kb_geometry::Cell;
+use crate::time::{Time, cell_of};
+use kb_geometry::{Cell, Colour};
 
 impl PackedRuns {
     // The cell of a point at a node.
@@ -17,11 +17,10 @@ impl PackedRuns {
         requires { point < point_count self.now.shape }
         ensures { result ≡ packed_cell self.now point node }
     {
-        let time = self.times[usize::from(point)];
-        if time.is_many() {
-            cell_at(self.list(time.list()), node)
-        } else {
-            cell_at(&[run_of(time)], node)
+        match self.time_of(0, point).unpack() {
+            Time::First { node: first, stone } => cell_at(&[run_of(first, stone)], node),
+            Time::Many { list } => cell_at(self.list(list), node),
+            Time::Never => Cell::Empty,
         }
     }
 
@@ -32,22 +31,21 @@ impl PackedRuns {
         requires before { node < end }
         ensures { StaysTo (packed_cell self.now (base + offset)) end node result }
     {
-        let time = self.time_of(base, offset);
-        if time.is_many() {
-            next_run(self.list(time.list()), node, end)
-        } else {
-            next_of_word(time, node, end)
+        match self.time_of(base, offset).unpack() {
+            Time::First { node: first, stone } => next_of_run(run_of(first, stone), node, end),
+            Time::Many { list } => next_run(self.list(list), node, end),
+            Time::Never => end,
         }
     }
 }
 
-// The run that a word tells.
-fn run_of(time: Time) -> Run
-    ensures { result ≡ run_of_word time }
+// The run that begins where a point has its stone.
+fn run_of(first: u16, stone: Colour) -> Run
+    ensures { result ≡ stone_run first stone }
 {
     Run {
-        first: time.first(),
-        cell: time.stone(),
+        first,
+        cell: cell_of(stone),
     }
 }
 
@@ -63,13 +61,12 @@ fn cell_at(runs: &[Run], node: u32) -> Cell
     Cell::Empty
 }
 
-// The first node of the run that a word tells, if it begins behind the node and before `end`; else
-// `end`.
-fn next_of_word(time: Time, node: u32, end: u32) -> u32
+// The first node of the run, if it begins behind the node and before `end`; else `end`.
+fn next_of_run(run: Run, node: u32, end: u32) -> u32
     requires { node < end }
-    ensures { StaysTo (cell_by (run_of_word time ∷ [])) end node result }
+    ensures { StaysTo (cell_by (run ∷ [])) end node result }
 {
-    let first = u32::from(time.first());
+    let first = u32::from(run.first);
     if first <= node {
         return end;
     }

@@ -6,7 +6,7 @@ ghost use Rattle.capture_index.specs.Branches.{AreAscending};
 ghost use Rattle.capture_index.specs.Lists.{AreLists, IsWord, list_in, list_start};
 
 use crate::run::{Branch, Run};
-use crate::time::Time;
+use crate::time::PackedTime;
 use kb_geometry::Shape;
 
 // For each point of a game the runs of nodes with one cell, in order of the text: a word where it
@@ -15,7 +15,7 @@ use kb_geometry::Shape;
 pub(crate) struct PackedRuns {
     pub(crate) shape: Shape,
     pub(crate) nodes: u32,
-    pub(crate) times: Vec<Time>,
+    pub(crate) times: Vec<PackedTime>,
     // Where the list with each number ends; each begins where the one before ends.
     pub(crate) ends: Vec<u32>,
     // The lists one behind the other, each with the latest run first.

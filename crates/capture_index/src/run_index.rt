@@ -172,6 +172,7 @@ impl RunIndex {
         ensures begun { OnOk result ((x : ℕ) → Contains nodes.new.items x ↔
             (Contains nodes.old.items x ⊎ BeginsIn self.now stretches.now x)) }
         ensures kept { IsPrefix nodes.old.items nodes.new.items }
+        ensures most { count_in self.now ≤ 65536 }
     {
         self.packed.push_begins(stretches, nodes)?;
         Ok(())

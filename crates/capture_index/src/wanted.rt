@@ -12,6 +12,7 @@ ghost use Rattle.capture_index.specs.StoredWants.{
 ghost use Rattle.capture_index.specs.Wants.{IsWantOf};
 
 use crate::stretch::Want;
+use crate::wants::WantRange;
 use kb_geometry::{NoMemory, Shape};
 use pattern_images::{Images, PatternCell};
 
@@ -32,18 +33,19 @@ pub(crate) struct OtherWants {
     pub(crate) empties: Vec<Want>,
 }
 
-// Adds the wants of a class, and tells where in the list those of empty points alone begin. `others`
-// is room, which is written over.
+// Adds the wants of a class, and tells where they stand in the list. `others` is room, which is written
+// over.
 pub(crate) fn add_wants(
     images: &Images,
     class: usize,
     wants: &mut Vec<Want>,
     others: &mut OtherWants,
-) -> Result<usize, NoMemory>
+) -> Result<WantRange, NoMemory>
     requires { class < length images.now.grids }
-    ensures { IfOk result (λ empties. IsClassAdded images.now.shape
-        (grid_at images.now.grids class) empties wants.old.items wants.new.items) }
+    ensures { IfOk result (λ range. IsClassAdded images.now.shape
+        (grid_at images.now.grids class) range wants.old.items wants.new.items) }
 {
+    let start = wants.len();
     others.mixed.clear();
     others.empties.clear();
     let size = images.class_size(class);
@@ -51,10 +53,16 @@ pub(crate) fn add_wants(
     for y in 0..size.rows() {
         add_row(images.shape(), size, cells, y, wants, others)?;
     }
+    let mixed = wants.len();
     wants.extend_from_slice(&others.mixed)?;
     let empties = wants.len();
     wants.extend_from_slice(&others.empties)?;
-    Ok(empties)
+    Ok(WantRange {
+        start,
+        mixed,
+        empties,
+        end: wants.len(),
+    })
 }
 
 // Adds the wants of the cells in a row of a rectangle: of those that must be a stone to the list,

@@ -1,7 +1,7 @@
 // What the classes of a query's images ask of points.
 ghost use Rattle.std.specs.Prelude.{◌≡◌, ◌<◌, ◌≤◌, IfOk, IsTrue, length};
 ghost use Rattle.pattern_images.specs.ImageList.{grid_at};
-ghost use Rattle.capture_index.specs.Wants.{AreEmptiesFrom, IsOfEmpty};
+ghost use Rattle.capture_index.specs.Wants.{AreEmptiesFrom, AreStonesTo, IsOfEmpty, IsOfStone};
 
 use crate::stretch::Want;
 use crate::wanted::{OtherWants, add_wants};
@@ -12,15 +12,20 @@ use std::marker::Model;
 
 /// What a class asks of points.
 ///
-/// How many of the wants at the end are of empty points alone is known too, since
-/// [`RunIndex::find`](crate::RunIndex::find) takes the least for these.
+/// How many of the wants at the beginning are of stones of one colour, and how many at the end of empty
+/// points alone, is known too, since [`RunIndex::find`](crate::RunIndex::find) goes over each of these kinds
+/// by itself.
 #[derive(Clone, Copy, Debug)]
 pub struct ClassWants<'a> {
     /// What is asked of points, in any order.
     pub wants: &'a [Want],
+    // Each before this one is of a stone of one colour.
+    pub(crate) mixed: usize,
     // From this one on each is of an empty point alone.
     pub(crate) empties: usize,
+    pub(crate) ghost ordered: { mixed ≤ empties },
     pub(crate) ghost within: { empties ≤ length wants.now },
+    pub(crate) ghost stones: { AreStonesTo mixed wants.now },
     pub(crate) ghost tail: { AreEmptiesFrom empties wants.now },
 }
 
@@ -33,8 +38,35 @@ impl<'a> ClassWants<'a> {
         while empties > 0 && is_of_empty(wants[empties - 1]) {
             empties -= 1;
         }
-        ClassWants { wants, empties }
+        let mixed = stones_before(wants, empties);
+        ClassWants {
+            wants,
+            mixed,
+            empties,
+        }
     }
+}
+
+// How many of the wants before the one with number `end` stand before all that aren't of a stone of one
+// colour.
+fn stones_before(wants: &[Want], end: usize) -> usize
+    requires { end ≤ length wants.now }
+    ensures most { result ≤ end }
+    ensures stones { AreStonesTo result wants.now }
+{
+    for k in 0..end {
+        if !is_of_stone(wants[k]) {
+            return k;
+        }
+    }
+    end
+}
+
+// Whether a want is of a stone of one colour.
+fn is_of_stone(want: Want) -> bool
+    ensures { IsTrue result → IsOfStone want }
+{
+    !want.empty && want.black != want.white
 }
 
 // Whether a want is of an empty point alone.
@@ -56,13 +88,14 @@ pub struct Wants<'a> {
     wants: Vec<Want>,
 }
 
-// Where the wants of a class stand in the list of all wants, and where those of empty points alone
-// begin.
+// Where the wants of a class stand in the list of all wants: first those of stones, then from `mixed`
+// on, and those of empty points alone from `empties` on.
 #[derive(Clone, Copy, Debug)]
-struct WantRange {
-    start: usize,
-    empties: usize,
-    end: usize,
+pub(crate) struct WantRange {
+    pub(crate) start: usize,
+    pub(crate) mixed: usize,
+    pub(crate) empties: usize,
+    pub(crate) end: usize,
 }
 
 // At most as many wants as the classes have cells. All have as many cells, since they are one pattern
@@ -107,13 +140,8 @@ impl<'a> Wants<'a> {
             empties: Vec::new(alloc),
         };
         for class in 0..count {
-            let start = wants.len();
-            let empties = add_wants(images, class, &mut wants, &mut others)?;
-            ranges.push(WantRange {
-                start,
-                empties,
-                end: wants.len(),
-            })?;
+            let range = add_wants(images, class, &mut wants, &mut others)?;
+            ranges.push(range)?;
         }
         Ok(Wants {
             images,
@@ -129,11 +157,13 @@ impl<'a> Wants<'a> {
     {
         let WantRange {
             start,
+            mixed,
             empties,
             end,
         } = self.ranges[class];
         ClassWants {
             wants: &self.wants[start..end],
+            mixed: mixed - start,
             empties: empties - start,
         }
     }

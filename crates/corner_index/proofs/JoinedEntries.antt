@@ -1,10 +1,10 @@
 -- Two ordered lists of entries joined to one.
-use Rattle.std.proofs.Common.{◌≡◌, ℕ, ◌+◌, ◌<◌, ◌≤◌, ◌⊎◌, ◌↔◌, Bool, IsFalse, IsTrue, List, [], ◌∷◌, ◌++◌, length, get_or, replicate, refl, sym, ap, ◌∙◌, subst, arith, inl, inr}
+use Rattle.std.proofs.Common.{◌≡◌, ℕ, ◌+◌, ◌<◌, ◌≤◌, ◌⊎◌, ◌↔◌, Bool, IsFalse, IsTrue, List, [], ◌∷◌, ◌++◌, length, get_or, replicate, set, take, take_all, refl, sym, ap, ◌∙◌, subst, subst₂, arith, inl, inr}
 use Rattle.std.specs.Prelude.{Contains}
 use Rattle.std.specs.List.Sorted.{IsStrictlyIncreasing}
 use Rattle.std.proofs.Math.Seq.{get_or-append_seam}
 use Rattle.std.proofs.lemmas.Bool.{cases_lt}
-use Rattle.std.proofs.lemmas.List.{get_or-replicate, get_or_append_left, get_or_default, length-append, length-replicate}
+use Rattle.std.proofs.lemmas.List.{get_or-replicate, get_or_append_left, get_or_default, length-append, length-replicate, length-set, take_more_set}
 use Rattle.std.proofs.lemmas.List.Kept.{AllPairs-from_increasing}
 use Rattle.corner_index.specs.CornerGames.{AreBelow, AreEntriesOfBoth, entry}
 use Rattle.corner_index.specs.Entries.{AreAllBelow, AreListsJoined, AreOrdered, StandsBelow, entries_of}
@@ -213,6 +213,46 @@ module _ (a_keys a_games b_keys b_games : List ℕ) (first : ℕ) where
       let i_is : i ≡ length a_keys = omega (arith, all, are.a_most, are.b_most) in
       let j_is : j ≡ length b_keys = omega (arith, all, are.a_most, are.b_most) in
       rw (← i_is, ← j_is) are.exact
+
+-- The first entries of both lists are joined, in lists that have room for all.
+pub record IsJoinedIn (a_keys a_games b_keys b_games : List ℕ) (first i j at count : ℕ) (keys games : List ℕ) : Type 0 where
+  pub joined : IsJoinedTo a_keys a_games b_keys b_games first i j (take at keys) (take at games)
+  pub so_many : i + j ≡ at
+  pub keys_count : length keys ≡ count
+  pub games_count : length games ≡ count
+
+pub IsJoinedIn-start : (a_keys a_games b_keys b_games : List ℕ) (first count : ℕ) (keys games : List ℕ) → length keys ≡ count → length games ≡ count → IsJoinedIn a_keys a_games b_keys b_games first 0 0 0 count keys games
+IsJoinedIn-start a_keys a_games b_keys b_games first count keys games keys_count games_count = record {
+  joined = IsJoinedTo-start a_keys a_games b_keys b_games first;
+  so_many = refl;
+  keys_count = keys_count;
+  games_count = games_count;
+}
+
+pub IsJoinedIn-first : (a_keys a_games b_keys b_games : List ℕ) (first : ℕ) → AreOrdered a_keys a_games → AreOrdered b_keys b_games → AreAllBelow a_games first → (i j at count : ℕ) (keys games : List ℕ) → IsJoinedIn a_keys a_games b_keys b_games first i j at count keys games → at < count
+    → (key game : ℕ) → key ≡ get_or a_keys i 0 → game ≡ get_or a_games i 0 → i < length a_keys → (j < length b_keys → get_or a_keys i 0 ≤ get_or b_keys j 0) → IsJoinedIn a_keys a_games b_keys b_games first (i + 1) j (at + 1) count (set keys at key) (set games at game)
+IsJoinedIn-first a_keys a_games b_keys b_games first a_ordered b_ordered below i j at count keys games are left key game key_is game_is some least = record {
+  joined = subst₂ (λ (ks gs : List ℕ). IsJoinedTo a_keys a_games b_keys b_games first (i + 1) j ks gs) (sym (take_more_set keys at key (omega (arith, left, are.keys_count)))) (sym (take_more_set games at game (omega (arith, left, are.games_count))))
+      (IsJoinedTo-first a_keys a_games b_keys b_games first a_ordered b_ordered below i j (take at keys) (take at games) are.joined key game key_is game_is some least);
+  so_many = omega (arith, are.so_many);
+  keys_count = length-set keys at key ∙ are.keys_count;
+  games_count = length-set games at game ∙ are.games_count;
+}
+
+pub IsJoinedIn-second : (a_keys a_games b_keys b_games : List ℕ) (first : ℕ) → AreOrdered a_keys a_games → AreOrdered b_keys b_games → AreAllBelow a_games first → (i j at count : ℕ) (keys games : List ℕ) → IsJoinedIn a_keys a_games b_keys b_games first i j at count keys games → at < count
+    → (key game : ℕ) → key ≡ get_or b_keys j 0 → game ≡ first + get_or b_games j 0 → j < length b_keys → (i < length a_keys → get_or b_keys j 0 < get_or a_keys i 0) → IsJoinedIn a_keys a_games b_keys b_games first i (j + 1) (at + 1) count (set keys at key) (set games at game)
+IsJoinedIn-second a_keys a_games b_keys b_games first a_ordered b_ordered below i j at count keys games are left key game key_is game_is some least = record {
+  joined = subst₂ (λ (ks gs : List ℕ). IsJoinedTo a_keys a_games b_keys b_games first i (j + 1) ks gs) (sym (take_more_set keys at key (omega (arith, left, are.keys_count)))) (sym (take_more_set games at game (omega (arith, left, are.games_count))))
+      (IsJoinedTo-second a_keys a_games b_keys b_games first a_ordered b_ordered below i j (take at keys) (take at games) are.joined key game key_is game_is some least);
+  so_many = omega (arith, are.so_many);
+  keys_count = length-set keys at key ∙ are.keys_count;
+  games_count = length-set games at game ∙ are.games_count;
+}
+
+-- when the lists are full
+pub IsJoinedIn-whole : (a_keys a_games b_keys b_games : List ℕ) (first i j at count : ℕ) (keys games : List ℕ) → IsJoinedIn a_keys a_games b_keys b_games first i j at count keys games → count ≤ at → IsJoinedTo a_keys a_games b_keys b_games first i j keys games
+IsJoinedIn-whole a_keys a_games b_keys b_games first i j at count keys games are all =
+    subst₂ (λ (ks gs : List ℕ). IsJoinedTo a_keys a_games b_keys b_games first i j ks gs) (take_all at keys (omega (arith, all, are.keys_count))) (take_all at games (omega (arith, all, are.games_count))) are.joined
 
 -- ---- seen as entries
 

@@ -1,11 +1,11 @@
 -- The numbers of a corner at the nodes of a game.
-use Rattle.std.proofs.Common.{◌≡◌, ℕ, ◌+◌, ◌<◌, ◌≤◌, List, [], ◌∷◌, ◌++◌, length, get_or, set, take, Some, None, sym, ◌∙◌, ap, subst, arith}
+use Rattle.std.proofs.Common.{◌≡◌, ℕ, zero, suc, ◌+◌, ◌<◌, ◌≤◌, List, [], ◌∷◌, ◌++◌, length, get_or, map, set, take, Some, None, sym, ◌∙◌, ap, subst, arith}
 use Rattle.std.specs.Prelude.{Contains, IsPermutation, eqb}
 use Rattle.std.specs.List.{dedup}
 use Rattle.std.specs.List.Sorted.{IsSorted, IsStrictlyIncreasing}
 use Rattle.std.specs.List.Retain.{DiffersFromLast, IsFiltered}
 use Rattle.std.specs.Ordering.{nat_cmp}
-use Rattle.std.proofs.lemmas.List.{get_or-take, get_or_default, length-take-le, take_all, take_more}
+use Rattle.std.proofs.lemmas.List.{get_or-map, get_or-take, get_or_default, length-map, length-take-le, map-append, take_all, take_more}
 use Rattle.std.proofs.lemmas.List.Filters.{dedup_is}
 use Rattle.std.proofs.lemmas.List.FromFn.{get_or-map-range_with_len, length-map-range_with_len, map-range_with_len_more}
 use Rattle.std.proofs.lemmas.List.Kept.{Contains-dedup_nat, Contains-from_dedup}
@@ -21,7 +21,8 @@ use Rattle.capture_board.proofs.DeltaPaths.{position_at-step}
 use Rattle.capture_board.proofs.MadeChanges.{length-with_changes, with_changes-append}
 use Rattle.capture_board.proofs.NetChanges.{IsUnchangedOn, with_changes-unchanged}
 use Rattle.corner_index.specs.Corners.{HasCorners, corner_number}
-use Rattle.corner_index.specs.Keys.{AreNumbersOf, StandsBefore, numbers_to}
+use Rattle.corner_index.specs.declared.numbers.CornerNumbers.{CornerNumbers}
+use Rattle.corner_index.specs.Keys.{AreNumbersOf, AreNumbersOn, AreNumbersTo, StandBefore, StandsBefore, number_in, numbers_to, of_corner}
 use Rattle.corner_index.proofs.CornerNumbers.{corner_number-empty}
 
 -- ---- above a node
@@ -77,9 +78,9 @@ module _ (before : Position) (cs : List Change) (changes : AreChangesOf before c
         let on : change.point < length before = changes.on_board i d lt in
         omega (arith, on, count)
 
-    pub number-more : (next : ℕ) → ((p : Position) → StandsBefore corner shape number change p → next ≡ corner_number corner shape (set p change.point change.new)) → next ≡ corner_number corner shape (with_changes before (take (i + 1) cs))
+    pub number-more : (next : ℕ) → next ≡ corner_number corner shape (set (with_changes before (take i cs)) change.point change.new) → next ≡ corner_number corner shape (with_changes before (take (i + 1) cs))
     number-more next made =
-        made (with_changes before (take i cs)) stands_before
+        made
         ∙ ap (corner_number corner shape) (sym (ap (with_changes before) (take_more cs i d lt) ∙ with_changes-append before (take i cs) (change ∷ [])))
 
 -- the number at a node, when all its changes are made
@@ -89,6 +90,46 @@ number-end deltas are n corner shape number i cs same is all made =
     ∙ ap (λ (s : Shape). corner_number corner s (with_changes (position_where deltas (parent_of deltas n)) (take i cs))) same
     ∙ ap (λ (ds : List Change). corner_number corner deltas.shape (with_changes (position_where deltas (parent_of deltas n)) ds)) (take_all i cs all ∙ is)
     ∙ ap (corner_number corner deltas.shape) (sym (position_at-step deltas are n))
+
+-- ---- all corners at once
+
+-- what holds of each of the four numbers
+pub each_of_four : (P : ℕ → ℕ → Type 0) (numbers : CornerNumbers) → P 0 numbers.upper_left → P 1 numbers.upper_right → P 2 numbers.lower_left → P 3 numbers.lower_right → (corner : ℕ) → corner < 4 → P corner (number_in corner numbers)
+each_of_four P numbers a b c d zero lt = a
+each_of_four P numbers a b c d (suc zero) lt = b
+each_of_four P numbers a b c d (suc (suc zero)) lt = c
+each_of_four P numbers a b c d (suc (suc (suc zero))) lt = d
+each_of_four P numbers a b c d (suc (suc (suc (suc k)))) lt = absurd (omega arith)
+
+pub one_stands : (shape : Shape) (numbers : CornerNumbers) (change : Change) (p : Position) → StandBefore shape numbers change p → (corner : ℕ) → corner < 4 → StandsBefore corner shape (number_in corner numbers) change p
+one_stands shape numbers _ p stand corner lt = record { count = stand.count; old = stand.old; is = stand.are corner lt }
+
+module _ (before : Position) (cs : List Change) (changes : AreChangesOf before cs) (i : ℕ) (d : Change) (lt : i < length cs) (shape : Shape) (numbers : CornerNumbers) (count : length before ≡ point_count shape) (are : AreNumbersOn shape (with_changes before (take i cs)) numbers) where
+  pub stand_before : StandBefore shape numbers (get_or cs i d) (with_changes before (take i cs))
+  stand_before =
+      let one = stands_before before cs changes i d lt 0 shape (number_in 0 numbers) count (are 0 (omega arith)) in
+      record { count = one.count; old = one.old; are = are }
+
+  pub next_on_board : (get_or cs i d).point < point_count shape
+  next_on_board = point_on_board before cs changes i d lt 0 shape (number_in 0 numbers) count (are 0 (omega arith))
+
+  pub numbers-more : (next : CornerNumbers) → ((p : Position) → StandBefore shape numbers (get_or cs i d) p → AreNumbersOn shape (set p (get_or cs i d).point (get_or cs i d).new) next) → AreNumbersOn shape (with_changes before (take (i + 1) cs)) next
+  numbers-more next made corner few =
+      number-more before cs changes i d lt corner shape (number_in corner numbers) count (are corner few) (number_in corner next) (made (with_changes before (take i cs)) stand_before corner few)
+
+-- the numbers of one corner, with those of one node more
+pub of_corner-pushed : (corner : ℕ) (nodes more : List CornerNumbers) (numbers : CornerNumbers) → more ≡ nodes ++ numbers ∷ [] → of_corner corner more ≡ of_corner corner nodes ++ number_in corner numbers ∷ []
+of_corner-pushed corner nodes more numbers e = ap (map (number_in corner)) e ∙ map-append (number_in corner) nodes (numbers ∷ [])
+
+pub of_corner-more : (corner : ℕ) (nodes : List CornerNumbers) (i : ℕ) (d : CornerNumbers) → i < length nodes → of_corner corner (take (i + 1) nodes) ≡ of_corner corner (take i nodes) ++ number_in corner (get_or nodes i d) ∷ []
+of_corner-more corner nodes i d lt = of_corner-pushed corner (take i nodes) (take (i + 1) nodes) (get_or nodes i d) (take_more nodes i d lt)
+
+-- the number of a corner at a node
+pub of_corner-at : (corner : ℕ) (nodes : List CornerNumbers) (i : ℕ) (d : CornerNumbers) → i < length nodes → get_or (of_corner corner nodes) i 0 ≡ number_in corner (get_or nodes i d)
+of_corner-at corner nodes i d lt = get_or-map (number_in corner) nodes i d 0 lt
+
+pub length-nodes : (deltas : Deltas) (n : ℕ) (nodes : List CornerNumbers) → AreNumbersTo deltas n nodes → length nodes ≡ n
+length-nodes deltas n nodes are = sym (length-map nodes (number_in 0)) ∙ length-numbers_to deltas 0 n (of_corner 0 nodes) (are 0 (omega arith))
 
 -- ---- all numbers, ascending
 module _ (deltas : Deltas) (corner : ℕ) where

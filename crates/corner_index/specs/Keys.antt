@@ -1,5 +1,5 @@
 -- How the numbers of the corners are made and kept: definitions for private functions.
-use Rattle.std.specs.Prelude.{◌≡◌, ℕ, ◌*◌, ◌/◌, ◌%◌, ◌<◌, ◌≤◌, ◌↔◌, List, length, map, slice_index, Contains}
+use Rattle.std.specs.Prelude.{◌≡◌, ℕ, ◌*◌, ◌/◌, ◌%◌, ◌<◌, ◌≤◌, ◌↔◌, ◌==◌, if◌then◌else◌, List, length, map, slice_index, Contains}
 use Rattle.std.specs.List.{range_with_len, between}
 use Rattle.std.specs.List.Sorted.{IsStrictlyIncreasing}
 use Rattle.node_paths.specs.StoredNodes.{part_start}
@@ -8,6 +8,7 @@ use Rattle.kb_geometry.specs.declared.stone.Change.{Change}
 use Rattle.kb_geometry.specs.Board.{point_count}
 use Rattle.kb_geometry.specs.Capture.{Position, cell_at}
 use Rattle.capture_board.specs.Deltas.{Deltas, position_at}
+use Rattle.corner_index.specs.declared.numbers.CornerNumbers.{CornerNumbers}
 use Rattle.corner_index.specs.Corners.{HadNumber, corner_number, point_in_frame}
 
 -- The point on a place of a corner's frame. The places are numbered row by row from 0 to 35.
@@ -25,6 +26,35 @@ pub record StandsBefore (corner : ℕ) (shape : Shape) (number : ℕ) (change : 
 abbrev pub numbers_to : Deltas → ℕ → ℕ → List ℕ
 numbers_to deltas corner count =
     map (λ n. corner_number corner deltas.shape (position_at deltas n)) (range_with_len 0 count)
+
+-- the number of a corner, of those of all corners
+abbrev pub number_in : ℕ → CornerNumbers → ℕ
+number_in corner numbers =
+    if corner == 0 then numbers.upper_left
+    else if corner == 1 then numbers.upper_right
+    else if corner == 2 then numbers.lower_left
+    else numbers.lower_right
+
+-- the numbers of one corner, of those of all corners at nodes
+abbrev pub of_corner : ℕ → List CornerNumbers → List ℕ
+of_corner corner nodes = map (number_in corner) nodes
+
+-- these are the numbers of the corners in this position
+abbrev pub AreNumbersOn : Shape → Position → CornerNumbers → Type 0
+AreNumbersOn shape position numbers = (corner : ℕ) → corner < 4 →
+    number_in corner numbers ≡ corner_number corner shape position
+
+-- these are the numbers of the corners at the first nodes
+abbrev pub AreNumbersTo : Deltas → ℕ → List CornerNumbers → Type 0
+AreNumbersTo deltas count nodes = (corner : ℕ) → corner < 4 →
+    of_corner corner nodes ≡ numbers_to deltas corner count
+
+-- the corners of this position have these numbers, and the change can be made
+pub record StandBefore (shape : Shape) (numbers : CornerNumbers) (change : Change)
+    (position : Position) : Type 0 where
+  pub count : length position ≡ point_count shape
+  pub old : change.old ≡ cell_at position change.point
+  pub are : AreNumbersOn shape position numbers
 
 -- these are the numbers that a corner had
 pub record AreNumbersOf (deltas : Deltas) (corner : ℕ) (keys : List ℕ) : Type 0 where

@@ -5,7 +5,7 @@ ghost use Rattle.node_paths.specs.StoredNodes.{part_start};
 ghost use Rattle.corner_index.specs.Corners.{AreNumbersOfGame, keys_of};
 ghost use Rattle.corner_index.specs.Keys.{end_of};
 
-use crate::numbers::numbers_of;
+use crate::numbers::{numbers_at_nodes, numbers_of};
 use capture_board::NodeDeltas;
 use kb_geometry::NoMemory;
 use std::alloc::Global;
@@ -45,10 +45,11 @@ impl CornerKeys {
     pub fn of(alloc: Global, deltas: &NodeDeltas) -> Result<CornerKeys, NoMemory>
         ensures { IfOk result (AreNumbersOfGame deltas.now) }
     {
+        let nodes = numbers_at_nodes(alloc, deltas)?;
         let mut keys = Vec::new(alloc);
         let mut ends = [0u32; 4];
         for corner in 0..CORNERS {
-            let numbers = numbers_of(alloc, deltas, corner)?;
+            let numbers = numbers_of(alloc, deltas, nodes.as_slice(), corner)?;
             keys.extend_from_slice(&numbers)?;
             ends[usize::from(corner)] = keys.len() as u32;
         }

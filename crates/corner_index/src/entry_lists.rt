@@ -5,13 +5,10 @@ ghost use Rattle.std.specs.Prelude.{
   ◌≤◌,
   ◌+◌,
   ◌-◌,
-  ◌∷◌,
-  ◌++◌,
   [],
   ◌↔◌,
   IfOk,
   IsTrue,
-  OnOk,
   length,
   replicate,
   slice_index,
@@ -38,27 +35,6 @@ impl EntryLists {
             keys: Vec::new(alloc),
             games: Vec::new(alloc),
         }
-    }
-
-    // No entry yet, with room for so many.
-    fn with_capacity(alloc: Global, count: usize) -> Result<EntryLists, NoMemory>
-        ensures keys { IfOk result (λ lists. lists.keys.items ≡ []) }
-        ensures games { IfOk result (λ lists. lists.games.items ≡ []) }
-    {
-        Ok(EntryLists {
-            keys: Vec::with_capacity(alloc, count)?,
-            games: Vec::with_capacity(alloc, count)?,
-        })
-    }
-
-    // One entry more.
-    fn push(&mut self, key: u64, game: u32) -> Result<(), NoMemory>
-        ensures keys { OnOk result (self.new.keys.items ≡ self.old.keys.items ++ key ∷ []) }
-        ensures games { OnOk result (self.new.games.items ≡ self.old.games.items ++ game ∷ []) }
-    {
-        self.keys.push(key)?;
-        self.games.push(game)?;
-        Ok(())
     }
 }
 
@@ -90,19 +66,22 @@ pub(crate) fn joined(
         b.now.keys.items b.now.games.items first all.keys.items all.games.items) }
 {
     let count = a.keys.len() + b.keys.len();
-    let mut all = EntryLists::with_capacity(alloc, count)?;
+    let mut keys = vec![in alloc; 0u64; count]?;
+    let mut games = vec![in alloc; 0u32; count]?;
     let mut i = 0;
     let mut j = 0;
-    while i + j < count {
+    for at in 0..count {
         if takes_first(&a.keys, i, &b.keys, j) {
-            all.push(a.keys[i], a.games[i])?;
+            keys[at] = a.keys[i];
+            games[at] = a.games[i];
             i += 1;
         } else {
-            all.push(b.keys[j], first + b.games[j])?;
+            keys[at] = b.keys[j];
+            games[at] = first + b.games[j];
             j += 1;
         }
     }
-    Ok(all)
+    Ok(EntryLists { keys, games })
 }
 
 // Whether of what is left the first list has the next entry. Where both have the number it has,

@@ -1,11 +1,19 @@
-// The number of a corner at each node, from that at its parent and what the node changes.
+// The numbers of the corners at each node, from those at its parent and what the node changes.
 ghost use Rattle.std.specs.Prelude.{◌≡◌, ◌<◌, ◌↔◌, ℕ, IfOk, IfSome, IsTrue, Some, slice_set};
 ghost use Rattle.kb_geometry.specs.Board.{IsOnBoard, point_count};
 ghost use Rattle.kb_geometry.specs.Capture.{Position};
 ghost use Rattle.kb_geometry.specs.Symmetry.{moved};
 ghost use Rattle.capture_board.specs.Deltas.{node_count, parent_of, position_at, position_where};
 ghost use Rattle.corner_index.specs.Corners.{HasCorners, corner_number, digit_of};
-ghost use Rattle.corner_index.specs.Keys.{AreNumbersOf, StandsBefore, numbers_to, point_on};
+ghost use Rattle.corner_index.specs.Keys.{
+  AreNumbersOf,
+  AreNumbersOn,
+  AreNumbersTo,
+  StandBefore,
+  StandsBefore,
+  of_corner,
+  point_on,
+};
 
 use capture_board::NodeDeltas;
 use kb_geometry::{Cell, Change, NoMemory, Point, Shape};
@@ -14,23 +22,72 @@ use std::alloc::Global;
 // How many columns and rows a corner has.
 const SIDE: u8 = 6;
 
-// The numbers that a corner had, ascending, each once. The only error is `NoMemory`.
+// The numbers of the four corners in a position.
+#[derive(Clone, Copy, Debug)]
+pub(crate) struct CornerNumbers {
+    upper_left: u64,
+    upper_right: u64,
+    lower_left: u64,
+    lower_right: u64,
+}
+
+impl CornerNumbers {
+    ghost use Rattle.std.specs.Prelude.{◌≡◌};
+    ghost use Rattle.corner_index.specs.Keys.{number_in};
+
+    // The number of a corner.
+    fn of(self, corner: u8) -> u64
+        ensures { result ≡ number_in corner self }
+    {
+        match corner {
+            0 => self.upper_left,
+            1 => self.upper_right,
+            2 => self.lower_left,
+            _ => self.lower_right,
+        }
+    }
+}
+
+// The corners of an empty board.
+const NO_STONES: CornerNumbers = CornerNumbers {
+    upper_left: 0,
+    upper_right: 0,
+    lower_left: 0,
+    lower_right: 0,
+};
+
+// The numbers that a corner had, ascending, each once, from those of all corners at the nodes. The
+// only error is `NoMemory`.
 pub(crate) fn numbers_of(
     alloc: Global,
     deltas: &NodeDeltas,
+    nodes: &[CornerNumbers],
     corner: u8,
 ) -> Result<Vec<u64>, NoMemory>
-    requires { corner < 4 }
+    requires corner { corner < 4 }
+    requires nodes { HasCorners deltas.now.shape →
+        AreNumbersTo deltas.now (node_count deltas.now) nodes.now }
     ensures { IfOk result (λ numbers. AreNumbersOf deltas.now corner numbers.items) }
 {
     if !has_corners(deltas.shape()) {
         return Ok(Vec::new(alloc));
     }
-    let mut numbers = numbers_at_nodes(alloc, deltas, corner)?;
+    let mut numbers = of_corner(alloc, nodes, corner)?;
     // Most numbers are those of the node before.
     numbers.dedup();
     numbers.sort_unstable();
     numbers.dedup();
+    Ok(numbers)
+}
+
+// The numbers of one corner at the nodes.
+fn of_corner(alloc: Global, nodes: &[CornerNumbers], corner: u8) -> Result<Vec<u64>, NoMemory>
+    ensures { IfOk result (λ numbers. numbers.items ≡ of_corner corner nodes.now) }
+{
+    let mut numbers = Vec::with_capacity(alloc, nodes.len())?;
+    for node in nodes {
+        numbers.push(node.of(corner))?;
+    }
     Ok(numbers)
 }
 
@@ -41,51 +98,71 @@ fn has_corners(shape: Shape) -> bool
     shape.cols() >= SIDE && shape.rows() >= SIDE
 }
 
-// The numbers of a corner at the nodes, in their order.
-fn numbers_at_nodes(alloc: Global, deltas: &NodeDeltas, corner: u8) -> Result<Vec<u64>, NoMemory>
-    requires corner { corner < 4 }
-    requires sides { HasCorners deltas.now.shape }
-    ensures { IfOk result (λ numbers.
-        numbers.items ≡ numbers_to deltas.now corner (node_count deltas.now)) }
+// The numbers of the corners at the nodes, in their order. There are none on a board without
+// corners.
+pub(crate) fn numbers_at_nodes(
+    alloc: Global,
+    deltas: &NodeDeltas,
+) -> Result<Vec<CornerNumbers>, NoMemory>
+    ensures { IfOk result (λ nodes. HasCorners deltas.now.shape →
+        AreNumbersTo deltas.now (node_count deltas.now) nodes.items) }
 {
-    let count = deltas.node_count();
-    let mut numbers = Vec::with_capacity(alloc, count as usize)?;
-    for n in 0..count {
-        let above = number_above(deltas, n, corner, &numbers);
-        numbers.push(number_at(deltas, n, corner, above))?;
+    if !has_corners(deltas.shape()) {
+        return Ok(Vec::new(alloc));
     }
-    Ok(numbers)
+    let count = deltas.node_count();
+    let mut nodes = Vec::with_capacity(alloc, count as usize)?;
+    for n in 0..count {
+        let above = numbers_above(deltas, n, &nodes);
+        nodes.push(numbers_at(deltas, n, above))?;
+    }
+    Ok(nodes)
 }
 
-// The number at the parent of a node, or above the root, by those of the nodes before it.
-fn number_above(deltas: &NodeDeltas, n: u32, corner: u8, numbers: &[u64]) -> u64
+// The numbers at the parent of a node, or above the root, by those of the nodes before it.
+fn numbers_above(deltas: &NodeDeltas, n: u32, nodes: &[CornerNumbers]) -> CornerNumbers
     requires in_range { n < node_count deltas.now }
-    requires numbers { numbers.now ≡ numbers_to deltas.now corner n }
-    ensures { result ≡ corner_number corner deltas.now.shape
-        (position_where deltas.now (parent_of deltas.now n)) }
+    requires numbers { AreNumbersTo deltas.now n nodes.now }
+    ensures { AreNumbersOn deltas.now.shape (position_where deltas.now (parent_of deltas.now n))
+        result }
 {
     match deltas.parent(n) {
-        Some(parent) => numbers[parent as usize],
-        None => 0,
+        Some(parent) => nodes[parent as usize],
+        None => NO_STONES,
     }
 }
 
-// The number at a node, from that at its parent.
-fn number_at(deltas: &NodeDeltas, n: u32, corner: u8, above: u64) -> u64
+// The numbers at a node, from those at its parent.
+fn numbers_at(deltas: &NodeDeltas, n: u32, above: CornerNumbers) -> CornerNumbers
     requires in_range { n < node_count deltas.now }
-    requires corner { corner < 4 }
     requires sides { HasCorners deltas.now.shape }
-    requires above { above ≡ corner_number corner deltas.now.shape
-        (position_where deltas.now (parent_of deltas.now n)) }
-    ensures { result ≡ corner_number corner deltas.now.shape (position_at deltas.now n) }
+    requires above { AreNumbersOn deltas.now.shape
+        (position_where deltas.now (parent_of deltas.now n)) above }
+    ensures { AreNumbersOn deltas.now.shape (position_at deltas.now n) result }
 {
     let shape = deltas.shape();
     let changes = deltas.changes(n);
-    let mut number = above;
+    let mut numbers = above;
     for change in changes {
-        number = changed(shape, corner, number, *change);
+        numbers = all_changed(shape, numbers, *change);
     }
-    number
+    numbers
+}
+
+// The numbers after a change, from those before it.
+fn all_changed(shape: Shape, numbers: CornerNumbers, change: Change) -> CornerNumbers
+    requires sides { HasCorners shape }
+    requires point { change.point < point_count shape }
+    requires before { (p : Position) × StandBefore shape numbers change p }
+    ensures { (p : Position) → StandBefore shape numbers change p →
+        AreNumbersOn shape (slice_set p change.point change.new) result }
+{
+    CornerNumbers {
+        upper_left: changed(shape, 0, numbers.upper_left, change),
+        upper_right: changed(shape, 1, numbers.upper_right, change),
+        lower_left: changed(shape, 2, numbers.lower_left, change),
+        lower_right: changed(shape, 3, numbers.lower_right, change),
+    }
 }
 
 // The number after a change, from that before it. A change is on one place of the corner's frame at

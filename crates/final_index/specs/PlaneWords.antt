@@ -47,6 +47,16 @@ abbrev pub IsWordIn : ℕ → ℕ → Cell → List ℕ → ℕ → Type 0
 IsWordIn points end stone members k = (p : ℕ) × (p < end) × Contains members p
     × (k ≡ start_of points stone + p)
 
+-- the word stands behind this place, by the place of one of the first so many bits of a word
+abbrev pub IsBehind : ℕ → ℕ → ℕ → ℕ → Type 0
+IsBehind first bits end k = (j : ℕ) × (j < end) × (bit_at bits j ≡ 1) × (k ≡ first + j)
+
+-- A game has gained its bit in the words at these places.
+pub record HaveGained (P : ℕ → Type 0) (g : ℕ) (before after : List ℕ) : Type 0 where
+  pub room : length after ≡ length before
+  pub bits : (k i : ℕ) → (bit_at (slice_index after k) i ≡ 1) ↔
+      ((bit_at (slice_index before k) i ≡ 1) ⊎ ((i ≡ g) × P k))
+
 -- A game has gained its bit in the words of a cell and of the members of a set, of the first so many
 -- points.
 pub record AreNoted (points end : ℕ) (stone : Cell) (members : List ℕ) (g : ℕ)

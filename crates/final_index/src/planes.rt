@@ -35,6 +35,8 @@ ghost use Rattle.final_index.specs.PlaneWords.{
   AreSetsNoted,
   HasBitsOfBoth,
   HaveBitsOfBoth,
+  HaveGained,
+  IsBehind,
   start_of,
 };
 
@@ -247,6 +249,7 @@ fn start_of(points: u16, cell: Cell) -> usize
 fn note_sets(words: &mut [u64], points: u16, sets: &EverSets, game: usize)
     requires few { game < 64 }
     requires room { length words.old ≡ 3 * points }
+    requires on_board { (stone : Cell) (p : ℕ) → Contains (set_of sets.now stone) p → p < points }
     ensures { AreSetsNoted points sets.now game words.old words.new }
 {
     note(words, points, Cell::Empty, &sets.empty, game);
@@ -258,13 +261,31 @@ fn note_sets(words: &mut [u64], points: u16, sets: &EverSets, game: usize)
 fn note(words: &mut [u64], points: u16, cell: Cell, members: &BitBoard, game: usize)
     requires few { game < 64 }
     requires room { length words.old ≡ 3 * points }
+    requires on_board { (p : ℕ) → Contains members.now p → p < points }
     ensures { AreNoted points points cell members.now game words.old words.new }
 {
     let start = start_of(points, cell);
-    for point in 0..points {
-        if members.contains(point) {
-            words[start + usize::from(point)] |= 1 << game;
-        }
+    for part in 0..points / 64 + 1 {
+        let from = 64 * part;
+        let first = start + usize::from(from);
+        note_window(words, first, members.window(from), game);
+    }
+}
+
+// Gives a game its bit in some of the words from a place on: where a word here has a bit, in the one
+// that stands so many behind that place.
+fn note_window(words: &mut [u64], first: usize, bits: u64, game: usize)
+    requires few { game < 64 }
+    requires within { (k : ℕ) → k < 64 → bit_at bits k ≡ 1 → first + k < length words.old }
+    ensures { HaveGained (IsBehind first bits 64) game words.old words.new }
+{
+    let mut from = 0;
+    let mut rest = bits;
+    while rest != 0 {
+        let at = from + rest.trailing_zeros() as usize;
+        words[first + at] |= 1 << game;
+        from = at + 1;
+        rest = bits >> at >> 1;
     }
 }
 

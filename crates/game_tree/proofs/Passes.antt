@@ -1,12 +1,13 @@
 -- Moves and setups of a value, by its text without white space at either end.
-use Rattle.std.proofs.Common.{◌≡◌, ◌≤◌, ◌∙◌, ◌⊎◌, ◌==◌, ℕ, List, [], ◌∷◌, length, ap, true, false, Bool, IsTrue, arith, Option, Some, None, refl, sym, subst, codes, inl, inr}
+use Rattle.std.proofs.Common.{◌≡◌, ◌<◌, ◌≤◌, ◌∙◌, ◌⊎◌, ◌==◌, ℕ, List, [], ◌∷◌, ◌++◌, length, length-append, ap, true, false, Bool, IsTrue, arith, Option, Some, None, refl, sym, subst, codes, inl, inr}
 use Rattle.std.proofs.lemmas.Bool.{eq-eqb, eqb-true}
+use Rattle.std.proofs.lemmas.List.Elements.{All-nil}
 use Rattle.kb_geometry.specs.declared.shape.Point.{Point}
 use Rattle.kb_geometry.specs.declared.shape.Rect.{Rect}
 use Rattle.kb_geometry.specs.declared.shape.Shape.{Shape}
 use Rattle.kb_geometry.specs.Board.{cols_of, rows_of}
 use Rattle.game_tree.specs.Property.{IsTrimmed}
-use Rattle.game_tree.specs.Value.{IsMoveText, IsMoveValue, IsPoint, IsSetupText, IsSetupValue, ignored, pass, pass_tt, point}
+use Rattle.game_tree.specs.Value.{IsCoordinate, IsMoveText, IsMoveValue, IsPoint, IsSetupText, IsSetupValue, ignored, letters, pass, pass_tt, point}
 use Rattle.game_tree.proofs.Trimming.{IsTrimmed-only}
 
 -- which texts are a pass
@@ -31,6 +32,32 @@ no_move shape value text trimmed no_pass no_point (Some p) (inner, t, is) = no_p
 
 pub move_at : (shape : Shape) (value text : List ℕ) (p : Point) → IsTrimmed value text → IsPoint shape text p → IsMoveValue shape value (Some p)
 move_at shape value text p trimmed at = (text, trimmed, point at)
+
+-- ---- a point's text has no white space at either end
+
+letter_above : (letter n : ℕ) → IsCoordinate letter n → 32 < letter
+letter_above letter n (inl (low, is)) = omega (arith, is)
+letter_above letter n (inr (high, low, is)) = omega (arith, is)
+
+last_of_two : (column row b : ℕ) (rest : List ℕ) → column ∷ row ∷ [] ≡ rest ++ b ∷ [] → row ≡ b
+last_of_two column row b [] e = cc
+last_of_two column row b (x ∷ []) e = cc
+last_of_two column row b (x ∷ y ∷ rest) e = let l : 2 ≡ length ((x ∷ y ∷ rest) ++ b ∷ []) = ap length e in absurd (omega (arith, l, length-append (x ∷ y ∷ rest) (b ∷ [])))
+
+point_trimmed : (shape : Shape) (text : List ℕ) (p : Point) → IsPoint shape text p → IsTrimmed text text
+point_trimmed shape _ p (letters column row c r on) = record {
+  before = [];
+  after = [];
+  split = refl;
+  white_before = All-nil (λ (b : ℕ). b ≤ 32);
+  white_after = All-nil (λ (b : ℕ). b ≤ 32);
+  first = λ b rest e. let is : column ≡ b = cc in omega (arith, is, letter_above column p.x c);
+  last = λ b rest e. omega (arith, last_of_two column row b rest e, letter_above row p.y r);
+}
+
+-- two letters alone are a move
+pub bare_move : (shape : Shape) (value : List ℕ) (p : Point) → IsPoint shape value p → IsMoveValue shape value (Some p)
+bare_move shape value p at = move_at shape value value p (point_trimmed shape value p at) at
 
 -- which text is ignored
 pub ignored_text : (shape : Shape) (text : List ℕ) → IsSetupText shape text None → text ≡ []

@@ -63,10 +63,24 @@ impl Property {
     pub(crate) fn of(name: &[u8]) -> Property
         ensures { result ≡ property_named (filter is_upper name.now) }
     {
+        if let [a] = name {
+            return Property::of_short(*a);
+        }
         match letters_of(name) {
             Letters::One(a) => Property::of_one(a),
             Letters::Two(a, b) => Property::of_two(a, b),
             Letters::Other => Property::Other,
+        }
+    }
+
+    // The property whose identifier is spelled by one byte.
+    fn of_short(a: u8) -> Property
+        ensures { result ≡ property_named (filter is_upper (a ∷ [])) }
+    {
+        if a.is_ascii_uppercase() {
+            Property::of_one(a)
+        } else {
+            Property::Other
         }
     }
 

@@ -213,6 +213,19 @@ pub(crate) fn move_of(shape: Shape, value: &[u8]) -> Option<Option<Point>>
     ensures on_board { IfSome result (λ move. IfSome move (λ (p : Point). IsOnBoard shape p)) }
     ensures none { result ≡ None → (move : Option Point) → ¬ IsMoveValue shape value.now move }
 {
+    // Mostly it is two letters and nothing else.
+    match point_of(shape, value) {
+        Some(point) => Some(Some(point)),
+        None => trimmed_move_of(shape, value),
+    }
+}
+
+// What a move's value says, by its text without white space at either end.
+fn trimmed_move_of(shape: Shape, value: &[u8]) -> Option<Option<Point>>
+    ensures some { IfSome result (λ move. IsMoveValue shape value.now move) }
+    ensures on_board { IfSome result (λ move. IfSome move (λ (p : Point). IsOnBoard shape p)) }
+    ensures none { result ≡ None → (move : Option Point) → ¬ IsMoveValue shape value.now move }
+{
     let text = trimmed(value);
     if is_pass(shape, text) {
         Some(None)

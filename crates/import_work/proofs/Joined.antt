@@ -1,5 +1,5 @@
 -- What is made in pieces, and joined in order.
-use Rattle.std.proofs.Common.{◌≡◌, ℕ, suc, ◌<◌, ◌≤◌, List, [], ◌∷◌, ◌++◌, get_or, length, length-append, sym, subst, arith}
+use Rattle.std.proofs.Common.{◌≡◌, ℕ, suc, ◌<◌, List, [], ◌∷◌, ◌++◌, get_or, length, sym, subst, arith}
 use Rattle.std.proofs.lemmas.Bool.{false≢true}
 use Rattle.std.proofs.lemmas.List.Concat.{flat_map-cons}
 use Rattle.std.specs.List.{flat_map}
@@ -32,18 +32,3 @@ pieces-fit {J} {T} {A} told Fits none then jobs pieces items are joined =
     subst (λ xs. Fits (flat_map told jobs) xs) (sym joined.joined)
     (in_all told Fits none then (λ job piece. IsPieceFor told Fits job piece × IsOk piece) (piece-fits told Fits) jobs pieces are.all
     (λ n job d lt. (are.each n job d lt, joined.good n d (omega (arith, lt, are.all)))))
-
--- where each piece has no more than is told of its job, all pieces have no more than is told of all
-module _ {J T A : Type 0} (told : J → List T) (Fits : List T → List A → Type 0) (few : (ts : List T) (xs : List A) → Fits ts xs → length xs ≤ length ts) where
-  abbrev IsFew : List T → List A → Type 0
-  IsFew ts xs = length xs ≤ length ts
-
-  few-then : (ts us : List T) (xs ys : List A) → IsFew ts xs → IsFew us ys → IsFew (ts ++ us) (xs ++ ys)
-  few-then ts us xs ys h k = omega (arith, h, k, length-append ts us, length-append xs ys)
-
-  piece-few : (job : J) (piece : PieceOf A) → IsPieceFor told Fits job piece → IsFew (told job) (items_of_piece piece)
-  piece-few job (Ok given) is = few (told job) given.items is
-  piece-few job (Err e) is = omega arith
-
-  pub pieces-few : (jobs : List J) (pieces : List (PieceOf A)) → ArePieces told Fits jobs pieces → length (flat_map items_of_piece pieces) ≤ length (flat_map told jobs)
-  pieces-few jobs pieces are = in_all told IsFew (omega arith) few-then (IsPieceFor told Fits) piece-few jobs pieces are.all are.each

@@ -1,5 +1,7 @@
 -- What becomes of files by what was found in them.
-use Rattle.std.proofs.Common.{◌≡◌, ℕ, ◌≤◌, List, [], ◌∷◌, ◌++◌, Option, Some, None, append-nil, append_assoc, refl, sym, ◌∙◌, ap, subst, Vec, Global}
+use Rattle.std.proofs.Common.{◌≡◌, ℕ, ◌≤◌, List, [], ◌∷◌, ◌++◌, Option, Some, None, append-nil, append_assoc, map, refl, sym, ◌∙◌, ap, subst}
+use Rattle.std.specs.Arc.{arc_value}
+use Rattle.std.proofs.lemmas.List.Concat.{flat_map-append}
 use Rattle.std.proofs.lemmas.List.{map_push}
 use Rattle.kb_edges.specs.Files.{File}
 use Rattle.game_tree.specs.Tree.{Tree}
@@ -9,7 +11,11 @@ use Rattle.import_work.specs.Steps.{AreMoreFiles}
 use Rattle.kb_geometry.proofs.Lists.{push_not_nil, push_same}
 use Rattle.import_work.specs.Course.{FileReport, games_from, trees_in}
 use Rattle.import_work.specs.Found.{IsFoundInFile}
-use Rattle.import_work.specs.Judged.{AreFoundFiles, AreJudged, AreJudgedAs, IsFoundFile, IsJudged, IsJudgedAs}
+use Rattle.import_work.specs.Judged.{AreFoundFiles, AreJudged, AreJudgedAs, HasAllGames, IsFoundFile, IsJudged, IsJudgedAs, files_in, games_found, games_in_files}
+use Rattle.import_work.specs.Log.{Segment, games_of_segments}
+use Rattle.import_work.specs.declared.found.FoundPiece.{FoundPiece}
+use Rattle.import_work.proofs.SegmentLemmas.{games_of_segments-push}
+use Rattle.std.specs.Prelude.{IfSome}
 use Rattle.import_work.specs.Judged as judge
 use Rattle.import_work.specs.Outcome.{HaveGames, nodes_of_trees, refused, with_games}
 use Rattle.import_work.specs.Reads.{AreTexts, FileText, IsTextOf, text_names}
@@ -19,7 +25,7 @@ use Rattle.import_work.specs.declared.found.FoundFile.{FoundFile}
 use Rattle.import_work.specs.declared.outcome.Counts.{Counts}
 use Rattle.import_work.specs.declared.outcome.FileOutcome.{FileOutcome}
 use Rattle.import_work.specs.declared.outcome.FileOutcome.TheVariants as file
-use Rattle.import_work.proofs.RoomLemmas.{IsAdded-outcome, read-not_unread, with_games-none, with_file}
+use Rattle.import_work.proofs.RoomLemmas.{IsAdded-outcome, read-not_unread, trees_in-append, with_games-append, with_games-none, with_file}
 use Rattle.sgf_reader.specs.declared.fault.FaultKind.{FaultKind}
 
 -- a refused file is refused
@@ -45,10 +51,10 @@ pub record IsTextWithGames (name : List ℕ) (bytes : Option (List ℕ)) (own : 
   pub nodes_are : nodes ≡ nodes_of_trees trees
   pub few : nodes ≤ 4294967296
 
-games-not_unread : (own : Vec Game Global) (nodes : ℕ) → found.Games own nodes ≡ found.Unread → ⊥
+games-not_unread : (own : _) (nodes : ℕ) → found.Games own nodes ≡ found.Unread → ⊥
 games-not_unread own nodes is = cc
 
-pub games_told : (name : List ℕ) (bytes : Option (List ℕ)) (own : Vec Game Global) (nodes : ℕ) → IsFoundInFile name bytes (found.Games own nodes) → IsTextWithGames name bytes own.items nodes
+pub games_told : (name : List ℕ) (bytes : Option (List ℕ)) (own : _) (nodes : ℕ) → IsFoundInFile name bytes (found.Games own nodes) → IsTextWithGames name bytes (map arc_value own.items) nodes
 games_told name None own nodes is = absurd (games-not_unread own nodes is)
 games_told name (Some bytes) own nodes (trees, have, small, own_are, nodes_are, few) = record {
   content = bytes;
@@ -119,6 +125,86 @@ judged-more texts files file base counts after outcome first lines more line sta
       games_are = one.added ∙ ap (λ gs. gs ++ games_from text.name 0 trees) had.games_are ∙ append_assoc start had.own_games (games_from text.name 0 trees);
       counted = one.counted ∙ ap (λ c. with_games c trees) had.counted ∙ with_file base had.own_games text.name trees;
     })
+
+-- where there was room for each file so far and for one more, all games that were found are added
+pub whole-more : (files : List FoundFile) (file : FoundFile) (start games more : List Game) → games ≡ start ++ games_in_files files → more ≡ games ++ games_found file.found → more ≡ start ++ games_in_files (files ++ file ∷ [])
+whole-more files file start games more had added =
+    let own = games_found file.found in
+    added
+    ∙ ap (λ gs. gs ++ own) had
+    ∙ append_assoc start (games_in_files files) own
+    ∙ ap (λ gs. start ++ (games_in_files files ++ gs)) (sym (append-nil own))
+    ∙ ap (λ gs. start ++ gs) (sym (flat_map-append (λ (f : FoundFile). games_found f.found) files (file ∷ [])))
+
+-- then the segment of all games has those that were added
+pub all_given : (made : Option Segment) (found before own : List Game) → IfSome made (λ (segment : Segment). segment ≡ found) → before ≡ [] → own ≡ before ++ found → IfSome made (λ (segment : Segment). segment ≡ own)
+all_given None found before own is none grown = tt
+all_given (Some segment) found before own is none grown = is ∙ sym (grown ∙ ap (λ gs. gs ++ found) none)
+
+-- files that were found, those of the first pieces and those of the last
+record ArePartedFiles (texts : List FileText) (files others : List FoundFile) : Type 0 where
+  front : List FileText
+  behind : List FileText
+  parts : texts ≡ front ++ behind
+  found : AreFoundFiles front files
+  others_found : AreFoundFiles behind others
+
+files-parted : (texts : List FileText) (files others : List FoundFile) → AreFoundFiles texts (files ++ others) → ArePartedFiles texts files others
+files-parted texts [] others h = record { front = []; behind = texts; parts = refl; found = tt; others_found = h }
+files-parted [] (first ∷ files) others h = absurd h
+files-parted (text ∷ texts) (first ∷ files) others h =
+    let rest = files-parted texts files others h.1 in record {
+      front = text ∷ rest.front;
+      behind = rest.behind;
+      parts = ap (λ ts. text ∷ ts) rest.parts;
+      found = (h.0, rest.found);
+      others_found = rest.others_found;
+    }
+
+-- files that are judged behind others
+judged-then : (base : Counts) (texts : List FileText) (reports : List FileReport) (games : List Game) → AreJudged base texts reports games → (others : List FileText) (more : List FileReport) (own : List Game) → AreJudged (with_games base (trees_in games)) others more own → AreJudged base (texts ++ others) (reports ++ more) (games ++ own)
+judged-then base texts reports games so_far _ _ _ AreJudged.nothing = rw (append-nil texts, append-nil reports, append-nil games) so_far
+judged-then base texts reports games so_far _ _ _ (AreJudged.one_more {texts = others} {reports = more} {games = own} text outcome trees h judged) =
+    let line : List FileReport = record { name = text.name; outcome = outcome } ∷ [] in
+    let added : List Game = games_from text.name 0 trees in
+    let counts : with_games (with_games base (trees_in games)) (trees_in own) ≡ with_games base (trees_in (games ++ own)) = with_games-append base (trees_in games) (trees_in own) ∙ ap (with_games base) (sym (trees_in-append games own)) in
+    let last = judge.one_more text outcome trees (judged-then base texts reports games so_far others more own h) (subst (λ c. IsJudged c text.bytes outcome trees) counts judged) in
+    subst (λ ts. AreJudged base ts (reports ++ (more ++ line)) (games ++ (own ++ added))) (append_assoc texts others (text ∷ []))
+    (subst (λ rs. AreJudged base ((texts ++ others) ++ text ∷ []) rs (games ++ (own ++ added))) (append_assoc reports more line)
+    (subst (λ gs. AreJudged base ((texts ++ others) ++ text ∷ []) ((reports ++ more) ++ line) gs) (append_assoc games own added) last))
+
+-- the files of one piece more are judged
+pub piece-judged : (texts : List FileText) (pieces : List FoundPiece) (piece : FoundPiece) (base counts after : Counts) (first lines more : List FileReport) (segments all : List Segment) (segment : Segment)
+    → ((before : List FileText) → AreFoundFiles before (files_in pieces) → AreJudgedAs before base counts first lines [] (games_of_segments segments))
+    → ((own : List FileText) → AreFoundFiles own piece.files.items → AreJudgedAs own counts after lines more [] segment)
+    → all ≡ segments ++ segment ∷ [] → AreFoundFiles texts (files_in (pieces ++ piece ∷ [])) → AreJudgedAs texts base after first more [] (games_of_segments all)
+piece-judged texts pieces piece base counts after first lines more segments all segment so_far next pushed are =
+    let files_are : files_in (pieces ++ piece ∷ []) ≡ files_in pieces ++ piece.files.items = flat_map-append (λ (p : FoundPiece). p.files.items) pieces (piece ∷ []) ∙ ap (λ fs. files_in pieces ++ fs) (append-nil piece.files.items) in
+    let cut = files-parted texts (files_in pieces) piece.files.items (subst (AreFoundFiles texts) files_are are) in
+    let had = so_far cut.front cut.found in
+    let one = next cut.behind cut.others_found in
+    let judged : AreJudged (with_games base (trees_in had.own_games)) cut.behind one.own_reports one.own_games = subst (λ c. AreJudged c cut.behind one.own_reports one.own_games) had.counted one.judged in
+    subst (λ ts. AreJudgedAs ts base after first more [] (games_of_segments all)) (sym cut.parts)
+    (record {
+      own_reports = had.own_reports ++ one.own_reports;
+      own_games = had.own_games ++ one.own_games;
+      judged = judged-then base cut.front had.own_reports had.own_games had.judged cut.behind one.own_reports one.own_games judged;
+      reports_are = one.reports_are ∙ ap (λ rs. rs ++ one.own_reports) had.reports_are ∙ append_assoc first had.own_reports one.own_reports;
+      games_are = ap games_of_segments pushed ∙ games_of_segments-push segments segment ∙ ap (λ gs. gs ++ segment) had.games_are ∙ ap (λ gs. had.own_games ++ gs) one.games_are;
+      counted = one.counted ∙ ap (λ (c : Counts). with_games c (trees_in one.own_games)) had.counted
+          ∙ with_games-append base (trees_in had.own_games) (trees_in one.own_games)
+          ∙ ap (with_games base) (sym (trees_in-append had.own_games one.own_games));
+    })
+
+-- games that are added behind none, in a segment
+pub judged-alone : (texts : List FileText) (before after : Counts) (reports more : List FileReport) (games own segment : List Game) → AreJudgedAs texts before after reports more games own → games ≡ [] → segment ≡ own → AreJudgedAs texts before after reports more [] segment
+judged-alone texts before after reports more games own segment h none is =
+    subst (λ (gs : List Game). AreJudgedAs texts before after reports more [] gs) (sym is)
+    (subst (λ (gs : List Game). AreJudgedAs texts before after reports more gs own) none h)
+
+-- no file of a piece is judged yet
+pub pieces-start : (texts : List FileText) (before : Counts) (reports : List FileReport) (segments : List Segment) → segments ≡ [] → AreFoundFiles texts [] → AreJudgedAs texts before before reports reports [] (games_of_segments segments)
+pieces-start texts before reports segments none are = subst (λ ss. AreJudgedAs texts before before reports reports [] (games_of_segments ss)) (sym none) (judged-start texts before reports [] are)
 
 -- what is told of a file that was read, or wasn't, and judged
 file_imported : (told : Option (List File)) (path name : List ℕ) (bytes : Option (List ℕ)) (before : Counts) (first now : ℕ) (outcome : FileOutcome) (trees : List Tree) → IsTextOf told path name bytes first now → first ≤ now → IsJudged before bytes outcome trees → IsImportedFile told path name before first now outcome trees

@@ -15,6 +15,7 @@ pub mod MadeSteps
 pub mod NameLemmas
 pub mod NamesExist
 pub mod OneFinding
+mod OneSegment
 pub mod OutcomesExist
 pub mod ReadFiles
 pub mod RoomLemmas
@@ -22,3 +23,4 @@ pub mod SegmentLemmas
 mod StepLemmas
 mod Texts
 pub mod Turns
+mod WaitingFiles

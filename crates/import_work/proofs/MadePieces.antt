@@ -12,10 +12,12 @@ use Rattle.node_position.specs.Games.{Game}
 use Rattle.import_work.specs.Course.{made_name}
 use Rattle.import_work.specs.Made.{made_game, made_games}
 use Rattle.import_work.specs.MadePieces.{AreCut, IsInRange, piece_games}
-use Rattle.kb_geometry.specs.Pieces.{ArePiecesJoined, PieceOf, items_of_piece}
+use Rattle.kb_geometry.specs.Pieces.{ArePiecesJoined, PieceOf}
 use Rattle.import_work.specs.Pieces.{ArePieces, IsPieceFor}
 use Rattle.import_work.specs.declared.making.Piece.{Piece}
-use Rattle.import_work.proofs.Joined.{pieces-few, pieces-fit}
+use Rattle.import_work.specs.Log.{Segment, games_of_segments}
+use Rattle.import_work.proofs.Joined.{pieces-fit}
+use Rattle.import_work.proofs.SegmentLemmas.{games_of_segments-append}
 
 -- numbers in two parts
 range-parted : (a m n : ℕ) → range_with_len a (m + n) ≡ range_with_len a m ++ range_with_len (a + m) n
@@ -59,17 +61,19 @@ pub record AreCutBefore (start first count : ℕ) (pieces : List Piece) (next le
     Type 0 where
   pub games : flat_map piece_games pieces ++ made_games start next left ≡
       made_games start first count
-  pub whole : length pieces + parts ≡ 8
+  pub whole : length pieces + parts ≤ 8
+  pub few : left ≤ 400000
   pub ends : next + left ≡ first + count
   pub enough : 0 < left → 0 < parts
   pub each : All IsInRange pieces
 
-pub AreCutBefore-start : (start first count : ℕ) → AreCutBefore start first count [] first count 8
-AreCutBefore-start start first count = record {
+pub AreCutBefore-start : (start first count parts : ℕ) → 1 ≤ parts → parts ≤ 8 → count ≤ 400000 → AreCutBefore start first count [] first count parts
+AreCutBefore-start start first count parts some most few = record {
   games = refl;
-  whole = refl;
+  whole = omega (arith, most);
+  few = few;
   ends = refl;
-  enough = λ _. omega arith;
+  enough = λ _. some;
   each = All-nil IsInRange;
 }
 
@@ -85,9 +89,10 @@ AreCutBefore-more start first count pieces more next left parts own few before p
           ∙ ap (λ (gs : List Game). flat_map piece_games pieces ++ gs) (games-parted start next own left within)
           ∙ before.games;
       whole = omega (arith, length-append pieces (piece ∷ []), before.whole, enough);
+      few = omega (arith, before.few);
       ends = omega (arith, before.ends, within);
       enough = λ rest. grind (arith, rest, enough, last, within);
-      each = All-push IsInRange pieces piece before.each (has, omega (arith, before.ends, within, few));
+      each = All-push IsInRange pieces piece before.each (has, omega (arith, before.few, within), omega (arith, before.ends, within, few));
     })
 
 pub AreCutBefore-end : (start first count : ℕ) (pieces : List Piece) (next left parts : ℕ) → AreCutBefore start first count pieces next left parts → left ≡ 0 → AreCut start first count pieces
@@ -98,22 +103,24 @@ AreCutBefore-end start first count pieces next left parts before none = record {
 }
 
 -- there is a piece for each of these numbers, with the made games of these numbers
-abbrev IsMade : List Game → List Game → Type 0
-IsMade told made = made ≡ told
+abbrev IsMade : List Game → List Segment → Type 0
+IsMade told made = games_of_segments made ≡ told
 
-abbrev pub IsMadePiece : Piece → PieceOf Game → Type 0
+abbrev pub IsMadePiece : Piece → PieceOf Segment → Type 0
 IsMadePiece = IsPieceFor piece_games IsMade
 
-abbrev pub AreMadePieces : List Piece → List (PieceOf Game) → Type 0
+abbrev pub AreMadePieces : List Piece → List (PieceOf Segment) → Type 0
 AreMadePieces = ArePieces piece_games IsMade
 
 -- what is joined of all pieces is the made games, and it has room
-pub pieces-made : (start first count : ℕ) (jobs : List Piece) (pieces : List (PieceOf Game)) (games : List Game) → AreCut start first count jobs → AreMadePieces jobs pieces → ArePiecesJoined pieces games → games ≡ made_games start first count
-pieces-made start first count jobs pieces games cut are joined =
-    pieces-fit piece_games IsMade refl (λ ts us xs ys (e : xs ≡ ts) (f : ys ≡ us). ap (λ (gs : List Game). gs ++ ys) e ∙ ap (λ (gs : List Game). ts ++ gs) f) jobs pieces games are joined ∙ cut.games
+pub pieces-made : (start first count : ℕ) (jobs : List Piece) (pieces : List (PieceOf Segment)) (segments : List Segment) → AreCut start first count jobs → AreMadePieces jobs pieces → ArePiecesJoined pieces segments → games_of_segments segments ≡ made_games start first count
+pieces-made start first count jobs pieces segments cut are joined =
+    pieces-fit piece_games IsMade refl (λ ts us xs ys (e : games_of_segments xs ≡ ts) (f : games_of_segments ys ≡ us). games_of_segments-append xs ys ∙ ap (λ (gs : List Game). gs ++ games_of_segments ys) e ∙ ap (λ (gs : List Game). ts ++ gs) f) jobs pieces segments are joined ∙ cut.games
 
-pub pieces-room : (start first count : ℕ) (jobs : List Piece) (pieces : List (PieceOf Game)) → count ≤ 400000 → AreCut start first count jobs → AreMadePieces jobs pieces → length (flat_map items_of_piece pieces) ≤ 400000
-pieces-room start first count jobs pieces room cut are =
-    let few = pieces-few piece_games IsMade (λ ts xs (e : xs ≡ ts). let same : length xs ≡ length ts = ap length e in omega (arith, same)) jobs pieces are in
-    let all : length (flat_map piece_games jobs) ≡ count = ap length cut.games ∙ length-made_games start first count in
-    omega (arith, few, all, room)
+pub pieces-room : (start first count : ℕ) (segments : List Segment) → count ≤ 400000 → games_of_segments segments ≡ made_games start first count → length (games_of_segments segments) ≤ 400000
+pieces-room start first count segments room are = omega (arith, room, ap length are, length-made_games start first count)
+
+-- a segment alone
+pub made-alone : (before segments : List Segment) (segment : Segment) (games : List Game) → before ≡ [] → segments ≡ before ++ segment ∷ [] → segment ≡ games → games_of_segments segments ≡ games
+made-alone before segments segment games none pushed is =
+    ap games_of_segments (pushed ∙ ap (λ (ss : List Segment). ss ++ segment ∷ []) none) ∙ append-nil segment ∙ is

@@ -153,6 +153,27 @@ room_after told path base after first reports games now is h some =
       | inr room ↦ subst AreCountsWithinLimits (sym is) room
     ]
 
+-- files are added behind no games: then these are few, and they stand behind others
+module _ (told : Option (List File)) (path : List ℕ) (names : List (List ℕ)) (base counts : Counts) (first before : ℕ) (reports more_reports : List FileReport) (own : List Game) (h : AreMoreFiles told path names base counts first before reports more_reports [] own) where
+  pub more_files-few : length own ≤ 400000
+  more_files-few =
+      let counted = more_files-counted told path names base counts first before reports more_reports own h in
+      elim (none_or_room told path base first h.own_reports h.own_games before h.in_turn) [
+        | inl empty ↦ omega (arith, ap length (h.games_are ∙ empty))
+        | inr room ↦ let few = subst AreCountsWithinLimits (sym h.counted) room in omega (arith, counted, few.0)
+      ]
+
+  pub more_files-behind : (games all : List Game) → all ≡ games ++ own → AreMoreFiles told path names base counts first before reports more_reports games all
+  more_files-behind games all pushed = record {
+    own_reports = h.own_reports;
+    own_games = h.own_games;
+    in_turn = h.in_turn;
+    named = h.named;
+    reports_are = h.reports_are;
+    games_are = pushed ∙ ap (λ gs. games ++ gs) h.games_are;
+    counted = h.counted;
+  }
+
 -- whether a file is unread
 unread_is : (outcome : FileOutcome) → outcome ≢ file.Unread → is_unread outcome ≡ false
 unread_is (file.Accepted games) other = refl

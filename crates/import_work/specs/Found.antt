@@ -1,6 +1,7 @@
 -- What is found in a file before it is known whether the base has room for it: definitions of
 -- the private functions.
-use Rattle.std.specs.Prelude.{◌≡◌, ◌≤◌, ℕ, List, length, Option, Some, None}
+use Rattle.std.specs.Prelude.{◌≡◌, ◌≤◌, ℕ, List, length, map, Option, Some, None}
+use Rattle.std.specs.Arc.{arc_value}
 use Rattle.game_tree.specs.Tree.{Tree}
 use Rattle.import_work.specs.Course.{games_from}
 use Rattle.import_work.specs.Outcome.{HaveGames, IsFaulty, nodes_of_trees}
@@ -12,7 +13,8 @@ abbrev pub AreGamesOfFile : List ℕ → List Tree → Found → Type 0
 AreGamesOfFile name trees found.Unread = ⊥
 AreGamesOfFile name trees (found.Refused of at) = ⊥
 AreGamesOfFile name trees (found.Games games nodes) =
-    (games.items ≡ games_from name 0 trees) × (nodes ≡ nodes_of_trees trees) × (nodes ≤ 4294967296)
+    (map arc_value games.items ≡ games_from name 0 trees)
+    × (nodes ≡ nodes_of_trees trees) × (nodes ≤ 4294967296)
 
 -- this was found in a file of this name with these bytes
 abbrev pub IsFoundInBytes : List ℕ → List ℕ → Found → Type 0
@@ -20,7 +22,7 @@ IsFoundInBytes name bytes found.Unread = ⊥
 IsFoundInBytes name bytes (found.Refused of at) = IsFaulty bytes of at
 IsFoundInBytes name bytes (found.Games games nodes) =
     (trees : List Tree) × HaveGames bytes trees × (length trees ≤ 65536)
-    × (games.items ≡ games_from name 0 trees)
+    × (map arc_value games.items ≡ games_from name 0 trees)
     × (nodes ≡ nodes_of_trees trees) × (nodes ≤ 4294967296)
 
 -- this was found in a file of this name with these bytes, or in one that was not read

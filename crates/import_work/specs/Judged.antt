@@ -1,6 +1,7 @@
 -- Files that were found, and judged one after another by the counts of the base.
-use Rattle.std.specs.Prelude.{◌≡◌, ℕ, List, [], ◌∷◌, ◌++◌, None, Some}
-use Rattle.std.specs.List.{AllZip}
+use Rattle.std.specs.Prelude.{◌≡◌, ℕ, List, [], ◌∷◌, ◌++◌, All, None, Some, IfSome, map}
+use Rattle.std.specs.Arc.{arc_value}
+use Rattle.std.specs.List.{AllZip, flat_map}
 use Rattle.std.specs.declared.option.Option.{Option}
 use Rattle.game_tree.specs.Tree.{Tree}
 use Rattle.node_position.specs.Games.{Game}
@@ -8,7 +9,10 @@ use Rattle.import_work.specs.Course.{FileReport, games_from, trees_in}
 use Rattle.import_work.specs.Found.{IsFoundInFile}
 use Rattle.import_work.specs.Outcome.{IsOutcome, with_games}
 use Rattle.import_work.specs.Reads.{FileText}
+use Rattle.import_work.specs.declared.found.Found.{Found}
+use Rattle.import_work.specs.declared.found.Found.TheVariants as found
 use Rattle.import_work.specs.declared.found.FoundFile.{FoundFile}
+use Rattle.import_work.specs.declared.found.FoundPiece.{FoundPiece}
 use Rattle.import_work.specs.declared.outcome.Counts.{Counts}
 use Rattle.import_work.specs.declared.outcome.FileOutcome.{FileOutcome}
 use Rattle.import_work.specs.declared.outcome.FileOutcome.TheVariants as file
@@ -20,6 +24,29 @@ IsFoundFile text f = (f.name ≡ text.name) × IsFoundInFile text.name text.byte
 -- this was found in files
 abbrev pub AreFoundFiles : List FileText → List FoundFile → Type 0
 AreFoundFiles texts files = AllZip IsFoundFile texts files
+
+-- the games that were found in a file
+abbrev pub games_found : Found → List Game
+games_found found.Unread = []
+games_found (found.Refused of at) = []
+games_found (found.Games games nodes) = map arc_value games.items
+
+-- the games that were found in files, in order
+abbrev pub games_in_files : List FoundFile → List Game
+games_in_files files = flat_map (λ (f : FoundFile). games_found f.found) files
+
+-- where a piece has a segment, it has all games that were found in the piece's files
+abbrev pub HasAllGames : FoundPiece → Type 0
+HasAllGames piece = IfSome piece.games (λ (segment : List Game). segment ≡ games_in_files piece.files.items)
+
+-- the files of pieces, in order
+abbrev pub files_in : List FoundPiece → List FoundFile
+files_in pieces = flat_map (λ (p : FoundPiece). p.files.items) pieces
+
+-- this was found in files, in pieces
+pub record AreFoundPieces (texts : List FileText) (pieces : List FoundPiece) : Type 0 where
+  pub files : AreFoundFiles texts (files_in pieces)
+  pub games : All HasAllGames pieces
 
 -- what becomes of a file with these bytes, or of one that was not read
 abbrev pub IsJudged : Counts → Option (List ℕ) → FileOutcome → List Tree → Type 0

@@ -9,9 +9,10 @@ use Rattle.import_work.specs.declared.making.Piece.{Piece}
 abbrev pub piece_games : Piece → List Game
 piece_games piece = made_games piece.start piece.first piece.count
 
--- a piece has a game, and the numbers of its games have 32 bits
+-- a piece has a game, but no more than a base, and the numbers of its games have 32 bits
 abbrev pub IsInRange : Piece → Type 0
-IsInRange piece = (0 < piece.count) × (piece.first + piece.count < 4294967296)
+IsInRange piece =
+    (0 < piece.count) × (piece.count ≤ 400000) × (piece.first + piece.count < 4294967296)
 
 -- these are the made games from this number on, so many, in at most eight pieces
 pub record AreCut (start first count : ℕ) (pieces : List Piece) : Type 0 where

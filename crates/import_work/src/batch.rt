@@ -3,12 +3,14 @@ ghost use Rattle.std.specs.Prelude.{
   ◌≡◌,
   ◌≢◌,
   ◌≤◌,
+  ◌++◌,
   [],
   None,
   length,
   map,
   string_bytes,
   IfOk,
+  IfSome,
   OnOk,
 };
 ghost use Rattle.kb_edges.specs.Faults.{RoseBy};
@@ -23,17 +25,23 @@ ghost use Rattle.import_work.specs.Batches.{
   unread_in,
 };
 ghost use Rattle.import_work.specs.Course.{trees_in};
+ghost use Rattle.import_work.specs.Judged.{AreFoundPieces};
+ghost use Rattle.import_work.specs.Log.{games_of_segments};
+ghost use Rattle.import_work.specs.Reads.{AreTexts, file_texts, text_names};
 ghost use Rattle.import_work.specs.Rooms.{AreAdded, AreCountsWithinLimits};
 ghost use Rattle.import_work.specs.Steps.{AreMoreFiles};
 
+use crate::found::FoundPiece;
 use crate::judge::judge_all;
+use crate::merging::in_one;
 use crate::outcome::{Counts, FileOutcome};
-use crate::pieces::found_files;
-use crate::read::read_all;
+use crate::pieces::{LEAST_SHARE, bytes_of, found_files, pieces_for};
+use crate::read::{ReadFile, read_all};
 use kb_edges::Folder;
 use kb_geometry::{Items, NoMemory, Text};
-use segment_store::{Segment, SegmentBuilder};
+use segment_store::Segment;
 use std::alloc::Global;
+use std::thread;
 use std::thread::Threads;
 
 /// A file of an import by its name, and what became of it.
@@ -114,46 +122,89 @@ pub(crate) fn import_names<R: Threads + Sync, F: Folder>(
     ensures same { F.files folder.new ≡ F.files folder.old }
     ensures later { F.faults folder.old ≤ F.faults folder.new }
 {
-    let mut games = SegmentBuilder::new(alloc);
+    let mut segments = Vec::new(alloc);
     let mut counts = before;
-    for chunk in names.chunks(FILES_AT_ONCE) {
-        import_some(
-            rt,
-            alloc,
-            folder,
-            path,
-            chunk,
-            &mut counts,
-            lines,
-            &mut games,
-        )?;
+    let mut waiting = Vec::new(alloc);
+    for chunk in names.chunks(files_at_once(names.len())) {
+        let (pieces, read) = find_and_read(rt, alloc, waiting, folder, path, chunk)?;
+        let parts = judge_all(alloc, pieces, &mut counts, lines)?;
+        push_games(in_one(alloc, parts)?, &mut segments)?;
+        waiting = read;
     }
-    let segment = games.finish(alloc)?;
+    let pieces = found_files(rt, alloc, waiting)?;
+    let parts = judge_all(alloc, pieces, &mut counts, lines)?;
+    push_games(in_one(alloc, parts)?, &mut segments)?;
+    let segment = in_one(alloc, segments)?;
     Ok((segment, counts))
 }
 
-// Imports some files after others: reads them one after another, then tells what they are side by
-// side, and then judges them one after another. Adds their lines and games to those of the batch.
-fn import_some<R: Threads + Sync, F: Folder>(
+// How many of so many files are read at one time. Few are read all before they are worked on; of more
+// the next ones are read meanwhile.
+fn files_at_once(files: usize) -> usize
+    ensures some { 1 ≤ result }
+    ensures few { result ≤ 64 }
+{
+    if files <= FILES_AT_ONCE {
+        FILES_AT_ONCE
+    } else {
+        FILES_AT_ONCE / 2
+    }
+}
+
+// Pushes a segment, unless it has no game.
+fn push_games(segment: Segment, segments: &mut Vec<Segment>) -> Result<(), NoMemory>
+    ensures { OnOk result (games_of_segments segments.new.items
+        ≡ games_of_segments segments.old.items ++ segment) }
+{
+    if segment.game_count() > 0 {
+        segments.push(segment)?;
+    }
+    Ok(())
+}
+
+// What is found in files that were read, and the files of the next names. These are read meanwhile,
+// where there is work for a thread.
+fn find_and_read<R: Threads + Sync, F: Folder>(
     rt: &R,
     alloc: Global,
+    files: Vec<ReadFile>,
     folder: &mut F,
     path: &str,
     names: &[String],
-    counts: &mut Counts,
-    lines: &mut Vec<FileLine>,
-    games: &mut SegmentBuilder,
-) -> Result<(), NoMemory>
-    requires { length games.old ≤ counts.old.games }
-    ensures imported { OnOk result (AreMoreFiles (F.files folder.old) path.now
-        (map string_bytes names.now) counts.old counts.new (F.faults folder.old)
-        (F.faults folder.new) (line_reports lines.old.items) (line_reports lines.new.items)
-        games.old games.new) }
+) -> Result<(Vec<FoundPiece>, Vec<ReadFile>), NoMemory>
+    ensures found { IfOk result (λ r. AreFoundPieces (file_texts files.items) r.0.items) }
+    ensures named { IfOk result (λ r.
+        text_names (file_texts r.1.items) ≡ map string_bytes names.now) }
+    ensures read { IfOk result (λ r. AreTexts (F.files folder.old) path.now (F.faults folder.old)
+        (file_texts r.1.items) (F.faults folder.new)) }
     ensures same { F.files folder.new ≡ F.files folder.old }
     ensures later { F.faults folder.old ≤ F.faults folder.new }
 {
-    let texts = read_all(alloc, folder, path, names)?;
-    let files = found_files(rt, alloc, texts)?;
-    judge_all(alloc, files, counts, lines, games)?;
-    Ok(())
+    if pieces_for(rt, bytes_of(files.as_slice()) / LEAST_SHARE) < 2 {
+        let pieces = found_files(rt, alloc, files)?;
+        let read = read_all(alloc, folder, path, names)?;
+        return Ok((pieces, read));
+    }
+    let mut waiting = Some(files);
+    let (pieces, read) = thread::join_mut(
+        rt,
+        &mut || found_of(rt, alloc, &mut waiting),
+        &mut || read_all(alloc, folder, path, names),
+    );
+    Ok((pieces?, read?))
+}
+
+// What is found in files, which are taken away.
+fn found_of<R: Threads + Sync>(
+    rt: &R,
+    alloc: Global,
+    files: &mut Option<Vec<ReadFile>>,
+) -> Result<Vec<FoundPiece>, NoMemory>
+    ensures { IfSome files.old (λ own. IfOk result (λ pieces.
+        AreFoundPieces (file_texts own.items) pieces.items)) }
+{
+    match files.take() {
+        Some(own) => found_files(rt, alloc, own),
+        None => Ok(Vec::new(alloc)),
+    }
 }

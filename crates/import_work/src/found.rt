@@ -8,10 +8,10 @@ use capture_board::{Board, ChangeList, NodeDeltas};
 use game_tree::GameTree;
 use kb_geometry::{NoMemory, Shape, Text};
 use node_position::deltas_with;
-use segment_store::FinishedGame;
+use segment_store::{FinishedGame, Segment};
 use sgf_reader::FaultKind;
 use std::alloc::Global;
-use std::sync::ArcStr;
+use std::sync::{Arc, ArcStr};
 
 // What is found in a file.
 #[derive(Debug, Drop)]
@@ -25,7 +25,7 @@ pub(crate) enum Found {
     },
     // Its games, in order, with what is kept beside them, and how many nodes they have.
     Games {
-        games: Vec<FinishedGame>,
+        games: Vec<Arc<FinishedGame>>,
         nodes: u64,
     },
 }
@@ -35,6 +35,14 @@ pub(crate) enum Found {
 pub(crate) struct FoundFile {
     pub name: Text,
     pub found: Found,
+}
+
+// The files of a piece, and the segment of all games that are found in them, unless they are more than
+// a segment may have.
+#[derive(Debug, Drop)]
+pub(crate) struct FoundPiece {
+    pub files: Vec<FoundFile>,
+    pub games: Option<Segment>,
 }
 
 // What the changes of games are made with: a board and a list with room for the greatest board.
@@ -88,14 +96,14 @@ fn games_found(
     ensures { IfOk result (AreGamesOfFile name.now trees.items) }
 {
     let file = ArcStr::from_str(alloc, name)?;
-    let mut games = Vec::new(alloc);
+    let mut games = Vec::with_capacity(alloc, trees.len())?;
     let mut place = 0;
     let mut nodes = 0;
     for tree in trees {
         nodes += u64::from(tree.node_count());
         let deltas = follower.deltas(alloc, &tree)?;
         let game = FinishedGame::new(alloc, file.clone()?, place, tree, deltas)?;
-        games.push(game)?;
+        games.push(Arc::new(alloc, game)?)?;
         place += 1;
     }
     Ok(Found::Games { games, nodes })

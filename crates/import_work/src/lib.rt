@@ -17,6 +17,7 @@ mod laws;
 mod listing;
 mod made;
 mod making;
+mod merging;
 mod one_file;
 mod outcome;
 mod pieces;

@@ -1,12 +1,12 @@
 // The segment of made games, in up to eight pieces side by side.
-ghost use Rattle.std.specs.Prelude.{◌≡◌, ◌+◌, ◌<◌, ◌≤◌, length, IfOk};
-ghost use Rattle.std.specs.List.{flat_map};
-ghost use Rattle.kb_geometry.specs.Pieces.{ArePiecesJoined, items_of_piece};
+ghost use Rattle.std.specs.Prelude.{◌≡◌, ◌+◌, ◌<◌, ◌≤◌, IfOk};
+ghost use Rattle.import_work.specs.Log.{games_of_segments};
 ghost use Rattle.import_work.specs.Made.{made_games};
 ghost use Rattle.import_work.specs.MadePieces.{AreCut};
 
 use crate::found::Follower;
-use crate::judge::add_all;
+use crate::merging::in_one;
+use crate::pieces::pieces_for;
 use kb_geometry::{NoMemory, joined};
 use made_games::made_tree;
 use segment_store::{FinishedGame, Segment, SegmentBuilder};
@@ -15,8 +15,8 @@ use std::sync::ArcStr;
 use std::thread;
 use std::thread::Threads;
 
-// The most pieces of a segment.
-const MAX_PIECES: u32 = 8;
+// For fewer games than these a thread costs more than it spares.
+const LEAST_GAMES: u32 = 16;
 
 // Some of the made games: from this number on, so many.
 #[derive(Clone, Copy, Debug)]
@@ -39,21 +39,26 @@ pub(crate) fn made_segment<R: Threads + Sync>(
     requires fits { first + count < 4294967296 }
     ensures { IfOk result (λ segment. segment ≡ made_games start first count) }
 {
-    let pieces = cut(alloc, start, first, count)?;
+    let most = pieces_for(rt, u64::from(count / LEAST_GAMES)) as u32;
+    let pieces = cut(alloc, start, first, count, most)?;
     let made = thread::map_vec(rt, pieces, &|piece| { made_piece(alloc, piece) })?;
-    segment_of(alloc, made)
+    let segments = joined(alloc, made)?;
+    in_one(alloc, segments)
 }
 
-// The numbers of these games in at most eight pieces, in order, none without a game. The longest
+// The numbers of these games in at most so many pieces, in order, none without a game. The longest
 // piece has at most one game more than the shortest.
-fn cut(alloc: Global, start: u32, first: u32, count: u32) -> Result<Vec<Piece>, NoMemory>
-    requires { first + count < 4294967296 }
+fn cut(alloc: Global, start: u32, first: u32, count: u32, most: u32) -> Result<Vec<Piece>, NoMemory>
+    requires some { 1 ≤ most }
+    requires most { most ≤ 8 }
+    requires few { count ≤ 400000 }
+    requires fits { first + count < 4294967296 }
     ensures { IfOk result (λ pieces. AreCut start first count pieces.items) }
 {
     let mut pieces = Vec::new(alloc);
     let mut next = first;
     let mut left = count;
-    let mut parts = MAX_PIECES;
+    let mut parts = most;
     while left > 0 {
         let own = share_of(left, parts);
         pieces.push(Piece {
@@ -78,33 +83,32 @@ fn share_of(left: u32, parts: u32) -> u32
     left.div_ceil(parts)
 }
 
-// The games of a piece.
-fn made_piece(alloc: Global, piece: Piece) -> Result<Vec<FinishedGame>, NoMemory>
-    requires { piece.first + piece.count < 4294967296 }
-    ensures { IfOk result (λ games. games.items ≡ made_games piece.start piece.first piece.count) }
+// The games of a piece: one segment.
+fn made_piece(alloc: Global, piece: Piece) -> Result<Vec<Segment>, NoMemory>
+    requires few { piece.count ≤ 400000 }
+    requires fits { piece.first + piece.count < 4294967296 }
+    ensures { IfOk result (λ segments. games_of_segments segments.items
+        ≡ made_games piece.start piece.first piece.count) }
+{
+    let mut segments = Vec::with_capacity(alloc, 1)?;
+    segments.push(segment_of(alloc, piece)?)?;
+    Ok(segments)
+}
+
+// The segment of the games of a piece.
+fn segment_of(alloc: Global, piece: Piece) -> Result<Segment, NoMemory>
+    requires few { piece.count ≤ 400000 }
+    requires fits { piece.first + piece.count < 4294967296 }
+    ensures { IfOk result (λ games. games ≡ made_games piece.start piece.first piece.count) }
 {
     let file = ArcStr::from_str(alloc, "make")?;
     let mut follower = Follower::new();
-    let mut games = Vec::with_capacity(alloc, piece.count as usize)?;
+    let mut games = SegmentBuilder::new(alloc);
     for number in piece.first..piece.first + piece.count {
         let tree = made_tree(alloc, piece.start, number)?;
         let deltas = follower.deltas(alloc, &tree)?;
         let game = FinishedGame::new(alloc, file.clone()?, number, tree, deltas)?;
-        games.push(game)?;
+        games.add_finished(alloc, game)?;
     }
-    Ok(games)
-}
-
-// The games of all pieces, in one segment.
-fn segment_of(
-    alloc: Global,
-    made: Vec<Result<Vec<FinishedGame>, NoMemory>>,
-) -> Result<Segment, NoMemory>
-    requires { length (flat_map items_of_piece made.items) ≤ 400000 }
-    ensures { IfOk result (λ segment. ArePiecesJoined made.items segment) }
-{
-    let own = joined(alloc, made)?;
-    let mut games = SegmentBuilder::new(alloc);
-    add_all(alloc, own, &mut games)?;
     games.finish(alloc)
 }

@@ -22,7 +22,10 @@ use crate::{Folder, FolderError, MAX_LIMIT};
 use std::alloc::Global;
 use std::io::{ErrorKind, Read};
 use std::rt::Files;
-use std::{fs, io};
+use std::{fs, io, mem};
+
+// For how many bytes there is room before a file is read.
+const ROOM: usize = 16_384;
 
 /// The files of the system. It tells nothing of them. Each error of the system but want of memory
 /// is a fault: a path that isn't there, and a name in a directory that isn't UTF-8, among them. So
@@ -31,6 +34,8 @@ use std::{fs, io};
 pub struct RealFolder<R: Files + AllocGlobal + Clone + Drop> {
     rt: R,
     faults: u64,
+    // Room into which files are read. What it holds between two reads means nothing.
+    room: Vec<u8>,
 }
 
 impl<R: Files + AllocGlobal + Clone + Drop> RealFolder<R> {
@@ -40,7 +45,12 @@ impl<R: Files + AllocGlobal + Clone + Drop> RealFolder<R> {
     pub fn new(rt: R) -> RealFolder<R>
         ensures { real_folder_faults result ≡ 0 }
     {
-        RealFolder { rt, faults: 0 }
+        let room = Vec::new(rt.alloc());
+        RealFolder {
+            rt,
+            faults: 0,
+            room,
+        }
     }
 
     // The answer to an error, which is counted unless it is want of memory.
@@ -82,23 +92,32 @@ fn names_in<R: Files + AllocGlobal + Clone + Drop>(
     Ok(names)
 }
 
-// The first `limit + 1` bytes of a file, or all of them.
+// The path of a file in a directory.
+fn path_of(alloc: Global, path: &str, name: &str) -> io::Result<String> {
+    Ok(format!(in alloc; "{path}/{name}")?)
+}
+
+// The first `limit + 1` bytes of a file, or all of them. They are read into the room. Those of a
+// short file are copied, and a long file takes the room with it.
 fn read_file<R: Files>(
     rt: &R,
     alloc: Global,
     path: &str,
-    name: &str,
     limit: usize,
+    room: &mut Vec<u8>,
 ) -> io::Result<Vec<u8>>
     requires { limit ≤ MAX_LIMIT }
     ensures { IfOk result (λ bytes. vec_len bytes ≤ limit + 1) }
 {
-    let path = format!(in alloc; "{path}/{name}")?;
-    let file = fs::open(rt, path.as_str())?;
-    let mut bytes = Vec::new(alloc);
-    file.take(limit as u64 + 1).read_to_end(&mut bytes)?;
-    bytes.truncate(limit + 1);
-    Ok(bytes)
+    let file = fs::open(rt, path)?;
+    room.clear();
+    room.reserve(ROOM)?;
+    file.take(limit as u64 + 1).read_to_end(room)?;
+    room.truncate(limit + 1);
+    if room.len() < ROOM {
+        return Ok(Vec::from_slice(alloc, room.as_slice())?);
+    }
+    Ok(mem::replace(room, Vec::new(alloc)))
 }
 
 impl<R: Files + AllocGlobal + Clone + Drop> Folder for RealFolder<R> {
@@ -141,7 +160,11 @@ impl<R: Files + AllocGlobal + Clone + Drop> Folder for RealFolder<R> {
         ensures faults_rise { IsErrOf result FolderError.Failed →
             real_folder_faults self.new ≡ next_count (real_folder_faults self.old) }
     {
-        match read_file(&self.rt, alloc, path, name, limit) {
+        let read = match path_of(alloc, path, name) {
+            Ok(path) => read_file(&self.rt, alloc, path.as_str(), limit, &mut self.room),
+            Err(error) => Err(error),
+        };
+        match read {
             Ok(bytes) => Ok(bytes),
             Err(error) => Err(self.refusal(error)),
         }

@@ -1,26 +1,21 @@
--- The entries of the map of openings: one entry or one next move more of a key that is there, and of a new one.
-use Rattle.std.proofs.Common.{◌≡◌, ℕ, zero, suc, Bool, true, false, cond, inl, inr, List, [], ◌∷◌, Some, slice_get, refl, sym, ap, ◌∙◌, subst}
+-- The openings by words: one entry, one next move or one opening more of words that are there, and of new ones.
+use Prim.Native.Nat.{zero}
+use Rattle.std.proofs.Common.{◌≡◌, ℕ, suc, ◌+◌, Bool, true, false, cond, inl, inr, List, [], ◌∷◌, refl, sym, ap, ◌∙◌, subst, arith}
 use Rattle.std.specs.Prelude.{All, nat_eq}
 use Rattle.std.specs.Cmp.Lexicographic.{pointwise, slice_cmp}
-use Rattle.std.specs.List.{AllByRecursion}
-use Rattle.std.specs.Map.{keys_of, values_of}
 use Rattle.std.specs.Ordering.{nat_cmp}
-use Rattle.std.specs.declared.alloc.Global.{Global}
 use Rattle.std.specs.declared.cmp.Ordering.{Ordering}
 use Rattle.std.specs.declared.cmp.Ordering.TheVariants.{Less, Equal, Greater}
-use Rattle.std.specs.declared.vec.Vec.{Vec}
 use Rattle.std.proofs.lemmas.Bool.{false_from_ne_true, false≢true}
-use Rattle.std.proofs.lemmas.List.Elements.{All-cons, All-head, All-tail}
+use Rattle.std.proofs.lemmas.List.Elements.{All-cons, All-head, All-nil, All-tail}
 use Rattle.std.proofs.lemmas.Slice.Eq.{bytes_eq-Decides}
-use Rattle.indexmap.specs.IndexMap.{insert_entry}
-use Rattle.indexmap.specs.Layout.{set_value_at}
 use Rattle.kb_geometry.specs.Capture.{Position}
 use Rattle.opening_tree.specs.declared.answer.Opening.{Opening}
-use Rattle.opening_tree.specs.declared.opening_so_far.OpeningSoFar.{OpeningSoFar}
 use Rattle.opening_tree.specs.Canonical.{IsBefore}
 use Rattle.opening_tree.specs.Entries.{Entry}
-use Rattle.opening_tree.specs.Groups.{Grouped, none_yet, opening_with, with_entry, with_group, with_next, with_one, with_row, with_rows}
-use Rattle.opening_tree.specs.StoredGroups.{AreKeys, Stored, group_shown, groups_shown, opening_shown}
+use Rattle.opening_tree.specs.Groups.{AreSorted, Grouped, IsGroupWithin, IsRowWithin, none_yet, opening_with, with_entry, with_group, with_next, with_one, with_row, with_rows}
+use Rattle.opening_tree.specs.OpeningTables.{IsSaidAt, begun, changed}
+use Rattle.opening_tree.specs.StoredGroups.{AreKeys, IsKeyAt, Stored, group_shown, groups_shown}
 use Rattle.opening_tree.specs.NextMoves.{NextAt}
 use Rattle.opening_tree.specs.Openings.{is_same_position}
 use Rattle.opening_tree.specs.Packing.{AreCells, cells_of}
@@ -28,9 +23,6 @@ use Rattle.opening_tree.proofs.PackedCells.{before-words}
 use Rattle.opening_tree.proofs.PositionOrder.{not_before_itself}
 use Rattle.opening_tree.proofs.SamePositions.{same_position, told}
 use Rattle.opening_tree.proofs.WordOrder.{lists_equal, lists_greater}
-
-abbrev Key : Type 0
-Key = Vec ℕ Global
 
 -- ---- words and positions
 
@@ -52,38 +44,66 @@ module _ (points : ℕ) (xs ys : List ℕ) (are_xs : AreCells points xs) (are_ys
         false≢true (sym f ∙ (bytes_eq-Decides xs ys).1 e)))
   ]
 
--- ---- where a key stands
-
--- the entry with this number is the first one whose key passes
-abbrev pub IsFirst : (Key → Bool) → List Stored → ℕ → Type 0
-IsFirst test [] at = ⊥
-IsFirst test (e ∷ es) zero = test e.0 ≡ true
-IsFirst test (e ∷ es) (suc at) = (test e.0 ≡ false) × IsFirst test es at
-
--- no key passes
-abbrev pub IsAbsent : (Key → Bool) → List Stored → Type 0
-IsAbsent test es = AllByRecursion (λ key. test key ≡ false) (keys_of es)
+-- ---- the opening of some words
 
 module _ (points : ℕ) (words : List ℕ) (are : AreCells points words) where
-  abbrev test : Key → Bool
-  test key = pointwise nat_eq words key.items
+  same_key : (x : Stored) → AreCells points x.0 → pointwise nat_eq words x.0 ≡ is_same_position (cells_of points words) (cells_of points x.0)
+  same_key x keys = same_words points words x.0 are keys
 
-  same_key : (x : Stored) → AreCells points x.0.items → pointwise nat_eq words x.0.items ≡ is_same_position (cells_of points words) (cells_of points x.0.items)
-  same_key x keys = same_words points words x.0.items are keys
+  own_key : (x : Stored) (xs : List Stored) → AreKeys points (x ∷ xs) → x.0 ≡ words → is_same_position (cells_of points words) (cells_of points x.0) ≡ true
+  own_key x xs keys is = sym (same_key x (All-head (λ (y : Stored). AreCells points y.0) x xs keys)) ∙ (bytes_eq-Decides words x.0).1 (sym is)
+
+  other_key : (x : Stored) (xs : List Stored) → AreKeys points (x ∷ xs) → ¬ (x.0 ≡ words) → is_same_position (cells_of points words) (cells_of points x.0) ≡ false
+  other_key x xs keys ne =
+      sym (same_key x (All-head (λ (y : Stored). AreCells points y.0) x xs keys))
+      ∙ false_from_ne_true (pointwise nat_eq words x.0) (λ t. ne (sym ((bytes_eq-Decides words x.0).0 t)))
 
   module _ (W : List Grouped → List Grouped) (F : Opening → Opening) (own : (g : Grouped) (gs : List Grouped) → is_same_position (cells_of points words) g.canonical ≡ true → W (g ∷ gs) ≡ record { canonical = g.canonical; opening = F g.opening } ∷ gs) (pass : (g : Grouped) (gs : List Grouped) → is_same_position (cells_of points words) g.canonical ≡ false → W (g ∷ gs) ≡ g ∷ W gs) where
-    -- of a key that is there
-    changed_at : (es : List Stored) (at : ℕ) (old new : OpeningSoFar) → AreKeys points es → IsFirst test es at → slice_get (values_of es) at ≡ Some old → opening_shown new ≡ F (opening_shown old) → groups_shown points (set_value_at es at new) ≡ W (groups_shown points es)
-    changed_at [] at old new keys first is made = absurd first
-    changed_at (x ∷ xs) zero old new keys first is made =
-        let value : x.1 ≡ old = cc (is) in
-        let e : is_same_position (cells_of points words) (cells_of points x.0.items) ≡ true = sym (same_key x (All-head (λ (y : Stored). AreCells points y.0.items) x xs keys)) ∙ first in
-        ap (λ (o : Opening). record { canonical = cells_of points x.0.items; opening = o } ∷ groups_shown points xs) (made ∙ ap (λ (o : OpeningSoFar). F (opening_shown o)) (sym value))
-        ∙ sym (own (group_shown points x) (groups_shown points xs) e)
-    changed_at (x ∷ xs) (suc at) old new keys first is made =
-        let e : is_same_position (cells_of points words) (cells_of points x.0.items) ≡ false = sym (same_key x (All-head (λ (y : Stored). AreCells points y.0.items) x xs keys)) ∙ first.0 in
-        ap (λ gs. group_shown points x ∷ gs) (changed_at xs at old new (All-tail (λ (y : Stored). AreCells points y.0.items) x xs keys) first.1 is made)
-        ∙ sym (pass (group_shown points x) (groups_shown points xs) e)
+    -- it changes
+    changed_at : (es : List Stored) (at : ℕ) → AreKeys points es → IsKeyAt es at words → groups_shown points (changed F es at) ≡ W (groups_shown points es)
+    changed_at [] at keys is = absurd is
+    changed_at (x ∷ xs) zero keys is = sym (own (group_shown points x) (groups_shown points xs) (own_key x xs keys is))
+    changed_at (x ∷ xs) (suc at) keys is =
+        ap (λ gs. group_shown points x ∷ gs) (changed_at xs at (All-tail (λ (y : Stored). AreCells points y.0) x xs keys) is.1)
+        ∙ sym (pass (group_shown points x) (groups_shown points xs) (other_key x xs keys is.0))
+
+    -- it is begun first
+    begun_first : (none : Opening) → W (record { canonical = cells_of points words; opening = none } ∷ []) ≡ W [] → (es : List Stored) → AreKeys points es → W (groups_shown points (begun es words none)) ≡ W (groups_shown points es)
+    begun_first none first [] keys = first
+    begun_first none first (x ∷ xs) keys = by (pointwise nat_eq words x.0) refl (begun_first none first xs (All-tail (λ (y : Stored). AreCells points y.0) x xs keys))
+      where
+        by : (b : Bool) → pointwise nat_eq words x.0 ≡ b → W (groups_shown points (begun xs words none)) ≡ W (groups_shown points xs) → W (groups_shown points (cond b (x ∷ xs) (x ∷ begun xs words none))) ≡ W (groups_shown points (x ∷ xs))
+        by true t rest = refl
+        by false f rest =
+            let other : is_same_position (cells_of points words) (cells_of points x.0) ≡ false = sym (same_key x (All-head (λ (y : Stored). AreCells points y.0) x xs keys)) ∙ f in
+            pass (group_shown points x) (groups_shown points (begun xs words none)) other
+            ∙ ap (λ gs. group_shown points x ∷ gs) rest
+            ∙ sym (pass (group_shown points x) (groups_shown points xs) other)
+
+  -- ---- keys and numbers
+
+  pub keys_begun : (none : Opening) (es : List Stored) → AreKeys points es → AreKeys points (begun es words none)
+  keys_begun none [] keys = All-cons (λ (y : Stored). AreCells points y.0) (words, none) [] are (All-nil (λ (y : Stored). AreCells points y.0))
+  keys_begun none (x ∷ xs) keys = by (pointwise nat_eq words x.0) (keys_begun none xs (All-tail (λ (y : Stored). AreCells points y.0) x xs keys))
+    where
+      by : (b : Bool) → AreKeys points (begun xs words none) → AreKeys points (cond b (x ∷ xs) (x ∷ begun xs words none))
+      by true rest = keys
+      by false rest = All-cons (λ (y : Stored). AreCells points y.0) x (begun xs words none) (All-head (λ (y : Stored). AreCells points y.0) x xs keys) rest
+
+  -- what is said of all openings, and of one of no entry, is said of all once it is begun
+  pub said_begun : (P : Opening → Type 0) (none : Opening) → P none → (es : List Stored) → All (λ (g : Grouped). P g.opening) (groups_shown points es) → All (λ (g : Grouped). P g.opening) (groups_shown points (begun es words none))
+  said_begun P none is [] all = All-cons (λ (g : Grouped). P g.opening) (group_shown points (words, none)) [] is (All-nil (λ (g : Grouped). P g.opening))
+  said_begun P none is (x ∷ xs) all = by (pointwise nat_eq words x.0) (said_begun P none is xs (All-tail (λ (g : Grouped). P g.opening) (group_shown points x) (groups_shown points xs) all))
+    where
+      by : (b : Bool) → All (λ (g : Grouped). P g.opening) (groups_shown points (begun xs words none)) → All (λ (g : Grouped). P g.opening) (groups_shown points (cond b (x ∷ xs) (x ∷ begun xs words none)))
+      by true rest = all
+      by false rest = All-cons (λ (g : Grouped). P g.opening) (group_shown points x) (groups_shown points (begun xs words none)) (All-head (λ (g : Grouped). P g.opening) (group_shown points x) (groups_shown points xs) all) rest
+
+  -- what is said of all openings is said of that with a number
+  pub said_at : (P : Opening → Type 0) (es : List Stored) (at : ℕ) → IsKeyAt es at words → All (λ (g : Grouped). P g.opening) (groups_shown points es) → IsSaidAt P es at
+  said_at P [] at is all = is
+  said_at P (x ∷ xs) zero is all = All-head (λ (g : Grouped). P g.opening) (group_shown points x) (groups_shown points xs) all
+  said_at P (x ∷ xs) (suc at) is all = said_at P xs at is.1 (All-tail (λ (g : Grouped). P g.opening) (group_shown points x) (groups_shown points xs) all)
 
   -- ---- an entry
 
@@ -98,19 +118,15 @@ module _ (points : ℕ) (words : List ℕ) (are : AreCells points words) where
         let here : is_same_position e.canonical g.canonical ≡ false = subst (λ (p : Position). is_same_position p g.canonical ≡ false) canonical f in
         ap (λ b. cond b (record { canonical = g.canonical; opening = with_one g.opening e.outcome } ∷ gs) (g ∷ with_entry gs e)) here
 
-    pub entry_counted : (es : List Stored) (at : ℕ) (old new : OpeningSoFar) → AreKeys points es → IsFirst test es at → slice_get (values_of es) at ≡ Some old → opening_shown new ≡ with_one (opening_shown old) e.outcome → groups_shown points (set_value_at es at new) ≡ with_entry (groups_shown points es) e
-    entry_counted = changed_at (λ gs. with_entry gs e) (λ o. with_one o e.outcome) own_entry pass_entry
+    first_entry : with_entry (record { canonical = cells_of points words; opening = none_yet e.game e.node } ∷ []) e ≡ with_entry [] e
+    first_entry =
+        own_entry (record { canonical = cells_of points words; opening = none_yet e.game e.node }) [] ((same_position (cells_of points words) (cells_of points words)).1 refl)
+        ∙ ap (λ (p : Position). record { canonical = p; opening = with_one (none_yet e.game e.node) e.outcome } ∷ []) canonical
 
-    pub entry_begun : (same : Key → Key → Bool) → ((a b : Key) → same a b ≡ pointwise nat_eq a.items b.items) → (es : List Stored) (key : Key) (new : OpeningSoFar) → AreKeys points es → IsAbsent test es → key.items ≡ words → opening_shown new ≡ with_one (none_yet e.game e.node) e.outcome → groups_shown points (insert_entry same es key new) ≡ with_entry (groups_shown points es) e
-    entry_begun same is_same [] key new keys absent is made =
-        let place : cells_of points key.items ≡ e.canonical = ap (cells_of points) is ∙ canonical in
-        λ i. record { canonical = place i; opening = made i } ∷ []
-    entry_begun same is_same (x ∷ xs) key new keys absent is made =
-        let no : same key x.0 ≡ false = is_same key x.0 ∙ ap (λ (ws : List ℕ). pointwise nat_eq ws x.0.items) is ∙ absent.0 in
-        let other : is_same_position (cells_of points words) (cells_of points x.0.items) ≡ false = sym (same_key x (All-head (λ (y : Stored). AreCells points y.0.items) x xs keys)) ∙ absent.0 in
-        ap (λ b. groups_shown points (cond b ((x.0, new) ∷ xs) (x ∷ insert_entry same xs key new))) no
-        ∙ ap (λ gs. group_shown points x ∷ gs) (entry_begun same is_same xs key new (All-tail (λ (y : Stored). AreCells points y.0.items) x xs keys) absent.1 is made)
-        ∙ sym (pass_entry (group_shown points x) (groups_shown points xs) other)
+    pub entry_counted : (none : Opening) → none ≡ none_yet e.game e.node → (es : List Stored) (at : ℕ) → AreKeys points es → IsKeyAt (begun es words none) at words → groups_shown points (changed (λ o. with_one o e.outcome) (begun es words none) at) ≡ with_entry (groups_shown points es) e
+    entry_counted none is es at keys key =
+        changed_at (λ gs. with_entry gs e) (λ o. with_one o e.outcome) own_entry pass_entry (begun es words none) at (keys_begun none es keys) key
+        ∙ begun_first (λ gs. with_entry gs e) (λ o. with_one o e.outcome) own_entry pass_entry none (ap (λ (o : Opening). with_entry (record { canonical = cells_of points words; opening = o } ∷ []) e) is ∙ first_entry) es keys
 
   -- ---- a next move
 
@@ -125,12 +141,12 @@ module _ (points : ℕ) (words : List ℕ) (are : AreCells points words) where
         let here : is_same_position n.canonical g.canonical ≡ false = subst (λ (p : Position). is_same_position p g.canonical ≡ false) canonical f in
         ap (λ b. cond b (record { canonical = g.canonical; opening = with_rows g.opening (with_row g.opening.nexts n.played n.outcome) } ∷ gs) (g ∷ with_next gs n)) here
 
-    pub next_counted : (es : List Stored) (at : ℕ) (old new : OpeningSoFar) → AreKeys points es → IsFirst test es at → slice_get (values_of es) at ≡ Some old → opening_shown new ≡ with_rows (opening_shown old) (with_row old.rows.items n.played n.outcome) → groups_shown points (set_value_at es at new) ≡ with_next (groups_shown points es) n
+    pub next_counted : (es : List Stored) (at : ℕ) → AreKeys points es → IsKeyAt es at words → groups_shown points (changed (λ o. with_rows o (with_row o.nexts n.played n.outcome)) es at) ≡ with_next (groups_shown points es) n
     next_counted = changed_at (λ gs. with_next gs n) (λ o. with_rows o (with_row o.nexts n.played n.outcome)) own_next pass_next
 
   -- ---- an opening of more games
 
-  module _ (more : Opening) where
+  module _ (more : Opening) (sorted : AreSorted more.nexts) where
     abbrev group : Grouped
     group = record { canonical = cells_of points words; opening = more }
 
@@ -140,53 +156,62 @@ module _ (points : ℕ) (words : List ℕ) (are : AreCells points words) where
     pass_group : (g : Grouped) (gs : List Grouped) → is_same_position (cells_of points words) g.canonical ≡ false → with_group (g ∷ gs) group ≡ g ∷ with_group gs group
     pass_group g gs f = ap (λ b. cond b (record { canonical = g.canonical; opening = opening_with g.opening more } ∷ gs) (g ∷ with_group gs group)) f
 
-    pub group_counted : (es : List Stored) (at : ℕ) (old new : OpeningSoFar) → AreKeys points es → IsFirst test es at → slice_get (values_of es) at ≡ Some old → opening_shown new ≡ opening_with (opening_shown old) more → groups_shown points (set_value_at es at new) ≡ with_group (groups_shown points es) group
-    group_counted = changed_at (λ gs. with_group gs group) (λ o. opening_with o more) own_group pass_group
+    -- an opening of no entry with those of another one is that one
+    first_with : opening_with (none_yet more.game more.node) more ≡ more
+    first_with =
+        let count : 0 + more.count ≡ more.count = omega arith in
+        let black : 0 + more.black ≡ more.black = omega arith in
+        let white : 0 + more.white ≡ more.white = omega arith in
+        let other : 0 + more.other ≡ more.other = omega arith in
+        λ i. record { count = count i; black = black i; white = white i; other = other i; game = more.game; node = more.node; nexts = sorted i }
 
-    -- what is said of all openings once it is added is said of that with its key
-    pub said_with : (P : Opening → Type 0) (es : List Stored) (at : ℕ) (old : OpeningSoFar) → AreKeys points es → IsFirst test es at → slice_get (values_of es) at ≡ Some old → All (λ (g : Grouped). P g.opening) (with_group (groups_shown points es) group) → P (opening_with (opening_shown old) more)
-    said_with P [] at old keys first is all = absurd first
-    said_with P (x ∷ xs) zero old keys first is all =
-        let value : x.1 ≡ old = cc (is) in
-        let e : is_same_position (cells_of points words) (cells_of points x.0.items) ≡ true = sym (same_key x (All-head (λ (y : Stored). AreCells points y.0.items) x xs keys)) ∙ first in
-        let own : All (λ (g : Grouped). P g.opening) (record { canonical = cells_of points x.0.items; opening = opening_with (opening_shown x.1) more } ∷ groups_shown points xs) = subst (λ (gs : List Grouped). All (λ (g : Grouped). P g.opening) gs) (own_group (group_shown points x) (groups_shown points xs) e) all in
-        subst (λ (o : OpeningSoFar). P (opening_with (opening_shown o) more)) value (All-head (λ (g : Grouped). P g.opening) (record { canonical = cells_of points x.0.items; opening = opening_with (opening_shown x.1) more }) (groups_shown points xs) own)
-    said_with P (x ∷ xs) (suc at) old keys first is all =
-        let e : is_same_position (cells_of points words) (cells_of points x.0.items) ≡ false = sym (same_key x (All-head (λ (y : Stored). AreCells points y.0.items) x xs keys)) ∙ first.0 in
-        let passed : All (λ (g : Grouped). P g.opening) (group_shown points x ∷ with_group (groups_shown points xs) group) = subst (λ (gs : List Grouped). All (λ (g : Grouped). P g.opening) gs) (pass_group (group_shown points x) (groups_shown points xs) e) all in
-        said_with P xs at old (All-tail (λ (y : Stored). AreCells points y.0.items) x xs keys) first.1 is (All-tail (λ (g : Grouped). P g.opening) (group_shown points x) (with_group (groups_shown points xs) group) passed)
+    first_group : with_group (record { canonical = cells_of points words; opening = none_yet more.game more.node } ∷ []) group ≡ with_group [] group
+    first_group =
+        own_group (record { canonical = cells_of points words; opening = none_yet more.game more.node }) [] ((same_position (cells_of points words) (cells_of points words)).1 refl)
+        ∙ ap (λ (o : Opening). record { canonical = cells_of points words; opening = o } ∷ []) first_with
 
-  pub group_begun : (same : Key → Key → Bool) → ((a b : Key) → same a b ≡ pointwise nat_eq a.items b.items) → (es : List Stored) (key : Key) (new : OpeningSoFar) → AreKeys points es → IsAbsent test es → key.items ≡ words → groups_shown points (insert_entry same es key new) ≡ with_group (groups_shown points es) (group_shown points (key, new))
-  group_begun same is_same [] key new keys absent is = refl
-  group_begun same is_same (x ∷ xs) key new keys absent is =
-      let no : same key x.0 ≡ false = is_same key x.0 ∙ ap (λ (ws : List ℕ). pointwise nat_eq ws x.0.items) is ∙ absent.0 in
-      let other : is_same_position (cells_of points key.items) (cells_of points x.0.items) ≡ false = ap (λ (ws : List ℕ). is_same_position (cells_of points ws) (cells_of points x.0.items)) is ∙ sym (same_key x (All-head (λ (y : Stored). AreCells points y.0.items) x xs keys)) ∙ absent.0 in
-      ap (λ b. groups_shown points (cond b ((x.0, new) ∷ xs) (x ∷ insert_entry same xs key new))) no
-      ∙ ap (λ gs. group_shown points x ∷ gs) (group_begun same is_same xs key new (All-tail (λ (y : Stored). AreCells points y.0.items) x xs keys) absent.1 is)
-      ∙ sym (ap (λ b. cond b (record { canonical = cells_of points x.0.items; opening = opening_with (opening_shown x.1) (opening_shown new) } ∷ groups_shown points xs) (group_shown points x ∷ with_group (groups_shown points xs) (group_shown points (key, new)))) other)
+    module _ (none : Opening) (is : none ≡ none_yet more.game more.node) (es : List Stored) (keys : AreKeys points es) where
+      -- it is begun first
+      group_first : with_group (groups_shown points (begun es words none)) group ≡ with_group (groups_shown points es) group
+      group_first = begun_first (λ gs. with_group gs group) (λ o. opening_with o more) own_group pass_group none (ap (λ (o : Opening). with_group (record { canonical = cells_of points words; opening = o } ∷ []) group) is ∙ first_group) es keys
 
--- ---- keys and bounds
+      pub group_counted : (at : ℕ) → IsKeyAt (begun es words none) at words → groups_shown points (changed (λ o. opening_with o more) (begun es words none) at) ≡ with_group (groups_shown points es) group
+      group_counted at key =
+          changed_at (λ gs. with_group gs group) (λ o. opening_with o more) own_group pass_group (begun es words none) at (keys_begun none es keys) key
+          ∙ group_first
 
-module _ (points : ℕ) where
-  pub keys_set : (es : List Stored) (at : ℕ) (new : OpeningSoFar) → AreKeys points es → AreKeys points (set_value_at es at new)
-  keys_set [] at new keys = keys
-  keys_set (x ∷ xs) zero new keys =
-      All-cons (λ (y : Stored). AreCells points y.0.items) (x.0, new) xs (All-head (λ (y : Stored). AreCells points y.0.items) x xs keys) (All-tail (λ (y : Stored). AreCells points y.0.items) x xs keys)
-  keys_set (x ∷ xs) (suc at) new keys =
-      All-cons (λ (y : Stored). AreCells points y.0.items) x (set_value_at xs at new) (All-head (λ (y : Stored). AreCells points y.0.items) x xs keys) (keys_set xs at new (All-tail (λ (y : Stored). AreCells points y.0.items) x xs keys))
+      -- what is said of all openings once it is added is said of that with its key
+      said_in : (P : Opening → Type 0) (ys : List Stored) (at : ℕ) → AreKeys points ys → IsKeyAt ys at words → All (λ (g : Grouped). P g.opening) (with_group (groups_shown points ys) group) → IsSaidAt (λ o. P (opening_with o more)) ys at
+      said_in P [] at own key all = key
+      said_in P (x ∷ xs) zero own key all =
+          All-head (λ (g : Grouped). P g.opening) (record { canonical = cells_of points x.0; opening = opening_with x.1 more }) (groups_shown points xs)
+          (subst (λ (gs : List Grouped). All (λ (g : Grouped). P g.opening) gs) (own_group (group_shown points x) (groups_shown points xs) (own_key x xs own key)) all)
+      said_in P (x ∷ xs) (suc at) own key all =
+          said_in P xs at (All-tail (λ (y : Stored). AreCells points y.0) x xs own) key.1
+          (All-tail (λ (g : Grouped). P g.opening) (group_shown points x) (with_group (groups_shown points xs) group)
+          (subst (λ (gs : List Grouped). All (λ (g : Grouped). P g.opening) gs) (pass_group (group_shown points x) (groups_shown points xs) (other_key x xs own key.0)) all))
 
-  pub keys_inserted : (same : Key → Key → Bool) (es : List Stored) (key : Key) (new : OpeningSoFar) → AreKeys points es → AreCells points key.items → AreKeys points (insert_entry same es key new)
-  keys_inserted same [] key new keys here = All-cons (λ (y : Stored). AreCells points y.0.items) (key, new) [] here keys
-  keys_inserted same (x ∷ xs) key new keys here = by (same key x.0) (keys_inserted same xs key new (All-tail (λ (y : Stored). AreCells points y.0.items) x xs keys) here)
-    where
-      by : (b : Bool) → AreKeys points (insert_entry same xs key new) → AreKeys points (cond b ((x.0, new) ∷ xs) (x ∷ insert_entry same xs key new))
-      by true rest = All-cons (λ (y : Stored). AreCells points y.0.items) (x.0, new) xs (All-head (λ (y : Stored). AreCells points y.0.items) x xs keys) (All-tail (λ (y : Stored). AreCells points y.0.items) x xs keys)
-      by false rest = All-cons (λ (y : Stored). AreCells points y.0.items) x (insert_entry same xs key new) (All-head (λ (y : Stored). AreCells points y.0.items) x xs keys) rest
+      pub said_with : (P : Opening → Type 0) (at : ℕ) → IsKeyAt (begun es words none) at words → All (λ (g : Grouped). P g.opening) (with_group (groups_shown points es) group) → IsSaidAt (λ o. P (opening_with o more)) (begun es words none) at
+      said_with P at key all =
+          said_in P (begun es words none) at (keys_begun none es keys) key
+          (subst (λ (gs : List Grouped). All (λ (g : Grouped). P g.opening) gs) (sym group_first) all)
 
-  -- what is said of all openings is said of that with a number
-  pub said_at : (P : Opening → Type 0) (es : List Stored) (at : ℕ) (old : OpeningSoFar) → All (λ (g : Grouped). P g.opening) (groups_shown points es) → slice_get (values_of es) at ≡ Some old → P (opening_shown old)
-  said_at P [] at old all is = absurd cc
-  said_at P (x ∷ xs) zero old all is =
-      let value : x.1 ≡ old = cc (is) in
-      subst (λ (o : OpeningSoFar). P (opening_shown o)) value (All-head (λ (g : Grouped). P g.opening) (group_shown points x) (groups_shown points xs) all)
-  said_at P (x ∷ xs) (suc at) old all is = said_at P xs at old (All-tail (λ (g : Grouped). P g.opening) (group_shown points x) (groups_shown points xs) all) is
+-- ---- a change keeps the words
+
+module _ (points : ℕ) (F : Opening → Opening) where
+  pub keys_changed : (es : List Stored) (at : ℕ) → AreKeys points es → AreKeys points (changed F es at)
+  keys_changed [] at keys = keys
+  keys_changed (x ∷ xs) zero keys =
+      All-cons (λ (y : Stored). AreCells points y.0) (x.0, F x.1) xs (All-head (λ (y : Stored). AreCells points y.0) x xs keys) (All-tail (λ (y : Stored). AreCells points y.0) x xs keys)
+  keys_changed (x ∷ xs) (suc at) keys =
+      All-cons (λ (y : Stored). AreCells points y.0) x (changed F xs at) (All-head (λ (y : Stored). AreCells points y.0) x xs keys) (keys_changed xs at (All-tail (λ (y : Stored). AreCells points y.0) x xs keys))
+
+-- an opening of no entry is within every bound
+pub none-within : (most game node : ℕ) → IsGroupWithin most (none_yet game node)
+none-within most game node = record {
+  count = omega arith;
+  black = omega arith;
+  white = omega arith;
+  other = omega arith;
+  rows = All-nil (IsRowWithin most);
+}

@@ -31,3 +31,13 @@ pub mod LeastPoints
 pub mod KeysAt
 pub mod Bringing
 pub mod StoredJoin
+pub mod KeyTables
+pub mod RowsSorted
+pub mod RowListRows
+pub mod RowListLinks
+pub mod RowListTables
+pub mod RowListWalks
+pub mod StoredTables
+pub mod RowListSets
+pub mod OpeningTableSteps
+pub mod GroupSteps

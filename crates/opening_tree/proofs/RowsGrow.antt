@@ -1,7 +1,6 @@
 -- The rows of next moves, one next move more.
-use Rattle.std.proofs.Common.{◌≡◌, ◌≢◌, ℕ, zero, suc, ◌<◌, ◌≤◌, ◌⊎◌, inl, inr, Bool, true, false, cond, List, [], ◌∷◌, ◌++◌, length, length-append, get_or, map, set, refl, sym, ap, ◌∙◌, subst, arith}
+use Rattle.std.proofs.Common.{◌≡◌, ◌≢◌, ℕ, zero, suc, ◌<◌, ◌⊎◌, inl, inr, Bool, true, false, cond, List, [], ◌∷◌, ◌++◌, length, length-append, get_or, map, refl, sym, ap, ◌∙◌, subst, arith}
 use Rattle.std.specs.Prelude.{filter, nat_eq, nat_lt}
-use Rattle.std.specs.List.{insert}
 use Rattle.std.proofs.lemmas.Bool.{eq-eqb, false_from_ne_true, false≢true, eqb-true, lt-ltb, ltb-true}
 use Rattle.std.proofs.lemmas.List.{append-nil}
 use Rattle.kb_geometry.specs.declared.stone.Outcome.{Outcome}
@@ -165,28 +164,6 @@ rows-grow (q ∷ qs) order nexts n (inr later) =
 pub rows-none : (qs : List Move) → rows_over qs [] ≡ []
 rows-none [] = refl
 rows-none (q ∷ qs) = rows-none qs
-
--- ---- a row that is counted or put in where its order stands
-
--- so many first rows come before an order
-abbrev AreBefore : ℕ → List NextMove → ℕ → Type 0
-AreBefore k rows at = (j : ℕ) (d : NextMove) → j < at → row_order (get_or rows j d) < k
-
-pub row_counted : (rows : List NextMove) (at : ℕ) (m : Move) (o : Outcome) (row : NextMove) → at < length rows → AreBefore (order_of m) rows at → row ≡ get_or rows at row → row_order row ≡ order_of m → set rows at (row_with_one row o) ≡ with_row rows m o
-row_counted [] at m o row lt before is same = absurd (omega (arith, lt))
-row_counted (r ∷ rs) zero m o row lt before is same =
-    ap (λ (x : NextMove). row_with_one x o ∷ rs) is ∙ sym (with_row-here r rs m o (sym (ap row_order is) ∙ same))
-row_counted (r ∷ rs) (suc at) m o row lt before is same =
-    ap (λ (xs : List NextMove). r ∷ xs) (row_counted rs at m o row (omega (arith, lt)) (λ j d below. before (suc j) d (omega (arith, below))) is same)
-    ∙ sym (with_row-later r rs m o (before 0 r (omega arith)))
-
-pub row_begun : (rows : List NextMove) (at : ℕ) (m : Move) (o : Outcome) → at ≤ length rows → AreBefore (order_of m) rows at → ((d : NextMove) → at < length rows → order_of m < row_order (get_or rows at d)) → insert rows at (row_with_one (no_row m) o) ≡ with_row rows m o
-row_begun [] zero m o le before behind = refl
-row_begun [] (suc at) m o le before behind = absurd (omega (arith, le))
-row_begun (r ∷ rs) zero m o le before behind = sym (with_row-front (r ∷ rs) m o (behind r (omega arith)))
-row_begun (r ∷ rs) (suc at) m o le before behind =
-    ap (λ (xs : List NextMove). r ∷ xs) (row_begun rs at m o (omega (arith, le)) (λ j d below. before (suc j) d (omega (arith, below))) (λ d below. behind d (omega (arith, below))))
-    ∙ sym (with_row-later r rs m o (before 0 r (omega arith)))
 
 -- what stands in a list doesn't hang on what would stand behind it
 pub any_default : (rows : List NextMove) (at : ℕ) (d e : NextMove) → at < length rows → get_or rows at d ≡ get_or rows at e

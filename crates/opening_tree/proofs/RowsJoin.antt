@@ -15,7 +15,7 @@ use Rattle.opening_tree.proofs.RowsGrow.{AreBehind, AreInOrder, IsHeadBehind, an
 use Rattle.opening_tree.proofs.SamePositions.{count_by-append}
 
 -- all of some rows come behind this order
-abbrev AreRowsBehind : ℕ → List NextMove → Type 0
+abbrev pub AreRowsBehind : ℕ → List NextMove → Type 0
 AreRowsBehind k [] = Unit
 AreRowsBehind k (r ∷ rs) = (k < row_order r) × AreRowsBehind k rs
 
@@ -29,7 +29,7 @@ rows-behind k (q ∷ qs) nexts behind = by (nat_lt 0 (length (nexts_by q nexts))
 
 -- ---- one row more
 
-more_row-front : (rows : List NextMove) (m : NextMove) → IsHeadBehind (row_order m) rows → with_more_row rows m ≡ m ∷ rows
+pub more_row-front : (rows : List NextMove) (m : NextMove) → IsHeadBehind (row_order m) rows → with_more_row rows m ≡ m ∷ rows
 more_row-front [] m behind = refl
 more_row-front (r ∷ rs) m behind =
     let ne : nat_eq (row_order r) (row_order m) ≡ false = no_eq (row_order r) (row_order m) (λ e. omega (arith, e, behind)) in
@@ -39,14 +39,14 @@ more_row-front (r ∷ rs) m behind =
 pub more_row-here : (r : NextMove) (rs : List NextMove) (m : NextMove) → row_order r ≡ row_order m → with_more_row (r ∷ rs) m ≡ row_with r m ∷ rs
 more_row-here r rs m e = let eq : nat_eq (row_order r) (row_order m) ≡ true = eq-eqb (row_order r) (row_order m) e in rw eq refl
 
-more_row-later : (r : NextMove) (rs : List NextMove) (m : NextMove) → row_order r < row_order m → with_more_row (r ∷ rs) m ≡ r ∷ with_more_row rs m
+pub more_row-later : (r : NextMove) (rs : List NextMove) (m : NextMove) → row_order r < row_order m → with_more_row (r ∷ rs) m ≡ r ∷ with_more_row rs m
 more_row-later r rs m lt =
     let ne : nat_eq (row_order r) (row_order m) ≡ false = no_eq (row_order r) (row_order m) (λ e. omega (arith, e, lt)) in
     let less : nat_lt (row_order r) (row_order m) ≡ true = lt-ltb (row_order r) (row_order m) lt in
     rw (ne, less) refl
 
 -- rows that come behind a row are put in behind it
-more_rows-later : (r : NextMove) (rs ms : List NextMove) → AreRowsBehind (row_order r) ms → with_more_rows (r ∷ rs) ms ≡ r ∷ with_more_rows rs ms
+pub more_rows-later : (r : NextMove) (rs ms : List NextMove) → AreRowsBehind (row_order r) ms → with_more_rows (r ∷ rs) ms ≡ r ∷ with_more_rows rs ms
 more_rows-later r rs [] behind = refl
 more_rows-later r rs (m ∷ ms) behind = ap (λ xs. with_more_rows xs ms) (more_row-later r rs m behind.0) ∙ more_rows-later r (with_more_row rs m) ms behind.1
 

@@ -1,10 +1,10 @@
--- The openings that the map keeps, with those of more games.
-use Rattle.std.proofs.Common.{◌≡◌, ℕ, ◌+◌, ◌*◌, ◌≤◌, Bool, true, false, cond, List, [], ◌∷◌, ◌++◌, length, length-append, map, take, sym, ap, ◌∙◌, subst, arith}
+-- The openings that are kept, with those of more games.
+use Rattle.std.proofs.Common.{◌≡◌, ℕ, ◌+◌, ◌*◌, ◌<◌, ◌≤◌, Bool, true, false, cond, List, [], ◌∷◌, ◌++◌, drop, get_or, length, length-append, map, take, sym, ap, ◌∙◌, subst, arith}
 use Rattle.std.proofs.Math.Nat.{mul-le-mul_left}
 use Rattle.std.proofs.Math.Seq.{take-add}
 use Rattle.std.specs.Fork.{IsChunk}
 use Rattle.std.specs.Prelude.{All, Any}
-use Rattle.std.proofs.lemmas.List.{length-map, length-take, map-append}
+use Rattle.std.proofs.lemmas.List.{drop_all, drop_more, length-map, length-take, map-append}
 use Rattle.std.proofs.lemmas.List.Elements.{All-append, All-cons, All-head, All-nil, All-tail}
 use Rattle.kb_geometry.specs.declared.shape.Shape.{Shape}
 use Rattle.kb_geometry.specs.Board.{point_count}
@@ -58,17 +58,17 @@ module _ (most : ℕ) where
 -- ---- one opening of more games after another
 
 module _ (points : ℕ) (s : Stored) (rest stored : List Stored) (ready : IsReadyForGroups points (s ∷ rest) stored) where
-  pub ready-one : IsReadyForGroup points s stored
+  ready-one : IsReadyForGroup points s stored
   ready-one = record {
     keys = ready.keys;
-    key = All-head (λ (y : Stored). AreCells points y.0.items) s rest ready.more_keys;
+    key = All-head (λ (y : Stored). AreCells points y.0) s rest ready.more_keys;
     room = groups-fewer 18446744073709551615 (with_group (groups_shown points stored) (group_shown points s)) (groups_shown points rest) ready.room;
   }
 
-  pub ready-rest : (new : List Stored) → AreKeys points new → groups_shown points new ≡ with_group (groups_shown points stored) (group_shown points s) → IsReadyForGroups points rest new
+  ready-rest : (new : List Stored) → AreKeys points new → groups_shown points new ≡ with_group (groups_shown points stored) (group_shown points s) → IsReadyForGroups points rest new
   ready-rest new keys made = record {
     keys = keys;
-    more_keys = All-tail (λ (y : Stored). AreCells points y.0.items) s rest ready.more_keys;
+    more_keys = All-tail (λ (y : Stored). AreCells points y.0) s rest ready.more_keys;
     room = subst (λ (gs : List Grouped). All (λ (g : Grouped). IsGroupWithin 18446744073709551615 g.opening) (with_groups gs (groups_shown points rest))) (sym made) ready.room;
   }
 
@@ -77,11 +77,27 @@ pub record IsAdding (points : ℕ) (first all stored rest : List Stored) : Type 
   pub ready : IsReadyForGroups points rest stored
   pub leads : with_groups (groups_shown points stored) (groups_shown points rest) ≡ with_groups (groups_shown points first) (groups_shown points all)
 
-pub adding-next : (points : ℕ) (first all stored : List Stored) (s : Stored) (rest new : List Stored) → IsAdding points first all stored (s ∷ rest) → AreKeys points new → groups_shown points new ≡ with_group (groups_shown points stored) (group_shown points s) → IsAdding points first all new rest
+adding-next : (points : ℕ) (first all stored : List Stored) (s : Stored) (rest new : List Stored) → IsAdding points first all stored (s ∷ rest) → AreKeys points new → groups_shown points new ≡ with_group (groups_shown points stored) (group_shown points s) → IsAdding points first all new rest
 adding-next points first all stored s rest new is keys made = record {
   ready = ready-rest points s rest stored is.ready new keys made;
   leads = ap (λ gs. with_groups gs (groups_shown points rest)) made ∙ is.leads;
 }
+
+-- the openings one by one
+module _ (points : ℕ) (first all stored : List Stored) (at : ℕ) (d : Stored) (lt : at < length all) (is : IsAdding points first all stored (drop at all)) where
+  adding : IsAdding points first all stored (get_or all at d ∷ drop (at + 1) all)
+  adding = subst (IsAdding points first all stored) (drop_more all at d lt) is
+
+  pub ready-at : IsReadyForGroup points (get_or all at d) stored
+  ready-at = ready-one points (get_or all at d) (drop (at + 1) all) stored adding.ready
+
+  pub adding-at : (new : List Stored) → AreKeys points new → groups_shown points new ≡ with_group (groups_shown points stored) (group_shown points (get_or all at d)) → IsAdding points first all new (drop (at + 1) all)
+  adding-at new = adding-next points first all stored (get_or all at d) (drop (at + 1) all) new adding
+
+pub adding-end : (points : ℕ) (first all stored : List Stored) (at : ℕ) → length all ≤ at → IsAdding points first all stored (drop at all) → AreKeys points stored × (groups_shown points stored ≡ with_groups (groups_shown points first) (groups_shown points all))
+adding-end points first all stored at le is =
+    let end = subst (IsAdding points first all stored) (drop_all at all le) is in
+    (end.ready.keys, end.leads)
 
 -- ---- more games
 

@@ -1,16 +1,16 @@
--- The openings that the map keeps, one entry, one next move or one game more.
-use Rattle.std.proofs.Common.{◌≡◌, ◌≢◌, ℕ, ◌+◌, ◌<◌, ◌≤◌, List, [], ◌∷◌, ◌++◌, append-nil, length, length-append, get_or, map, refl, sym, ap, ◌∙◌, subst, arith}
+-- The openings that are kept, one entry, one next move or one game more.
+use Rattle.std.proofs.Common.{◌≡◌, ◌≢◌, ℕ, ◌+◌, ◌<◌, ◌≤◌, Bool, cond, List, [], ◌∷◌, ◌++◌, append-nil, take, length, length-append, get_or, map, refl, sym, ap, ◌∙◌, subst, arith}
 use Rattle.std.specs.Prelude.{All, Any, IfSome, filter, nat_le}
-use Rattle.std.specs.Borrow.{Bor}
 use Rattle.std.specs.Map.{values_of}
-use Rattle.std.proofs.lemmas.List.Elements.{All-append, All-nil}
+use Rattle.std.proofs.lemmas.Bool.{le-leb, lt-leb}
+use Rattle.std.proofs.lemmas.List.{map-append, take_more}
+use Rattle.std.proofs.lemmas.List.Elements.{All-append, All-nil, filter-append}
 use Rattle.kb_geometry.specs.declared.shape.Point.{Point}
 use Rattle.kb_geometry.specs.declared.shape.Shape.{Shape}
 use Rattle.kb_geometry.specs.Board.{IsOnBoard, point_count}
 use Rattle.game_tree.specs.Tree.{IsTree}
 use Rattle.node_position.specs.Games.{Game}
 use Rattle.opening_tree.specs.declared.answer.Opening.{Opening}
-use Rattle.opening_tree.specs.declared.opening_so_far.OpeningSoFar.{OpeningSoFar}
 use Rattle.opening_tree.specs.Entries.{Entry}
 use Rattle.opening_tree.specs.Games.{AreOfGames, AreOnBoard}
 use Rattle.opening_tree.specs.GoneThrough.{IsReadyForGame}
@@ -19,7 +19,7 @@ use Rattle.opening_tree.specs.NextMoves.{NextAt}
 use Rattle.opening_tree.specs.Openings.{IsOpenings, all_openings_of, entries_at, first_entries, nexts_at, opening_of}
 use Rattle.opening_tree.specs.Packing.{AreCells}
 use Rattle.opening_tree.specs.StoredGames.{AreOpeningsOf, AreStored}
-use Rattle.opening_tree.specs.StoredGroups.{AreKeys, Stored, groups_shown, opening_shown}
+use Rattle.opening_tree.specs.StoredGroups.{AreKeys, Stored, groups_shown}
 use Rattle.opening_tree.proofs.GamesRead.{IsGameRead, any-behind, any-front, game-read}
 use Rattle.opening_tree.proofs.GroupBounds.{groups-within}
 use Rattle.opening_tree.proofs.GroupsGrow.{groups-entry, groups-next}
@@ -33,7 +33,7 @@ following-longer es more ns follow k d lt = any-front (λ (e : Entry). e.canonic
 pub following-behind : (es more : List Entry) (ns : List NextAt) → AreFollowing more ns → AreFollowing (es ++ more) ns
 following-behind es more ns follow k d lt = any-behind (λ (e : Entry). e.canonical ≡ (get_or ns k d).canonical) es more (follow k d lt)
 
--- no count of the map is at its end
+-- no count is at its end
 pub stored-room : (shape : Shape) (es : List Entry) (ns : List NextAt) (stored : List Stored) → AreStored shape es ns stored → length es ≤ 18446744073709551614 → length ns ≤ 18446744073709551614
     → All (λ (g : Grouped). IsGroupWithin 18446744073709551614 g.opening) (groups_shown (point_count shape) stored)
 stored-room shape es ns stored are few few_nexts =
@@ -62,7 +62,7 @@ openings-start first shape depth = record {
   entries = [];
   nexts = [];
   are_all = AreOfGames.nothing;
-  so_far = record { keys = All-nil (λ (e : Stored). AreCells (point_count shape) e.0.items); groups = refl };
+  so_far = record { keys = All-nil (λ (e : Stored). AreCells (point_count shape) e.0); groups = refl };
   following = All-nil (λ (n : NextAt). Any (λ (e : Entry). e.canonical ≡ n.canonical) []);
   entries_fit = omega arith;
   nexts_fit = omega arith;
@@ -99,16 +99,30 @@ module _ (shape : Shape) (depth number : ℕ) (game : Game) (is_tree : IsTree ga
 
 -- ---- the answer
 
-pub shown_of_all : (xs : List (Bor OpeningSoFar)) (all : List OpeningSoFar) → map (λ p. p.now) xs ≡ all → map (λ (p : Bor OpeningSoFar). opening_shown p.now) xs ≡ map opening_shown all
-shown_of_all xs all e = twice xs ∙ ap (map opening_shown) e
-  where
-    twice : (ys : List (Bor OpeningSoFar)) → map (λ (p : Bor OpeningSoFar). opening_shown p.now) ys ≡ map opening_shown (map (λ p. p.now) ys)
-    twice [] = refl
-    twice (y ∷ ys) = ap (λ os. opening_shown y.now ∷ os) (twice ys)
+module _ (least : ℕ) (es : List Stored) (at : ℕ) (d : Stored) (lt : at < length es) where
+  abbrev enough : Opening → Bool
+  enough o = nat_le least o.count
 
-values-shown : (points : ℕ) (stored : List Stored) → map opening_shown (values_of stored) ≡ map (λ (g : Grouped). g.opening) (groups_shown points stored)
+  listed-one : filter enough (values_of (take (at + 1) es)) ≡ filter enough (values_of (take at es)) ++ filter enough ((get_or es at d).1 ∷ [])
+  listed-one =
+      ap (λ (xs : List Stored). filter enough (values_of xs)) (take_more es at d lt)
+      ∙ ap (filter enough) (map-append (λ (e : Stored). e.1) (take at es) (get_or es at d ∷ []))
+      ∙ filter-append enough (values_of (take at es)) ((get_or es at d).1 ∷ [])
+
+  -- an opening of enough entries, and one of fewer
+  pub listed-more : (items : List Opening) (opening : Opening) → items ≡ filter enough (values_of (take at es)) → opening ≡ (get_or es at d).1 → least ≤ (get_or es at d).1.count → items ++ opening ∷ [] ≡ filter enough (values_of (take (at + 1) es))
+  listed-more items opening so_far is le =
+      (λ i. so_far i ++ is i ∷ [])
+      ∙ sym (listed-one ∙ ap (λ b. filter enough (values_of (take at es)) ++ cond b ((get_or es at d).1 ∷ []) []) (le-leb least (get_or es at d).1.count le))
+
+  pub listed-none : (items : List Opening) → items ≡ filter enough (values_of (take at es)) → ¬ (least ≤ (get_or es at d).1.count) → items ≡ filter enough (values_of (take (at + 1) es))
+  listed-none items so_far few =
+      so_far ∙ sym (append-nil (filter enough (values_of (take at es))))
+      ∙ sym (listed-one ∙ ap (λ b. filter enough (values_of (take at es)) ++ cond b ((get_or es at d).1 ∷ []) []) (lt-leb least (get_or es at d).1.count (omega (arith, few))))
+
+values-shown : (points : ℕ) (stored : List Stored) → values_of stored ≡ map (λ (g : Grouped). g.opening) (groups_shown points stored)
 values-shown points [] = refl
-values-shown points (x ∷ xs) = ap (λ os. opening_shown x.1 ∷ os) (values-shown points xs)
+values-shown points (x ∷ xs) = ap (λ os. x.1 ∷ os) (values-shown points xs)
 
 groups-openings : (shape : Shape) (es : List Entry) (ns : List NextAt) → map (λ (g : Grouped). g.opening) (groups_of shape es ns) ≡ all_openings_of shape es ns
 groups-openings shape es ns = by (first_entries es)
@@ -120,7 +134,7 @@ groups-openings shape es ns = by (first_entries es)
     by [] = refl
     by (f ∷ fs) = ap (λ os. one f ∷ os) (by fs)
 
-pub openings-answered : (shape : Shape) (depth least : ℕ) (games all : List Game) (stored : List Stored) (os : List Opening) → games ≡ all → AreOpeningsOf 0 shape depth games stored → os ≡ filter (λ (o : Opening). nat_le least o.count) (map opening_shown (values_of stored)) → IsOpenings shape depth least all os
+pub openings-answered : (shape : Shape) (depth least : ℕ) (games all : List Game) (stored : List Stored) (os : List Opening) → games ≡ all → AreOpeningsOf 0 shape depth games stored → os ≡ filter (λ (o : Opening). nat_le least o.count) (values_of stored) → IsOpenings shape depth least all os
 openings-answered shape depth least games all stored os e are is = subst (λ (gs : List Game). IsOpenings shape depth least gs os) e (record {
   entries = are.entries;
   nexts = are.nexts;

@@ -158,6 +158,10 @@ abbrev pub with_more_rows : List NextMove → List NextMove → List NextMove
 with_more_rows rows [] = rows
 with_more_rows rows (m ∷ more) = with_more_rows (with_more_row rows m) more
 
+-- Rows stand in order: put in one after another, they are the same.
+abbrev pub AreSorted : List NextMove → Type 0
+AreSorted rows = with_more_rows [] rows ≡ rows
+
 -- an opening with the entries and next moves of another one
 abbrev pub opening_with : Opening → Opening → Opening
 opening_with o more = record {

@@ -14,3 +14,6 @@ pub mod Groups
 pub mod StoredGroups
 pub mod StoredGames
 pub mod GoneThrough
+pub mod Keys
+pub mod RowLists
+pub mod OpeningTables

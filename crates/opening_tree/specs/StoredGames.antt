@@ -1,4 +1,4 @@
--- The openings of the games so far, as a map keeps them.
+-- The openings of the games so far, by the words of their canonical positions.
 use Rattle.std.specs.Prelude.{◌≡◌, ℕ, ◌*◌, ◌≤◌, List, All, IfSome, length}
 use Rattle.kb_geometry.specs.declared.shape.Point.{Point}
 use Rattle.kb_geometry.specs.declared.shape.Shape.{Shape}
@@ -10,7 +10,7 @@ use Rattle.opening_tree.specs.Groups.{AreFollowing, groups_of}
 use Rattle.opening_tree.specs.NextMoves.{NextAt}
 use Rattle.opening_tree.specs.StoredGroups.{AreKeys, Stored, groups_shown}
 
--- the map keeps the openings of these entries and next moves
+-- these are the openings of these entries and next moves
 pub record AreStored (shape : Shape) (es : List Entry) (ns : List NextAt)
     (stored : List Stored) : Type 0 where
   pub keys : AreKeys (point_count shape) stored
@@ -25,7 +25,7 @@ pub record AreNextsOn (shape : Shape) (nexts : List NextAt) : Type 0 where
   pub positions : All (λ (n : NextAt). length n.canonical ≡ point_count shape) nexts
   pub points : All (λ (n : NextAt). IfSome n.played.point (λ (p : Point). IsOnBoard shape p)) nexts
 
--- The map keeps the openings of these games, which are numbered from a first number on.
+-- These are the openings of these games, which are numbered from a first number on.
 pub record AreOpeningsOf (first : ℕ) (shape : Shape) (depth : ℕ) (games : List Game)
     (stored : List Stored) : Type 0 where
   pub entries : List Entry

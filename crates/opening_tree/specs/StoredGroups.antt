@@ -1,54 +1,39 @@
--- The openings of the entries and next moves so far, as a map keeps them.
+-- The openings of the entries and next moves so far, by the words of their canonical positions.
 use Prim.Native.Nat.{zero}
 use Rattle.std.specs.Prelude.{◌≡◌, ◌≢◌, ℕ, suc, List, [], ◌∷◌, map, All}
-use Rattle.std.specs.declared.alloc.Global.{Global}
-use Rattle.std.specs.declared.vec.Vec.{Vec}
 use Rattle.kb_geometry.specs.declared.stone.Outcome.{Outcome}
 use Rattle.game_tree.specs.declared.node.Move.{Move}
 use Rattle.opening_tree.specs.declared.answer.Opening.{Opening}
 use Rattle.opening_tree.specs.declared.groups.EntryAt.{EntryAt}
 use Rattle.opening_tree.specs.Entries.{Entry}
-use Rattle.opening_tree.specs.declared.opening_so_far.OpeningSoFar.{OpeningSoFar}
 use Rattle.opening_tree.specs.Groups.{Grouped, IsGroupWithin, with_group, with_groups}
 use Rattle.opening_tree.specs.NextMoves.{NextAt}
 use Rattle.opening_tree.specs.Packing.{AreCells, cells_of}
 
--- the opening that is stored
-abbrev pub opening_shown : OpeningSoFar → Opening
-opening_shown o = record {
-  count = o.count;
-  black = o.black;
-  white = o.white;
-  other = o.other;
-  game = o.game;
-  node = o.node;
-  nexts = o.rows.items;
-}
-
--- an entry of the map
+-- an opening with the words of its canonical position
 abbrev pub Stored : Type 0
-Stored = Vec ℕ Global × OpeningSoFar
+Stored = List ℕ × Opening
 
--- the opening of an entry of the map, on a board of so many points
+-- the opening with its canonical position, on a board of so many points
 abbrev pub group_shown : ℕ → Stored → Grouped
 group_shown points e = record {
-  canonical = cells_of points e.0.items;
-  opening = opening_shown e.1;
+  canonical = cells_of points e.0;
+  opening = e.1;
 }
 
--- the openings of the map
+-- the openings with their canonical positions
 abbrev pub groups_shown : ℕ → List Stored → List Grouped
 groups_shown points entries = map (group_shown points) entries
 
--- the keys of the map are positions of so many points
+-- the words are positions of so many points
 abbrev pub AreKeys : ℕ → List Stored → Type 0
-AreKeys points entries = All (λ (e : Stored). AreCells points e.0.items) entries
+AreKeys points entries = All (λ (e : Stored). AreCells points e.0) entries
 
--- An opening of more games can be added to those of the map: it has a key, and no count comes to its
--- end.
+-- An opening of more games can be added to those that there are: its words are a position, and no count
+-- comes to its end.
 pub record IsReadyForGroup (points : ℕ) (more : Stored) (stored : List Stored) : Type 0 where
   pub keys : AreKeys points stored
-  pub key : AreCells points more.0.items
+  pub key : AreCells points more.0
   pub room : All (λ (g : Grouped). IsGroupWithin 18446744073709551615 g.opening)
       (with_group (groups_shown points stored) (group_shown points more))
 
@@ -80,8 +65,8 @@ pub record IsReadyForEntry (points : ℕ) (words : List ℕ) (stored : List Stor
 -- the opening with a number is the first one whose key are these words
 abbrev pub IsKeyAt : List Stored → ℕ → List ℕ → Type 0
 IsKeyAt [] at words = ⊥
-IsKeyAt (e ∷ es) zero words = e.0.items ≡ words
-IsKeyAt (e ∷ es) (suc at) words = (e.0.items ≢ words) × IsKeyAt es at words
+IsKeyAt (e ∷ es) zero words = e.0 ≡ words
+IsKeyAt (e ∷ es) (suc at) words = (e.0 ≢ words) × IsKeyAt es at words
 
 -- the openings keep their numbers
 abbrev pub AreKeptIn : List Stored → List Stored → Type 0

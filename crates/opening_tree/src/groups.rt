@@ -1,7 +1,8 @@
-// The openings of the entries and next moves so far, by their canonical positions. indexmap keeps
-// them in the order of their first entries.
+// The openings of the entries and next moves so far, by their canonical positions, in the order of
+// their first entries.
 ghost use Rattle.std.specs.Prelude.{
   ◌≡◌,
+  ◌<◌,
   ◌≤◌,
   ◌++◌,
   ◌∷◌,
@@ -13,6 +14,7 @@ ghost use Rattle.std.specs.Prelude.{
   List,
   OnOk,
   length,
+  slice_index_or,
 };
 ghost use Rattle.kb_geometry.specs.declared.shape.Point.{Point};
 ghost use Rattle.kb_geometry.specs.declared.shape.Shape.{Shape};
@@ -29,6 +31,7 @@ ghost use Rattle.opening_tree.specs.Groups.{
   with_next,
 };
 ghost use Rattle.opening_tree.specs.NextMoves.{NextAt};
+ghost use Rattle.opening_tree.specs.Packing.{words_for};
 ghost use Rattle.opening_tree.specs.StoredGroups.{
   AreKeptIn,
   AreKeys,
@@ -36,20 +39,19 @@ ghost use Rattle.opening_tree.specs.StoredGroups.{
   IsReadyForEntry,
   IsReadyForGroup,
   IsReadyForGroups,
+  Stored,
   entry_shown,
   group_shown,
   groups_shown,
   next_shown,
 };
 
-use crate::opening_so_far::{OpeningSoFar, add_to_rows};
+use crate::answer::NextMove;
+use crate::opening_so_far::OpeningCounts;
+use crate::opening_table::OpeningTable;
 use game_tree::Move;
-use indexmap::IndexMap;
 use kb_geometry::{NoMemory, Outcome};
 use std::alloc::Global;
-
-// Openings by the words of their canonical positions.
-pub(crate) type OpeningMap = IndexMap<Vec<u64>, OpeningSoFar>;
 
 // An entry: the number of its game, its node, and how the game ended.
 #[derive(Clone, Copy, Debug)]
@@ -60,15 +62,17 @@ pub(crate) struct EntryAt {
 }
 
 // Adds an entry with this canonical position, packed in words, and gives the number of its opening.
-// The key is copied only where the opening is new. The only error is `NoMemory`.
+// The words are copied only where the opening is new. The only error is `NoMemory`.
 pub(crate) fn add_entry(
     alloc: Global,
-    openings: &mut OpeningMap,
+    openings: &mut OpeningTable,
     words: &[u64],
     entry: EntryAt,
 ) -> Result<usize, NoMemory>
-    requires { (points : ℕ) × IsReadyForEntry points words.now openings.old.entries }
-    ensures { IfOk result (λ at. (points : ℕ) →
+    requires width { length words.now ≡ openings.old.width }
+    requires ready { (points : ℕ) × IsReadyForEntry points words.now openings.old.entries }
+    ensures width { openings.new.width ≡ openings.old.width }
+    ensures added { IfOk result (λ at. (points : ℕ) →
         IsReadyForEntry points words.now openings.old.entries →
         AreKeys points openings.new.entries
         × (groups_shown points openings.new.entries ≡ with_entry
@@ -76,33 +80,24 @@ pub(crate) fn add_entry(
         × IsKeyAt openings.new.entries at words.now
         × AreKeptIn openings.old.entries openings.new.entries) }
 {
-    match openings.get_index_of(words) {
-        Some(at) => {
-            openings[at].count(entry.outcome);
-            Ok(at)
-        }
-        None => {
-            let at = openings.len();
-            let key = words.to_vec(alloc)?;
-            let mut opening = OpeningSoFar::none(alloc, entry.game, entry.node);
-            opening.count(entry.outcome);
-            openings.insert(key, opening)?;
-            Ok(at)
-        }
-    }
+    let none = OpeningCounts::none(entry.game, entry.node);
+    let at = openings.find_or_begin(alloc, words, none)?;
+    openings.count(at, entry.outcome);
+    Ok(at)
 }
 
 // Adds a next move from the canonical position of the opening with this number. The only error is
 // `NoMemory`.
 pub(crate) fn add_next(
-    openings: &mut OpeningMap,
+    openings: &mut OpeningTable,
     at: usize,
     played: Move,
     outcome: Outcome,
 ) -> Result<(), NoMemory>
     requires { (points : ℕ) × (words : List ℕ) × IsReadyForEntry points words openings.old.entries
         × IsKeyAt openings.old.entries at words }
-    ensures { OnOk result ((points : ℕ) (words : List ℕ) →
+    ensures width { openings.new.width ≡ openings.old.width }
+    ensures added { OnOk result ((points : ℕ) (words : List ℕ) →
         IsReadyForEntry points words openings.old.entries →
         IsKeyAt openings.old.entries at words →
         AreKeys points openings.new.entries
@@ -110,40 +105,58 @@ pub(crate) fn add_next(
         (groups_shown points openings.old.entries) (next_shown points words played outcome))
         × AreKeptIn openings.old.entries openings.new.entries) }
 {
-    add_to_rows(&mut openings[at].rows, played, outcome)?;
+    openings.count_next(at, played, outcome)?;
     Ok(())
 }
 
 // Adds the openings of more games to openings. The only error is `NoMemory`.
-pub(crate) fn add_openings(openings: &mut OpeningMap, more: OpeningMap) -> Result<(), NoMemory>
-    requires { (points : ℕ) × IsReadyForGroups points more.entries openings.old.entries }
-    ensures { OnOk result ((points : ℕ) →
-        IsReadyForGroups points more.entries openings.old.entries →
+pub(crate) fn add_openings(
+    alloc: Global,
+    openings: &mut OpeningTable,
+    more: &OpeningTable,
+) -> Result<(), NoMemory>
+    requires { (points : ℕ) × IsReadyForGroups points more.now.entries openings.old.entries
+        × (openings.old.width ≡ words_for points) }
+    ensures width { openings.new.width ≡ openings.old.width }
+    ensures added { OnOk result ((points : ℕ) →
+        IsReadyForGroups points more.now.entries openings.old.entries →
         AreKeys points openings.new.entries
         × (groups_shown points openings.new.entries ≡ with_groups
-        (groups_shown points openings.old.entries) (groups_shown points more.entries))) }
+        (groups_shown points openings.old.entries) (groups_shown points more.now.entries))) }
 {
-    for (key, opening) in more {
-        add_opening(openings, key, opening)?;
+    let mut rows = Vec::new(alloc);
+    for at in 0..more.len() {
+        add_opening(alloc, openings, more, at, &mut rows)?;
     }
     Ok(())
 }
 
-// Adds the opening of more games that has this key. The only error is `NoMemory`.
-fn add_opening(openings: &mut OpeningMap, key: Vec<u64>, more: OpeningSoFar) -> Result<(), NoMemory>
-    requires { (points : ℕ) × IsReadyForGroup points (key, more) openings.old.entries }
-    ensures { OnOk result ((points : ℕ) →
-        IsReadyForGroup points (key, more) openings.old.entries →
+// Adds the opening of more games that has this number there, with a list for its rows. The only error
+// is `NoMemory`.
+fn add_opening(
+    alloc: Global,
+    openings: &mut OpeningTable,
+    more: &OpeningTable,
+    at: usize,
+    rows: &mut Vec<NextMove>,
+) -> Result<(), NoMemory>
+    requires in_range { at < length more.now.entries }
+    requires ready { (points : ℕ) × ((d : Stored) →
+        IsReadyForGroup points (slice_index_or more.now.entries at d) openings.old.entries)
+        × (openings.old.width ≡ words_for points) }
+    ensures width { openings.new.width ≡ openings.old.width }
+    ensures added { OnOk result ((points : ℕ) (d : Stored) →
+        IsReadyForGroup points (slice_index_or more.now.entries at d) openings.old.entries →
         AreKeys points openings.new.entries
         × (groups_shown points openings.new.entries ≡ with_group
-        (groups_shown points openings.old.entries) (group_shown points (key, more)))) }
+        (groups_shown points openings.old.entries)
+        (group_shown points (slice_index_or more.now.entries at d)))) }
 {
-    match openings.get_index_of(key.as_slice()) {
-        Some(at) => openings[at].add(&more)?,
-        None => {
-            openings.insert(key, more)?;
-        }
-    }
+    more.copy_rows(at, rows)?;
+    let counts = more.counts(at);
+    let none = OpeningCounts::none(counts.game, counts.node);
+    let own = openings.find_or_begin(alloc, more.key(at), none)?;
+    openings.count_more(own, counts, rows.as_slice())?;
     Ok(())
 }
 

@@ -6,19 +6,23 @@
 //! the definitions for the canonical position, for the entries and the next moves of games, and for
 //! the groups of these; the laws say that each list of games has openings, and one list of them.
 //! Images of a position are packed in words, changed point by point from node to node and compared
-//! with one another; the words of the canonical one are the key of a map.
+//! with one another; by the words of the canonical one openings are found. Keys, counts and rows stand
+//! in a few flat lists.
 #![tactic(auto)]
 
 mod answer;
 mod groups;
 mod image_walker;
+mod keys;
 mod laws;
 mod least;
 mod opening_so_far;
+mod opening_table;
 mod openings;
 mod openings_of_games;
 mod packed;
 mod pieces;
+mod row_lists;
 mod symmetries;
 mod turned;
 mod within;

@@ -1,8 +1,7 @@
-// An opening as it grows: by entries and by next moves.
-ghost use Rattle.std.specs.Prelude.{◌≡◌, ◌<◌, ◌≤◌, ℕ, All, IfOk, OnOk, length, slice_index_or};
+// The counts of an opening and the rows of its next moves, as they grow.
+ghost use Rattle.std.specs.Prelude.{◌≡◌, ◌<◌, ◌≤◌, ◌+◌, [], ℕ, All, List, OnOk, length, slice_index_or};
 ghost use Rattle.opening_tree.specs.declared.answer.NextMove.{NextMove};
 ghost use Rattle.opening_tree.specs.Groups.{
-  IsGroupWithin,
   IsRowWithin,
   no_row,
   none_yet,
@@ -15,78 +14,83 @@ ghost use Rattle.opening_tree.specs.Groups.{
   with_more_row,
   with_more_rows,
   with_one,
-  with_row,
 };
-ghost use Rattle.opening_tree.specs.StoredGroups.{opening_shown};
+ghost use Rattle.opening_tree.specs.OpeningTables.{opening_in};
 
 use crate::answer::{NextMove, Opening};
 use game_tree::Move;
 use kb_geometry::{Colour, Items, NoMemory, Outcome, Point};
-use std::alloc::Global;
 
-// How many entries an opening has and how their games ended, its first entry, and the rows of its
-// next moves.
-#[derive(Debug, Drop)]
-pub(crate) struct OpeningSoFar {
+// How many entries an opening has and how their games ended, and its first entry.
+#[derive(Clone, Copy, Debug)]
+pub(crate) struct OpeningCounts {
     pub(crate) count: u64,
     pub(crate) black: u64,
     pub(crate) white: u64,
     pub(crate) other: u64,
     pub(crate) game: u32,
     pub(crate) node: u32,
-    pub(crate) rows: Vec<NextMove>,
 }
 
-impl OpeningSoFar {
-    // The opening of no entry, of which this is to be the first.
-    pub(crate) fn none(alloc: Global, game: u32, node: u32) -> OpeningSoFar
-        ensures { opening_shown result ≡ none_yet game node }
+impl OpeningCounts {
+    // The counts of no entry, of which this is to be the first.
+    pub(crate) fn none(game: u32, node: u32) -> OpeningCounts
+        ensures { opening_in result [] ≡ none_yet game node }
     {
-        OpeningSoFar {
+        OpeningCounts {
             count: 0,
             black: 0,
             white: 0,
             other: 0,
             game,
             node,
-            rows: Vec::new(alloc),
         }
     }
 
-    // Counts an entry of a game that ended so.
-    pub(crate) fn count(&mut self, outcome: Outcome)
-        requires count { self.old.count ≤ 18446744073709551614 }
-        requires black { self.old.black ≤ 18446744073709551614 }
-        requires white { self.old.white ≤ 18446744073709551614 }
-        requires other { self.old.other ≤ 18446744073709551614 }
-        ensures { opening_shown self.new ≡ with_one (opening_shown self.old) outcome }
+    // The counts with one entry more, of a game that ended so.
+    pub(crate) fn with_one(self, outcome: Outcome) -> OpeningCounts
+        requires count { self.count ≤ 18446744073709551614 }
+        requires black { self.black ≤ 18446744073709551614 }
+        requires white { self.white ≤ 18446744073709551614 }
+        requires other { self.other ≤ 18446744073709551614 }
+        ensures { (rows : List NextMove) →
+            opening_in result rows ≡ with_one (opening_in self rows) outcome }
     {
-        self.count += 1;
-        self.black += u64::from(outcome.is_black_win());
-        self.white += u64::from(outcome.is_white_win());
-        self.other += u64::from(outcome.is_no_win());
+        OpeningCounts {
+            count: self.count + 1,
+            black: self.black + u64::from(outcome.is_black_win()),
+            white: self.white + u64::from(outcome.is_white_win()),
+            other: self.other + u64::from(outcome.is_no_win()),
+            game: self.game,
+            node: self.node,
+        }
     }
 
-    // Counts the entries and next moves of another one too. The only error is `NoMemory`.
-    pub(crate) fn add(&mut self, more: &OpeningSoFar) -> Result<(), NoMemory>
-        requires { IsGroupWithin 18446744073709551615
-            (opening_with (opening_shown self.old) (opening_shown more.now)) }
-        ensures { OnOk result (opening_shown self.new
-            ≡ opening_with (opening_shown self.old) (opening_shown more.now)) }
+    // The counts with those of another one.
+    pub(crate) fn with_more(self, more: OpeningCounts) -> OpeningCounts
+        requires count { self.count + more.count ≤ 18446744073709551615 }
+        requires black { self.black + more.black ≤ 18446744073709551615 }
+        requires white { self.white + more.white ≤ 18446744073709551615 }
+        requires other { self.other + more.other ≤ 18446744073709551615 }
+        ensures { (rows others : List NextMove) →
+            opening_in result (with_more_rows rows others)
+            ≡ opening_with (opening_in self rows) (opening_in more others) }
     {
-        self.count += more.count;
-        self.black += more.black;
-        self.white += more.white;
-        self.other += more.other;
-        add_rows(&mut self.rows, more.rows.as_slice())
+        OpeningCounts {
+            count: self.count + more.count,
+            black: self.black + more.black,
+            white: self.white + more.white,
+            other: self.other + more.other,
+            game: self.game,
+            node: self.node,
+        }
     }
 
-    // The opening as it is answered. The only error is `NoMemory`.
-    pub(crate) fn shown(&self, alloc: Global) -> Result<Opening, NoMemory>
-        ensures { IfOk result (λ opening. opening ≡ opening_shown self.now) }
+    // The opening of these counts and rows as it is answered.
+    pub(crate) fn shown(self, rows: Vec<NextMove>) -> Opening
+        ensures { result ≡ opening_in self rows.items }
     {
-        let rows = Vec::from_slice(alloc, self.rows.as_slice())?;
-        Ok(Opening {
+        Opening {
             count: self.count,
             black: self.black,
             white: self.white,
@@ -94,45 +98,12 @@ impl OpeningSoFar {
             game: self.game,
             node: self.node,
             nexts: Items::new(rows),
-        })
-    }
-}
-
-// Adds a next move to the rows of an opening. The only error is `NoMemory`.
-pub(crate) fn add_to_rows(
-    rows: &mut Vec<NextMove>,
-    played: Move,
-    outcome: Outcome,
-) -> Result<(), NoMemory>
-    requires room { All (IsRowWithin 18446744073709551614) rows.old.items }
-    ensures { OnOk result (rows.new.items ≡ with_row rows.old.items played outcome) }
-{
-    let order = play_order(played.colour, played.point);
-    let at = rows_before(rows.as_slice(), order);
-    if at < rows.len() {
-        let row = rows[at];
-        if play_order(row.colour, row.point) == order {
-            rows[at] = row_with_one(row, outcome);
-            return Ok(());
         }
     }
-    rows.insert(at, row_with_one(no_row(played), outcome))?;
-    Ok(())
-}
-
-// Adds the next moves of more rows. The only error is `NoMemory`.
-fn add_rows(rows: &mut Vec<NextMove>, more: &[NextMove]) -> Result<(), NoMemory>
-    requires { All (IsRowWithin 18446744073709551615) (with_more_rows rows.old.items more.now) }
-    ensures { OnOk result (rows.new.items ≡ with_more_rows rows.old.items more.now) }
-{
-    for row in more {
-        add_row(rows, row)?;
-    }
-    Ok(())
 }
 
 // Adds the next moves of a row. The only error is `NoMemory`.
-fn add_row(rows: &mut Vec<NextMove>, more: &NextMove) -> Result<(), NoMemory>
+pub(crate) fn add_row(rows: &mut Vec<NextMove>, more: &NextMove) -> Result<(), NoMemory>
     requires { All (IsRowWithin 18446744073709551615) (with_more_row rows.old.items more.now) }
     ensures { OnOk result (rows.new.items ≡ with_more_row rows.old.items more.now) }
 {
@@ -150,7 +121,7 @@ fn add_row(rows: &mut Vec<NextMove>, more: &NextMove) -> Result<(), NoMemory>
 }
 
 // A row with the next moves of another one.
-fn row_with(row: NextMove, more: NextMove) -> NextMove
+pub(crate) fn row_with(row: NextMove, more: NextMove) -> NextMove
     requires { IsRowWithin 18446744073709551615 (row_with row more) }
     ensures { result ≡ row_with row more }
 {
@@ -183,7 +154,7 @@ fn rows_before(rows: &[NextMove], order: u32) -> usize
 }
 
 // The number by which the row of a colour and place stands.
-fn play_order(colour: Colour, point: Option<Point>) -> u32
+pub(crate) fn play_order(colour: Colour, point: Option<Point>) -> u32
     ensures { result ≡ play_order colour point }
 {
     let place = place_order(point);
@@ -205,7 +176,7 @@ fn place_order(point: Option<Point>) -> u32
 }
 
 // The row of no next move.
-fn no_row(played: Move) -> NextMove
+pub(crate) fn no_row(played: Move) -> NextMove
     ensures { result ≡ no_row played }
 {
     NextMove {
@@ -219,7 +190,7 @@ fn no_row(played: Move) -> NextMove
 }
 
 // A row with one next move more.
-fn row_with_one(row: NextMove, outcome: Outcome) -> NextMove
+pub(crate) fn row_with_one(row: NextMove, outcome: Outcome) -> NextMove
     requires { IsRowWithin 18446744073709551614 row }
     ensures { result ≡ row_with_one row outcome }
 {

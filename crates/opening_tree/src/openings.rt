@@ -5,10 +5,9 @@ ghost use Rattle.version_publisher.specs.Contents.{items_in};
 ghost use Rattle.opening_tree.specs.declared.answer.Opening.{Opening};
 ghost use Rattle.opening_tree.specs.Openings.{IsOpenings};
 ghost use Rattle.opening_tree.specs.StoredGames.{AreOpeningsOf};
-ghost use Rattle.opening_tree.specs.StoredGroups.{opening_shown};
 
 use crate::answer::Opening;
-use crate::groups::OpeningMap;
+use crate::opening_table::OpeningTable;
 use crate::openings_of_games::OpeningsOfGames;
 use kb_geometry::{NoMemory, Shape};
 use segment_store::{FinishedGame, Segment, games};
@@ -47,7 +46,7 @@ pub(crate) fn openings_in(
     asked: Asked,
     first: u32,
     games: &[&FinishedGame],
-) -> Result<OpeningMap, NoMemory>
+) -> Result<OpeningTable, NoMemory>
     requires { first + length games.now ≤ 400000 }
     ensures { IfOk result (λ openings.
         AreOpeningsOf first asked.shape asked.depth (map (λ g. g.now) games.now)
@@ -64,16 +63,16 @@ pub(crate) fn openings_in(
 // `NoMemory`.
 pub(crate) fn listed(
     alloc: Global,
-    openings: &OpeningMap,
+    openings: &OpeningTable,
     least: u32,
 ) -> Result<Vec<Opening>, NoMemory>
     ensures { IfOk result (λ listed. listed.items ≡ filter (λ (o : Opening). nat_le least o.count)
-        (map opening_shown (values_of openings.now.entries))) }
+        (values_of openings.now.entries)) }
 {
     let mut listed = Vec::new(alloc);
-    for opening in openings.values() {
-        if opening.count >= u64::from(least) {
-            listed.push(opening.shown(alloc)?)?;
+    for at in 0..openings.len() {
+        if openings.counts(at).count >= u64::from(least) {
+            listed.push(openings.shown(alloc, at)?)?;
         }
     }
     Ok(listed)

@@ -1,5 +1,6 @@
 // The openings of games, one game after another.
 ghost use Rattle.std.specs.Prelude.{◌≡◌, ◌<◌, ◌+◌, ◌++◌, ◌∷◌, ◌↔◌, [], ℕ, List, Some, IfOk, IsTrue, OnOk, length, slice_index_or};
+ghost use Rattle.kb_geometry.specs.Board.{point_count};
 ghost use Rattle.kb_geometry.specs.Capture.{Position};
 ghost use Rattle.game_tree.specs.Position.{ArePositions};
 ghost use Rattle.game_tree.specs.Tree as trees;
@@ -15,16 +16,18 @@ ghost use Rattle.opening_tree.specs.GoneThrough.{
   StandsAtEntry,
 };
 ghost use Rattle.opening_tree.specs.NextMoves.{NextAt};
+ghost use Rattle.opening_tree.specs.Packing.{words_for};
 ghost use Rattle.opening_tree.specs.StoredGames.{AreOpeningsOf};
 
-use crate::groups::{EntryAt, OpeningMap, add_entry, add_next};
+use crate::groups::{EntryAt, add_entry, add_next};
 use crate::image_walker::ImageWalker;
 use crate::least::place_in_frame;
+use crate::opening_table::OpeningTable;
 use crate::openings::Asked;
+use crate::packed::words_for;
 use crate::within::{end_within, is_entry, next_at};
 use capture_board::NodeDeltas;
 use game_tree::{GameTree, Move};
-use indexmap::IndexMap;
 use kb_geometry::{NoMemory, Shape};
 use segment_store::FinishedGame;
 use std::alloc::Global;
@@ -42,7 +45,7 @@ struct Frame {
 #[derive(Debug, Drop)]
 pub(crate) struct OpeningsOfGames {
     asked: Asked,
-    openings: OpeningMap,
+    openings: OpeningTable,
     walker: ImageWalker,
     frames: Vec<Frame>,
 }
@@ -52,20 +55,22 @@ impl OpeningsOfGames {
     pub(crate) fn new(alloc: Global, asked: Asked) -> Result<Self, NoMemory>
         ensures asked { IfOk result (λ o. o.asked ≡ asked) }
         ensures board { IfOk result (λ o. o.walker.shape ≡ asked.shape) }
+        ensures width { IfOk result (λ o. o.openings.width ≡ words_for (point_count asked.shape)) }
         ensures none { IfOk result (λ o. o.openings.entries ≡ []) }
     {
         let walker = ImageWalker::new(alloc, asked.shape)?;
+        let openings = OpeningTable::new(alloc, words_for(asked.shape.count()))?;
         Ok(OpeningsOfGames {
             asked,
-            openings: IndexMap::new(alloc),
+            openings,
             walker,
             frames: Vec::new(alloc),
         })
     }
 
     // The openings.
-    pub(crate) fn into_openings(self) -> OpeningMap
-        ensures { result.entries ≡ self.openings.entries }
+    pub(crate) fn into_openings(self) -> OpeningTable
+        ensures { result ≡ self.openings }
     {
         self.openings
     }
@@ -80,10 +85,12 @@ impl OpeningsOfGames {
     ) -> Result<(), NoMemory>
         requires most { number < 400000 }
         requires board { self.old.walker.shape ≡ self.old.asked.shape }
+        requires width { self.old.openings.width ≡ words_for (point_count self.old.asked.shape) }
         requires so_far { (first : ℕ) × (games : List Game) × (first + length games ≡ number)
             × AreOpeningsOf first self.old.asked.shape self.old.asked.depth games
             self.old.openings.entries }
         ensures asked { self.new.asked ≡ self.old.asked }
+        ensures width { self.new.openings.width ≡ self.old.openings.width }
         ensures board { OnOk result (self.new.walker.shape ≡ self.new.asked.shape) }
         ensures added { OnOk result ((first : ℕ) (games : List Game) →
             first + length games ≡ number →
@@ -109,9 +116,11 @@ impl OpeningsOfGames {
         game: &FinishedGame,
     ) -> Result<(), NoMemory>
         requires board { self.old.walker.shape ≡ game.now.tree.shape }
+        requires width { self.old.openings.width ≡ words_for (point_count game.now.tree.shape) }
         requires so_far { (es : List Entry) × (ns : List NextAt)
             × IsReadyForGame game.now.tree.shape es ns self.old.openings.entries }
         ensures asked { self.new.asked ≡ self.old.asked }
+        ensures width { self.new.openings.width ≡ self.old.openings.width }
         ensures board { OnOk result (self.new.walker.shape ≡ game.now.tree.shape) }
         ensures gone { OnOk result ((positions : List Position) →
             ArePositions game.now.tree positions → (es : List Entry) (ns : List NextAt) →
@@ -151,12 +160,14 @@ impl OpeningsOfGames {
         requires in_tree { entry.node < trees.node_count tree.now }
         requires in_range { entry.node < changes.node_count deltas.now }
         requires known { length self.old.frames.items ≡ entry.node }
+        requires width { self.old.openings.width ≡ words_for (point_count self.old.walker.shape) }
         requires at_node { StandsAtEntry tree.now deltas.now self.old.walker entry }
         requires so_far { (positions : List Position) × (es : List Entry) × (ns : List NextAt)
             × ArePositions tree.now positions
             × IsGoneTo self.old.asked.depth entry.game tree.now positions entry.node es ns
             self.old.openings.entries self.old.frames.items }
         ensures asked { self.new.asked ≡ self.old.asked }
+        ensures width { self.new.openings.width ≡ self.old.openings.width }
         ensures walker { self.new.walker ≡ self.old.walker }
         ensures frames { self.new.frames ≡ self.old.frames }
         ensures gone { IfOk result (λ frame. (positions : List Position) →
@@ -201,6 +212,7 @@ impl OpeningsOfGames {
             × AreNextsGone self.old.asked.depth game.now.tree positions 0 es ns
             self.old.openings.entries self.old.frames.items }
         ensures asked { self.new.asked ≡ self.old.asked }
+        ensures width { self.new.openings.width ≡ self.old.openings.width }
         ensures walker { self.new.walker ≡ self.old.walker }
         ensures gone { OnOk result ((positions : List Position) →
             ArePositions game.now.tree positions → (es : List Entry) (ns : List NextAt) →
@@ -226,6 +238,7 @@ impl OpeningsOfGames {
             × AreNextsGone self.old.asked.depth game.now.tree positions n es ns
             self.old.openings.entries self.old.frames.items }
         ensures asked { self.new.asked ≡ self.old.asked }
+        ensures width { self.new.openings.width ≡ self.old.openings.width }
         ensures walker { self.new.walker ≡ self.old.walker }
         ensures frames { self.new.frames ≡ self.old.frames }
         ensures gone { OnOk result ((positions : List Position) →

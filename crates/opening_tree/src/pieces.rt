@@ -5,9 +5,10 @@ ghost use Rattle.opening_tree.specs.Openings.{IsOpenings};
 ghost use Rattle.opening_tree.specs.StoredGames.{AreOpeningsOf};
 
 use crate::answer::Opening;
-use crate::groups::{OpeningMap, add_openings};
+use crate::groups::add_openings;
+use crate::opening_table::OpeningTable;
 use crate::openings::{Asked, listed, openings_in};
-use indexmap::IndexMap;
+use crate::packed::words_for;
 use kb_geometry::{NoMemory, Shape};
 use segment_store::{FinishedGame, Segment, games};
 use std::alloc::Global;
@@ -60,7 +61,7 @@ fn openings_of_pieces<R: Threads + Sync>(
     alloc: Global,
     asked: Asked,
     games: &[&FinishedGame],
-) -> Result<OpeningMap, NoMemory>
+) -> Result<OpeningTable, NoMemory>
     requires { length games.now ≤ 400000 }
     ensures { IfOk result (λ openings.
         AreOpeningsOf 0 asked.shape asked.depth (map (λ g. g.now) games.now) openings.entries) }
@@ -74,13 +75,13 @@ fn openings_of_pieces<R: Threads + Sync>(
         alloc,
         games,
         size,
-        &|start: usize, chunk: &[&FinishedGame]| -> Result<OpeningMap, NoMemory>
+        &|start: usize, chunk: &[&FinishedGame]| -> Result<OpeningTable, NoMemory>
             requires { start + length chunk.now ≤ 400000 }
         { openings_in(alloc, asked, start as u32, chunk) },
     )?;
-    let mut openings = IndexMap::new(alloc);
+    let mut openings = OpeningTable::new(alloc, words_for(asked.shape.count()))?;
     for piece in pieces {
-        add_openings(&mut openings, piece?)?;
+        add_openings(alloc, &mut openings, &piece?)?;
     }
     Ok(openings)
 }

@@ -1,5 +1,5 @@
 -- A script makes few versions, so that the number of each is a word of 64 bits.
-use Rattle.std.proofs.Common.{◌≡◌, ◌∙◌, inl, inr, ℕ, ◌+◌, ◌-◌, ◌*◌, ◌/◌, ◌^◌, ◌<◌, ◌≤◌, List, [], ◌∷◌, ◌++◌, length, map, length-append, refl, sym, ap, subst, arith}
+use Rattle.std.proofs.Common.{◌≡◌, ◌∙◌, ℕ, ◌+◌, ◌-◌, ◌*◌, ◌/◌, ◌^◌, ◌<◌, ◌≤◌, List, [], ◌∷◌, ◌++◌, length, map, length-append, ap, arith}
 use Rattle.std.specs.Prelude.{All}
 use Rattle.std.specs.Fork.{slice_chunk}
 use Rattle.std.specs.List.{range_with_len}
@@ -14,7 +14,7 @@ use Rattle.query_script.specs.declared.statement.Placed.{Placed}
 use Rattle.query_script.specs.declared.statement.Statement.{Statement}
 use Rattle.query_script.specs.declared.statement.Statement.TheVariants as statement
 use Rattle.import_work.specs.Course.{Files, Finding, ImportCourse, ImportFile, IsImported, Made, TooMany, Unlisted, games_of_files, trees_in}
-use Rattle.import_work.specs.Log.{Segment, batches, games_of_segments, segments_of}
+use Rattle.import_work.specs.Log.{batches, games_of_segments, segments_of}
 use Rattle.import_work.specs.Outcome.{counts_of}
 use Rattle.import_work.specs.declared.outcome.Counts.{Counts}
 use Rattle.import_work.specs.declared.source.Source.{Source}

@@ -20,3 +20,32 @@ pub mod TailTexts
 pub mod TextHeads
 pub mod Verdicts
 pub mod WrittenLines
+mod AmongShown
+mod AuditCauses
+mod AuditedRecords
+mod BaseSteps
+mod BlockStates
+mod BlockSteps
+mod CourseEnds
+mod CourseSteps
+mod Departures
+mod Digits
+mod FileSteps
+mod FilesFound
+mod ImportStates
+mod ImportSteps
+mod KeptStates
+mod MergedParts
+mod NamedStates
+mod NextSteps
+mod OverStates
+mod PieceSteps
+mod PlaceSteps
+mod ReportSteps
+mod SearchSteps
+mod SeenLines
+mod ShownNames
+mod SortedNames
+mod StatementSteps
+mod ToldReports
+mod WholeSteps

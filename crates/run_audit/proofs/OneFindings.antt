@@ -1,11 +1,11 @@
 -- What an import finds is one thing where it is given what is lost, and so is the entry of the course that
 -- a record shows.
-use Rattle.std.proofs.Common.{◌≡◌, ◌∙◌, inl, inr, ℕ, Bool, true, false, List, [], ◌∷◌, length, refl, sym, ap, subst, arith}
+use Rattle.std.proofs.Common.{◌≡◌, ◌∙◌, inl, inr, ℕ, Bool, true, false, List, length, refl, sym, ap, subst, arith}
 use Rattle.std.specs.Prelude.{filter}
 use Rattle.std.proofs.lemmas.Bool.{false≢true}
 use Rattle.std.proofs.lemmas.List.{length-map}
 use Rattle.kb_edges.specs.Files.{File, HasPath}
-use Rattle.import_work.specs.Course.{Files, Finding, FindsBy, FindsFiles, HasItsPath, HasTooMany, ImportCourse, ImportFile, IsImported, IsUnlisted, Made, TooMany, Unlisted, names_found, names_of, nothing_lost}
+use Rattle.import_work.specs.Course.{Files, Finding, FindsBy, FindsFiles, HasTooMany, ImportCourse, ImportFile, IsImported, IsUnlisted, Made, TooMany, Unlisted, names_found, names_of, nothing_lost}
 use Rattle.import_work.specs.declared.outcome.Counts.{Counts}
 use Rattle.import_work.specs.declared.source.Source.{Source}
 use Rattle.import_work.specs.declared.source.Source.TheVariants as source

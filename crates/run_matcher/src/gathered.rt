@@ -134,7 +134,6 @@ impl Gathered {
             Contains self.old b ⊎ IsKnownIn stretches.now placement b) }
         ensures kept { IsPrefix self.old self.new }
     {
-        let _few = runs.node_count();
         nodes.clear();
         runs.push_begins(stretches, nodes)?;
         push_keys(nodes, placement, known_end(stretches), &mut self.keys)?;

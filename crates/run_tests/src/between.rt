@@ -1,10 +1,11 @@
-// Searches that are answered between two versions of one import.
+// Searches that are answered between two versions of one import, and audits of what is written.
 ghost use Rattle.std.specs.Prelude.{Some};
 ghost use Rattle.kb_edges.specs.Memory.{sink_faults, sink_written};
 
-use crate::files::{folder_of, words_in};
+use crate::files::{entries_of, folder_of, words_in};
 use hit_collectors::{Collector, Counter, Kind};
-use kb_edges::{Gate, MemorySink, MemorySource, Sink, SinkError};
+use kb_edges::{FileEntry, Gate, MemoryFolder, MemorySink, MemorySource, Sink, SinkError};
+use run_audit::{AuditStatus, audit};
 use search_run::{Base, Status, run};
 use std::alloc::Global;
 use std::process::Abort;
@@ -79,13 +80,13 @@ struct Beside<'a> {
     written: &'a str,
 }
 
-// Runs the script with these boxes.
+// Runs the script with these boxes, and answers what it wrote.
 fn search_beside<R: Threads + Wait + Abort + Clone + Drop + Send + Sync + 'static>(
     rt: &R,
     alloc: Global,
     boxes: Vec<Box<dyn Collector>>,
     beside: &Beside<'_>,
-) -> Result<(), Fail> {
+) -> Result<Vec<u8>, Fail> {
     let signals = Arc::new(
         alloc,
         Signals {
@@ -127,11 +128,49 @@ fn search_beside<R: Threads + Wait + Abort + Clone + Drop + Send + Sync + 'stati
         "the gate gave up"
     );
     assert_eq!(rt; sink.inner.written(), beside.written.as_bytes());
+    Ok(sink.inner.written().to_vec(alloc)?)
+}
+
+// What an audit says of a record of the script, where these boxes are those that its run had at the start.
+fn said_of<R: Threads + Abort + Sync>(
+    rt: &R,
+    alloc: Global,
+    boxes: Vec<Box<dyn Collector>>,
+    beside: &Beside<'_>,
+    record: Vec<u8>,
+) -> Result<Vec<u8>, Fail> {
+    let mut files = entries_of(alloc, beside.files)?;
+    files.push(FileEntry {
+        path: String::from_str(alloc, "r")?,
+        name: String::from_str(alloc, "record")?,
+        bytes: record,
+    })?;
+    let folder = MemoryFolder::new(files, Vec::new(alloc));
+    let script = beside.script.as_bytes().to_vec(alloc)?;
+    let mut source = MemorySource::new(script, Vec::new(alloc));
+    let mut sink = MemorySink::new(Vec::new(alloc), Vec::new(alloc));
+    let words = words_in(alloc, "r --batch 1")?;
+    let (status, _folder) = audit(rt, alloc, &words, folder, &mut source, &mut sink, boxes);
+    assert_eq!(rt; status, AuditStatus::Done);
+    Ok(sink.written().to_vec(alloc)?)
+}
+
+// Runs the script with these boxes, and audits what it wrote with equal ones: it is lawful.
+fn search_and_audit<R: Threads + Wait + Abort + Clone + Drop + Send + Sync + 'static>(
+    rt: &R,
+    alloc: Global,
+    boxes: Vec<Box<dyn Collector>>,
+    equal: Vec<Box<dyn Collector>>,
+    beside: &Beside<'_>,
+) -> Result<(), Fail> {
+    let record = search_beside(rt, alloc, boxes, beside)?;
+    let said = said_of(rt, alloc, equal, beside, record)?;
+    assert_eq!(rt; said.as_slice(), b"audit lawful\n".as_slice());
     Ok(())
 }
 
 // A search beside two that are watched, one of which goes on with the import, and a block, each of whose
-// searches has a searcher of its own.
+// searches has a searcher of its own. What is written is audited.
 #[test]
 fn statements_between_publishings(rt: HostRuntime) -> Result<(), Fail> {
     let alloc = rt.alloc();
@@ -168,7 +207,7 @@ fn statements_between_publishings(rt: HostRuntime) -> Result<(), Fail> {
              hit 1 3 2 1 0 -\n\
              total 4 0 0 0 0 4\n",
     };
-    search_beside(&rt, alloc, Vec::new(alloc), &search)?;
+    search_and_audit(&rt, alloc, Vec::new(alloc), Vec::new(alloc), &search)?;
     let block = Beside {
         files: 2,
         held: 2,
@@ -186,7 +225,7 @@ fn statements_between_publishings(rt: HostRuntime) -> Result<(), Fail> {
              1 imported files 2 accepted 2 refused 0 full 0 unread 0 games 2 version 2\n\
              7 wait version 2\n",
     };
-    search_beside(&rt, alloc, Vec::new(alloc), &block)
+    search_and_audit(&rt, alloc, Vec::new(alloc), Vec::new(alloc), &block)
 }
 
 // Appends the hits of a game, by the node, the place and the label of each.
@@ -227,13 +266,18 @@ const WATCH_BEGUN: &str = "1 import d\n\
     1 imported files 200 accepted 200 refused 0 full 0 unread 0 games 200 version 200\n\
     6 wait version 200\n";
 
-// Each has all hits of the last version, and each hit was counted once.
-#[test]
-fn watched_searches_beside_an_import(rt: HostRuntime) -> Result<(), Fail> {
-    let alloc = rt.alloc();
+// A collector `all` that counts hits, and no other.
+fn one_counter(alloc: Global) -> Result<Vec<Box<dyn Collector>>, Fail> {
     let counter = Counter::new(String::from_str(alloc, "all")?, Kind::Total)?;
     let mut boxes: Vec<Box<dyn Collector>> = Vec::new(alloc);
     boxes.push(Box::new(alloc, counter)?)?;
+    Ok(boxes)
+}
+
+// Each has all hits of the last version, and each hit was counted once. What is written is audited.
+#[test]
+fn watched_searches_beside_an_import(rt: HostRuntime) -> Result<(), Fail> {
+    let alloc = rt.alloc();
     let mut written = String::from_str(alloc, WATCH_BEGUN)?;
     let black = ["1 2 2 0", "3 2 1 0"];
     append_watched(alloc, &mut written, "7 watched black", 400, &black)?;
@@ -247,5 +291,11 @@ fn watched_searches_beside_an_import(rt: HostRuntime) -> Result<(), Fail> {
         line: b"5 watch pair version 100 hits 100\n",
         written: &written,
     };
-    search_beside(&rt, alloc, boxes, &watched)
+    search_and_audit(
+        &rt,
+        alloc,
+        one_counter(alloc)?,
+        one_counter(alloc)?,
+        &watched,
+    )
 }

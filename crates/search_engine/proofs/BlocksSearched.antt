@@ -1,7 +1,6 @@
 -- Searching one block after another.
-use Rattle.std.proofs.Common.{◌≡◌, ℕ, ◌+◌, ◌*◌, ◌<◌, ◌≤◌, List, [], ◌++◌, drop, get_or, length, length-append, take, sym, ap, ◌∙◌, subst, arith}
-use Rattle.std.proofs.Math.Nat.{mul-le-mul_left}
-use Rattle.std.proofs.lemmas.List.{get_or-append-add, take-append-drop, take_all}
+use Rattle.std.proofs.Common.{◌≡◌, ℕ, ◌+◌, ◌<◌, ◌≤◌, List, [], ◌++◌, drop, get_or, length, length-append, refl, take, sym, ap, ◌∙◌, subst, arith}
+use Rattle.std.proofs.lemmas.List.{get_or-append-add, length-drop, take-append-drop, take_all}
 use Rattle.kb_geometry.proofs.Lists.{All-before}
 use Rattle.std.proofs.lemmas.List.Concat.{flat_map-append, get_or-flat_map}
 use Rattle.std.proofs.lemmas.List.Folds.{length-flat_map-take}
@@ -15,13 +14,9 @@ use Rattle.info_filter.specs.declared.filter.Filter.{Filter}
 use Rattle.search_engine.specs.declared.item.Item.{Item}
 use Rattle.search_engine.specs.Hits.{AreHitsFrom}
 use Rattle.search_engine.specs.Items.{AreItems, AreNumberedFrom, games_of_item, games_of_items}
-use Rattle.search_engine.specs.Searching.{AreCovered, AreHitsAdded, AreItemHitsAdded, IsCovered}
+use Rattle.search_engine.specs.Searching.{AreCovered, AreFirstHitsAdded, AreHitsAdded, AreItemHitsAdded, IsCovered}
 use Rattle.search_engine.proofs.GamesSearched.{AreHitsAdded-parts, AreHitsFrom-none}
-use Rattle.search_engine.proofs.ItemLists.{games_to_next, games_to_piece}
-
--- so many pieces of this size are enough
-pub enough : (items pieces size : ℕ) → items ≤ size * pieces → pieces ≤ 8 → items ≤ 8 * size
-enough items pieces size all few = let most = mul-le-mul_left size few in omega (arith, all, most)
+use Rattle.search_engine.proofs.ItemLists.{AreNumberedFrom-piece, games_to_next, games_to_piece}
 
 -- what holds of all elements holds of those of each part
 pub All-of_part : {X Y : Type 0} (P : Y → Type 0) (f : X → List Y) (xs : List X) (k : ℕ) (x : X) → k < length xs → x ≡ get_or xs k x → All P (flat_map f xs) → All P (f x)
@@ -46,7 +41,7 @@ module _ (query : Query) (filter : Filter) (shapes : List Shape) (items : List I
 
   -- the hits of the first so many blocks are added
   abbrev pub so_far : ℕ → List Hit → List Hit → Type 0
-  so_far k old new = (first : ℕ) → AreNumberedFrom first items → AreCovered query shapes (games_of_items items) → AreHitsAdded (AreHitsFrom first query filter (games_of_items (take k items))) old new
+  so_far k old new = AreFirstHitsAdded query filter shapes items k old new
 
   pub so_far-none : (hits : List Hit) → so_far 0 hits hits
   so_far-none hits first numbered covered = AreHitsFrom-none first query filter hits
@@ -64,6 +59,22 @@ module _ (query : Query) (filter : Filter) (shapes : List Shape) (items : List I
   -- what is added to nothing
   pub hits_alone : (hits : List Hit) (first : ℕ) → AreItemHitsAdded query filter shapes items [] hits → AreNumberedFrom first items → AreCovered query shapes (games_of_items items) → AreHitsFrom first query filter (games_of_items items) hits
   hits_alone hits first are numbered covered = let added = are first numbered covered in subst (λ hs. AreHitsFrom first query filter (games_of_items items) hs) (sym added.added) added.are_hits
+
+  -- the hits of the first so many blocks, which are all
+  pub hits_of_first : (k : ℕ) (first : ℕ) (new : List Hit) → length items ≤ k → so_far k [] new → AreNumberedFrom first items → AreCovered query shapes (games_of_items items) → AreHitsFrom first query filter (games_of_items items) new
+  hits_of_first k first new all before numbered covered = hits_alone new first (so_far-all k [] new all before) numbered covered
+
+  -- the hits of the first so many blocks, and those of the others behind them
+  pub hits_behind_first : (k : ℕ) (first : ℕ) (mid new : List Hit) → so_far k [] mid → AreItemHitsAdded query filter shapes (drop k items) mid new → AreNumberedFrom first items → AreCovered query shapes (games_of_items items) → AreHitsFrom first query filter (games_of_items items) new
+  hits_behind_first k first mid new before behind numbered covered =
+      let done = games_of_items (take k items) in
+      let all : take (length items) (drop k items) ≡ drop k items = take_all (length items) (drop k items) (omega (arith, length-drop k items)) in
+      let number = subst (AreNumberedFrom (first + length done)) all (AreNumberedFrom-piece first items k (length items) numbered) in
+      let covers = subst (λ is. AreCovered query shapes (games_of_items is)) all (All-of_sublist (λ (g : Game). IsCovered query shapes g.tree.shape) items k (length items) covered) in
+      let cut : done ++ games_of_items (drop k items) ≡ games_of_items items = sym (flat_map-append games_of_item (take k items) (drop k items)) ∙ ap games_of_items (take-append-drop k items) in
+      let added = AreHitsAdded-parts first query filter [] done (games_of_items (drop k items)) mid new (first + length done) refl (before first numbered covered) (behind (first + length done) number covers) in
+      subst (λ gs. AreHitsFrom first query filter gs new) cut
+      (subst (λ hs. AreHitsFrom first query filter (done ++ games_of_items (drop k items)) hs) (sym added.added) added.are_hits)
 
 -- the hits of the games that blocks have
 pub hits_of_items : (query : Query) (filter : Filter) (shapes : List Shape) (items : List Item) (first : ℕ) (games : List Game) (old new : List Hit) → AreItems first games items → AreCovered query shapes (games_of_items items) → old ≡ [] → AreItemHitsAdded query filter shapes items old new → AreHitsFrom first query filter games new

@@ -1,15 +1,16 @@
 -- Words with a bit for each game of a block.
-use Rattle.std.proofs.Common.{◌≡◌, ◌≢◌, inl, inr, ℕ, ◌+◌, ◌*◌, ◌-◌, ◌^◌, ◌%◌, ◌<◌, ◌≤◌, ◌↔◌, List, Some, bit_or, length, refl, sym, ap, ◌∙◌, subst, arith}
-use Rattle.std.specs.Int.{bit_at, w64}
+use Rattle.std.proofs.Common.{◌≡◌, ◌≢◌, inl, inr, ℕ, ◌+◌, ◌*◌, ◌-◌, ◌/◌, ◌^◌, ◌%◌, ◌<◌, ◌≤◌, ◌↔◌, List, Some, bit_or, length, refl, sym, ap, ◌∙◌, subst, arith}
+use Rattle.std.specs.Int.{bit_at, trailing_zeros, w64}
 use Rattle.std.specs.List.{slice_get}
-use Rattle.std.proofs.lemmas.Bool.{cases_eq}
-use Rattle.std.proofs.lemmas.Nat.Bits.{bit_at-zero, bit_at_ones, bit_at_set_other, bit_at_set_same}
+use Rattle.std.proofs.lemmas.Bool.{cases_eq, cases_lt}
+use Rattle.std.proofs.lemmas.Nat.{shr-shr, shr_le}
+use Rattle.std.proofs.lemmas.Nat.Bits.{bit_at-trailing_zeros, bit_at-zero, bit_at_above, bit_at_ones, bit_at_set_other, bit_at_set_same}
 use Rattle.std.proofs.lemmas.Option.{get_or_from_slice_get, slice_get_within}
 use Rattle.node_position.specs.Games.{Game}
 use Rattle.info_filter.specs.declared.condition.Condition.{Condition}
 use Rattle.info_filter.specs.declared.filter.Filter.{Filter}
 use Rattle.info_filter.specs.Filter.{Accepts}
-use Rattle.search_engine.specs.BlockCandidates.{AreAccepted, IsWithBit}
+use Rattle.search_engine.specs.BlockCandidates.{AreAccepted, IsNextBit, IsWithBit}
 
 pub IsWithBit-set : (word at : ℕ) (set : Type 0) → set → at < 64 → IsWithBit word at set (bit_or word (1 * 2 ^ at % 2 ^ 64))
 IsWithBit-set word at set s lt = record {
@@ -22,6 +23,34 @@ IsWithBit-same word at set not = record {
   here = (λ e. inr e, λ h. elim h [ inl s ↦ absurd (not s) | inr e ↦ e ]);
   others = λ j ne. refl;
 }
+
+pub bit_at-shr : (n s i : ℕ) → bit_at (n / 2 ^ s) i ≡ bit_at n (s + i)
+bit_at-shr n s i = ap (λ (m : ℕ). m % 2) (shr-shr n s i)
+
+-- ---- the bits of a word, one after another
+
+module _ (word from : ℕ) (fits : word < 2 ^ 64) where
+  pub next_bit-found : 0 < word / 2 ^ from → IsNextBit word from (from + trailing_zeros w64 (word / 2 ^ from))
+  next_bit-found some =
+      let t = trailing_zeros w64 (word / 2 ^ from) in
+      let lowest = bit_at-trailing_zeros w64 (word / 2 ^ from) some (omega (arith, shr_le word from, fits)) in
+      let set : bit_at word (from + t) ≡ 1 = sym (bit_at-shr word from t) ∙ lowest.1 in
+      record {
+        below = elim (cases_lt (from + t) 64) [
+          | inl lt ↦ lt
+          | inr ge ↦ absurd (omega (arith, set, bit_at_above word 64 (from + t) fits ge))
+        ];
+        from_on = omega arith;
+        set = set;
+        first = λ g ge lt.
+            let at : from + (g - from) ≡ g = omega (arith, ge) in
+            ap (λ (j : ℕ). bit_at word j) (sym at) ∙ sym (bit_at-shr word from (g - from)) ∙ lowest.2 (g - from) (omega (arith, ge, lt));
+      }
+
+  pub next_bit-none : word / 2 ^ from ≡ 0 → (g : ℕ) → from ≤ g → bit_at word g ≡ 0
+  next_bit-none none g ge =
+      let at : from + (g - from) ≡ g = omega (arith, ge) in
+      ap (λ (j : ℕ). bit_at word j) (sym at) ∙ sym (bit_at-shr word from (g - from)) ∙ ap (λ (m : ℕ). bit_at m (g - from)) none ∙ bit_at-zero (g - from)
 
 -- ---- which games a filter accepts
 

@@ -1,10 +1,9 @@
 -- The occurrences in a game, which its list has, and what follows where there is none.
-use Rattle.std.proofs.Common.{◌≡◌, ℕ, Bool, true, false, inl, inr, not, ◌<◌, ◌↔◌, List, [], ◌∷◌, Option, Some, None, Contains, get_or, length, refl, sym, ap, ◌∙◌, subst, arith}
+use Rattle.std.proofs.Common.{◌≡◌, ℕ, Bool, true, false, inl, inr, not, ◌<◌, ◌↔◌, List, [], ◌∷◌, Option, Some, None, Contains, length, refl, sym, ap, ◌∙◌, subst, arith}
 use Rattle.std.specs.Option.{option_map_or}
-use Rattle.std.specs.Prelude.{All, IfSome, IsTrue}
+use Rattle.std.specs.Prelude.{IfSome, IsTrue}
 use Rattle.kb_geometry.specs.declared.shape.Shape.{Shape}
 use Rattle.std.proofs.lemmas.Bool.{and_from, and_parts, false≢true, false_from_ne_true}
-use Rattle.std.proofs.lemmas.List.{get_or_default}
 use Rattle.kb_geometry.proofs.Lists.{Contains-first}
 use Rattle.game_tree.specs.Tree as tree
 use Rattle.capture_board.specs.Deltas.{Deltas, node_count, parent_of, position_at}
@@ -116,7 +115,3 @@ no_hits query filter shapes number game gathered has changes of none covered hit
             are_hits = subst (λ os. AreHitsOf query number game changes placements.0 os []) (sym empty) AreHitsOf.nothing;
           })
     ])
-
--- what is true of each listed number
-pub all_listed : (list : List ℕ) (P : ℕ → Type 0) → ((i : ℕ) → Contains list i → P i) → All P list
-all_listed list P each k d lt = each (get_or list k d) (k, lt, get_or_default list k (get_or list k d) d lt)

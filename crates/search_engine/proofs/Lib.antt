@@ -9,9 +9,7 @@ mod GatheredBlocks
 mod GatheredLists
 mod ImagesOnShapes
 mod ItemLists
-mod ListedPlacements
 mod NodesVisited
-mod PlacementLists
 mod HitsKept
 pub mod KeptCounts
 mod KeptNumbers
@@ -19,6 +17,8 @@ mod HitTriples
 pub mod NumberedLists
 mod TriplesOfGames
 mod KeptGames
+mod KeptBits
+mod KeptBlocks
 mod PossibleGames
 mod Gathering
 mod GoingOn

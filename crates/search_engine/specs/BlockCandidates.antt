@@ -1,6 +1,6 @@
 -- Which placements the games of a block may have: definitions of the private functions that search
 -- a block.
-use Rattle.std.specs.Prelude.{◌≡◌, ◌≢◌, ℕ, ◌<◌, ◌≤◌, ◌⊎◌, ◌↔◌, ◌++◌, [], Any, Contains, List, None, Some, length, slice_index_or}
+use Rattle.std.specs.Prelude.{◌≡◌, ◌≢◌, ℕ, ◌<◌, ◌≤◌, ◌⊎◌, ◌↔◌, ◌++◌, Any, Contains, List, None, Some, length, slice_index_or}
 use Rattle.std.specs.Int.{bit_at}
 use Rattle.std.specs.List.{slice_get}
 use Rattle.kb_geometry.specs.declared.shape.Shape.{Shape}
@@ -97,27 +97,3 @@ pub record AreAddedOn (query : Query) (shapes : List Shape) (planes : PlaneGames
   pub complete : IsCovered query shapes planes.shape → (placements : List Placement) →
       ArePlacements query planes.shape placements → (i g : ℕ) → i < length placements → g < 64 →
       bit_at among g ≡ 1 → IsPossibleIn planes g (placement_at placements i) → IsCandidate more g i
-
--- ---- lists of placements, one for each game
-
--- the list of a game
-abbrev pub list_of : List (List ℕ) → ℕ → List ℕ
-list_of lists g = slice_index_or lists g []
-
--- the placement with number i is in the list of game g
-abbrev pub IsListed : List (List ℕ) → ℕ → ℕ → Type 0
-IsListed lists g i = Contains (list_of lists g) i
-
--- one of the first so many candidates has the bit of game g, and is this placement
-abbrev pub IsAmong : List Candidate → ℕ → ℕ → ℕ → Type 0
-IsAmong found k g i = (j : ℕ) × (j < k) × ((candidate_at found j).placement ≡ i)
-    × (bit_at (candidate_at found j).games g ≡ 1)
-
--- each game has the placements of the first so many candidates with its bit
-abbrev pub AreByGame : List Candidate → ℕ → List (List ℕ) → Type 0
-AreByGame found k lists = (g i : ℕ) → g < 64 → IsListed lists g i ↔ IsAmong found k g i
-
--- a candidate is added to the lists of the games with a bit below a place
-abbrev pub IsAddedBelow : Candidate → ℕ → List (List ℕ) → List (List ℕ) → Type 0
-IsAddedBelow c end old new = (g i : ℕ) → g < 64 → IsListed new g i ↔
-    (IsListed old g i ⊎ ((g < end) × (bit_at c.games g ≡ 1) × (i ≡ c.placement)))

@@ -6,6 +6,7 @@ pub mod Numbered
 pub mod Triples
 -- Definitions of private functions.
 pub mod BlockCandidates
+pub mod KeptBlocks
 pub mod Gathering
 pub mod ImagesMade
 pub mod Items

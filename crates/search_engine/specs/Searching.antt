@@ -1,5 +1,5 @@
 -- Definitions of the private functions that search.
-use Rattle.std.specs.Prelude.{◌≡◌, ℕ, ◌*◌, ◌<◌, ◌≤◌, All, Contains, List, [], ◌++◌, length, slice_index_or, IfOk}
+use Rattle.std.specs.Prelude.{◌≡◌, ℕ, ◌*◌, ◌<◌, ◌≤◌, All, Contains, List, [], ◌++◌, length, slice_index_or, take, IfOk}
 use Rattle.std.specs.Fork.{slice_chunk}
 use Rattle.kb_geometry.specs.declared.shape.Shape.{Shape}
 use Rattle.kb_geometry.specs.Pieces.{PieceOf}
@@ -38,6 +38,13 @@ abbrev pub AreItemHitsAdded : Query → Filter → List Shape → List Item → 
 AreItemHitsAdded query filter shapes items old new =
     (first : ℕ) → AreNumberedFrom first items → AreCovered query shapes (games_of_items items) →
     AreHitsAdded (AreHitsFrom first query filter (games_of_items items)) old new
+
+-- the same of the first so many blocks alone
+abbrev pub AreFirstHitsAdded : Query → Filter → List Shape → List Item → ℕ → List Hit → List Hit →
+    Type 0
+AreFirstHitsAdded query filter shapes items count old new =
+    (first : ℕ) → AreNumberedFrom first items → AreCovered query shapes (games_of_items items) →
+    AreHitsAdded (AreHitsFrom first query filter (games_of_items (take count items))) old new
 
 -- a piece of a search has the hits of the games of these blocks
 abbrev pub IsPiece : Query → Filter → List Shape → List Item → PieceOf Hit → Type 0

@@ -5,39 +5,17 @@ ghost use Rattle.search_engine.specs.BlockCandidates.{
   AreAllowed,
   AreInRange,
   IsCandidate,
-  IsListed,
 };
 
-use crate::game_placements::GamePlacements;
 use crate::matchers::Matchers;
 use candidate_sieve::{Candidate, add_candidates};
 use final_index::Planes;
 use kb_geometry::NoMemory;
 use segment_store::Block;
 
-// Finds the placements that each game of a block may have, among the games that are asked for. What
-// was found before is gone. The words and the candidates are room for work.
-pub(crate) fn find_placements(
-    matchers: &Matchers,
-    block: &Block,
-    games: u64,
-    words: &mut Vec<u64>,
-    candidates: &mut Vec<Candidate>,
-    placements: &mut GamePlacements,
-) -> Result<(), NoMemory>
-    ensures in_range { OnOk result (AreInRange matchers.now.query block.now
-        (IsListed placements.new)) }
-    ensures allowed { OnOk result (AreAllowed matchers.now.query matchers.now.shapes block.now games
-        (IsListed placements.new)) }
-{
-    let _count = block.len();
-    find_candidates(matchers, block, games, words, candidates)?;
-    placements.fill(candidates)
-}
-
 // Finds the placements that games of a block may have, each with these games, among the games that
 // are asked for. What was in the list before is gone.
-fn find_candidates(
+pub(crate) fn find_candidates(
     matchers: &Matchers,
     block: &Block,
     games: u64,

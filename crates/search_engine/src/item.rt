@@ -1,5 +1,5 @@
 // A block of games among those of a version.
-ghost use Rattle.std.specs.Prelude.{◌+◌, ◌≤◌, drop, length};
+ghost use Rattle.std.specs.Prelude.{◌+◌, ◌<◌, ◌≤◌, drop, length};
 
 use segment_store::Block;
 
@@ -10,5 +10,6 @@ pub(crate) struct Item<'a> {
     pub(crate) first: u32,
     pub(crate) block: &'a Block,
     pub(crate) skip: usize,
+    pub(crate) ghost few: { skip < 64 },
     pub(crate) ghost fits: { first + length (drop skip block.now) ≤ 400000 },
 }

@@ -1,43 +1,27 @@
 // How many games of a version are kept for a query.
-ghost use Rattle.std.specs.Prelude.{
-  ◌≡◌,
-  ◌↔◌,
-  ◌-◌,
-  ◌^◌,
-  ◌<◌,
-  ◌≤◌,
-  All,
-  Any,
-  Contains,
-  IfOk,
-  IsTrue,
-  length,
-};
+ghost use Rattle.std.specs.Prelude.{◌≡◌, ◌<◌, ◌≤◌, IfOk, Some, length};
+ghost use Rattle.std.specs.List.{slice_get};
 ghost use Rattle.version_publisher.specs.Contents.{items_in};
-ghost use Rattle.capture_board.specs.Deltas.{Deltas};
-ghost use Rattle.node_position.specs.Games.{AreNodeChanges};
-ghost use Rattle.pattern_images.specs.ImageList.{placement_at};
-ghost use Rattle.candidate_sieve.specs.Kept.{HadCorners};
-ghost use Rattle.search_engine.specs.BlockCandidates.{
-  AreAllowed,
-  AreAllowedFor,
-  AreInRange,
-  AreInRangeFor,
-  IsListed,
+ghost use Rattle.node_position.specs.Games.{Game};
+ghost use Rattle.search_engine.specs.Items.{AreNumberedFrom, games_of_items};
+ghost use Rattle.search_engine.specs.KeptBlocks.{
+  AreCornersOf,
+  AreCornersTold,
+  AreKeptInBlock,
+  AreKeptOn,
 };
-ghost use Rattle.search_engine.specs.Items.{AreNumberedFrom, games_of_item, games_of_items};
-ghost use Rattle.search_engine.specs.KeptGames.{AreKept, IsKeptGame};
-ghost use Rattle.search_engine.specs.Searching.{AreCovered, IsCovered};
+ghost use Rattle.search_engine.specs.KeptGames.{AreKept};
+ghost use Rattle.search_engine.specs.Searching.{AreCovered};
 
-use crate::block_candidates::find_placements;
-use crate::game_placements::GamePlacements;
 use crate::item::Item;
 use crate::items::items_of_version;
 use crate::matchers::{Matchers, images_for};
-use candidate_sieve::meets_corners;
+use candidate_sieve::kept_games;
+use corner_index::CornerKeys;
+use final_index::Planes;
 use kb_geometry::NoMemory;
-use pattern_images::{Images, Query};
-use segment_store::{FinishedGame, Segment};
+use pattern_images::Query;
+use segment_store::{Block, Segment};
 use std::alloc::Global;
 use version_publisher::Version;
 
@@ -61,72 +45,67 @@ fn kept_of_items(alloc: Global, matchers: &Matchers, items: &[Item]) -> Result<u
     requires covered { AreCovered matchers.now.query matchers.now.shapes (games_of_items items.now) }
     ensures { IfOk result (λ k. AreKept matchers.now.query (games_of_items items.now) k) }
 {
-    let mut words = Vec::new(alloc);
-    let mut candidates = Vec::new(alloc);
-    let mut placements = GamePlacements::new(alloc)?;
+    let mut room = Vec::new(alloc);
     let mut count = 0;
     for item in items {
-        find_placements(
-            matchers,
-            item.block,
-            u64::MAX,
-            &mut words,
-            &mut candidates,
-            &mut placements,
-        )?;
-        count += kept_of_block(matchers, item, &placements);
+        let kept = kept_in_block(alloc, matchers, item.block, &mut room)?;
+        count += (kept >> item.skip).count_ones();
     }
     Ok(count)
 }
 
-// How many games of a block are kept, but for those that are left out. For each game the placements
-// are told of which each cell was allowed.
-fn kept_of_block(matchers: &Matchers, item: &Item, placements: &GamePlacements) -> u32
-    requires in_range { AreInRange matchers.now.query item.now.block.now
-        (IsListed placements.now) }
-    requires allowed { AreAllowed matchers.now.query matchers.now.shapes item.now.block.now
-        (2 ^ 64 - 1) (IsListed placements.now) }
-    ensures kept { AreCovered matchers.now.query matchers.now.shapes (games_of_item item.now) →
-        AreKept matchers.now.query (games_of_item item.now) result }
-    ensures most { result ≤ length (games_of_item item.now) }
+// The games of a block that are kept, a bit for each. The words are room for work.
+fn kept_in_block(
+    alloc: Global,
+    matchers: &Matchers,
+    block: &Block,
+    room: &mut Vec<u64>,
+) -> Result<u64, NoMemory>
+    ensures { IfOk result (AreKeptInBlock matchers.now.query matchers.now.shapes block.now) }
 {
-    let block = item.block;
-    let mut count = 0;
-    for at in item.skip..block.len() {
-        count += u32::from(is_kept(matchers, block.get(at), placements.of_game(at)));
+    let corners = corners_of(alloc, block)?;
+    let mut kept = 0;
+    for planes in block.planes() {
+        kept |= kept_on_shape(matchers, planes, &corners, room)?;
     }
-    count
+    Ok(kept)
 }
 
-// Whether a game is kept, in which each cell of these placements was allowed. Where there are no
-// images for its board, the query doesn't look on it.
-fn is_kept(matchers: &Matchers, game: &FinishedGame, placements: &[u32]) -> bool
-    requires { AreInRangeFor matchers.now.query game.now.tree (Contains placements.now) }
-    ensures { IsCovered matchers.now.query matchers.now.shapes game.now.tree.shape →
-        AreAllowedFor matchers.now.query game.now.tree (Contains placements.now) →
-        IsTrue result ↔ IsKeptGame matchers.now.query game.now.tree }
+// Those on boards of one shape. Where there is no matcher for the shape, the query doesn't look there.
+fn kept_on_shape(
+    matchers: &Matchers,
+    planes: &Planes,
+    corners: &[&CornerKeys],
+    room: &mut Vec<u64>,
+) -> Result<u64, NoMemory>
+    requires { length corners.now ≤ 64 }
+    ensures { IfOk result (AreKeptOn matchers.now.query matchers.now.shapes planes.now
+        corners.now) }
 {
-    let _changes = game.deltas();
-    let shape = game.tree().shape();
-    match matchers.find(shape) {
-        Some(matcher) => some_meets_corners(matcher.images, game, placements),
-        None => false,
-    }
+    let Some(matcher) = matchers.find(planes.shape()) else {
+        return Ok(0);
+    };
+    kept_games(planes, &matcher.rows, matcher.runs.wants(), corners, room)
 }
 
-// Whether some of these placements covers only corners that stood as it asks in the game.
-fn some_meets_corners(images: &Images, game: &FinishedGame, placements: &[u32]) -> bool
-    requires shape { images.now.shape ≡ game.now.tree.shape }
-    requires in_range { All (λ i. i < length images.now.placements) placements.now }
-    ensures { (changes : Deltas) → AreNodeChanges game.now.tree changes →
-        IsTrue result ↔
-        Any (λ i. HadCorners changes (placement_at images.now.placements i)) placements.now }
+// The numbers of the corners of each game of a block, in their order.
+fn corners_of<'a>(alloc: Global, block: &'a Block) -> Result<Vec<&'a CornerKeys>, NoMemory>
+    ensures { IfOk result (λ all. AreCornersOf block.now all.items) }
 {
-    let _count = images.len();
-    for placement in placements {
-        if meets_corners(game.corners(), images, *placement as usize) {
-            return true;
-        }
+    let mut all = Vec::with_capacity(alloc, block.len())?;
+    for at in 0..block.len() {
+        all.push(corners_at(block, at))?;
     }
-    false
+    Ok(all)
+}
+
+// The numbers of the corners of the game at this place in a block.
+fn corners_at(block: &Block, at: usize) -> &CornerKeys
+    requires { at < length block.now }
+    ensures { (game : Game) → slice_get block.now at ≡ Some game →
+        AreCornersTold game.tree result.now }
+{
+    let game = block.get(at);
+    let (_changes, _shape) = (game.deltas(), game.tree().shape());
+    game.corners()
 }

@@ -15,7 +15,6 @@ mod block_candidates;
 mod block_occurrences;
 mod game_hits;
 mod game_occurrences;
-mod game_placements;
 mod item;
 mod items;
 mod kept_games;
@@ -27,6 +26,7 @@ mod searches;
 mod shape_list;
 mod shapes;
 mod version_games;
+mod work;
 
 pub use answer::Answer;
 pub use kept_games::kept;
@@ -34,5 +34,5 @@ pub use laws::{
     a_game_with_a_hit_is_kept, games_have_one_count_of_kept, games_have_one_count_of_kept_nodes,
     games_have_one_list_of_hits, hits_of_two_parts_are_those_of_each,
 };
-pub use searches::{search, search_from, search_segment};
+pub use searches::{search, search_from, search_if_little, search_segment};
 pub use version_games::{find_game, game_count};

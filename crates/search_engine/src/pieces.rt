@@ -1,12 +1,16 @@
-// A search in pieces, side by side.
-ghost use Rattle.std.specs.Prelude.{◌≡◌, ◌≤◌, ◌<◌, ◌*◌, [], IfOk};
+// A search in the caller's thread as long as little is done, and in pieces, side by side, behind that.
+ghost use Rattle.std.specs.Prelude.{◌≡◌, ◌≤◌, ◌<◌, [], IfOk, IfSome, length};
 ghost use Rattle.search_engine.specs.Hits.{AreHits};
 ghost use Rattle.search_engine.specs.Items.{AreNumberedFrom, games_of_items};
-ghost use Rattle.search_engine.specs.Searching.{AreCovered, AreItemHitsAdded};
+ghost use Rattle.search_engine.specs.Searching.{
+  AreCovered,
+  AreFirstHitsAdded,
+  AreItemHitsAdded,
+};
 
 use crate::item::Item;
 use crate::matchers::Matchers;
-use crate::search_items::add_items_hits;
+use crate::search_items::{add_first_hits, add_items_hits};
 use capture_board::Steps;
 use info_filter::Filter;
 use kb_geometry::{NoMemory, joined};
@@ -21,19 +25,23 @@ use std::thread::Threads;
 // The most pieces of a search.
 const MAX_PIECES: usize = 8;
 
-// A version of at most so many games is searched in one piece, one of at most twice as many in two,
-// and so on.
-const GAMES_OF_A_PIECE: usize = 128;
+// The hits of the first blocks of a search.
+#[derive(Debug, Drop)]
+struct FirstHits {
+    hits: Vec<Hit>,
+    // How many blocks these are.
+    blocks: usize,
+}
 
-// The hits of the games of blocks that a filter accepts. The games are numbered from 0. Where they
-// are few, no thread is started.
+// The hits of the games of blocks that a filter accepts. The games are numbered from 0. Blocks are
+// searched in the caller's thread until much is done; those that are left then are searched in pieces,
+// side by side. So a search that does little starts no thread, however many games there are.
 pub(crate) fn hits_of<R: Threads + Sync>(
     rt: &R,
     alloc: Global,
     matchers: &Matchers,
     filter: &Filter,
     items: &[Item],
-    games: usize,
 ) -> Result<Vec<Hit>, NoMemory>
     requires numbered { AreNumberedFrom 0 items.now }
     requires covered { AreCovered matchers.now.query matchers.now.shapes
@@ -41,27 +49,113 @@ pub(crate) fn hits_of<R: Threads + Sync>(
     ensures { IfOk result (λ hits. AreHits matchers.now.query filter.now (games_of_items items.now)
         hits.items) }
 {
-    let size = piece_size(items.len(), games);
-    if items.len() <= size {
-        return piece_hits(alloc, matchers, filter, items);
+    let first = first_hits(alloc, matchers, filter, items)?;
+    let left = &items[first.blocks..];
+    if left.is_empty() {
+        return Ok(first.hits);
     }
-    let pieces = thread::map_chunks(
+    let size = piece_size(left.len(), pieces_for(rt, first.blocks, left.len()));
+    hits_behind(rt, alloc, matchers, filter, left, size, first.hits)
+}
+
+// The same where little is done, so that all blocks are searched in the caller's thread; else none.
+pub(crate) fn little_hits(
+    alloc: Global,
+    matchers: &Matchers,
+    filter: &Filter,
+    items: &[Item],
+) -> Result<Option<Vec<Hit>>, NoMemory>
+    requires numbered { AreNumberedFrom 0 items.now }
+    requires covered { AreCovered matchers.now.query matchers.now.shapes
+        (games_of_items items.now) }
+    ensures { IfOk result (λ found. IfSome found (λ hits.
+        AreHits matchers.now.query filter.now (games_of_items items.now) hits.items)) }
+{
+    let first = first_hits(alloc, matchers, filter, items)?;
+    if first.blocks < items.len() {
+        return Ok(None);
+    }
+    Ok(Some(first.hits))
+}
+
+// In how many pieces blocks that are left are searched, where so many others were: each has about as
+// many blocks as those, and there are no more pieces than processors.
+fn pieces_for<R: Threads>(rt: &R, done: usize, left: usize) -> usize
+    ensures { result ≤ 8 }
+{
+    let processors = match thread::available_parallelism(rt) {
+        Ok(count) => count.get(),
+        Err(_) => 1,
+    };
+    min(min(left.div_ceil(max(1, done)), processors), MAX_PIECES)
+}
+
+// How many blocks a piece has, of so many in at most so many pieces.
+fn piece_size(items: usize, pieces: usize) -> usize
+    ensures { 0 < result }
+{
+    max(1, items.div_ceil(max(1, pieces)))
+}
+
+// Adds the hits of the games of blocks to those of blocks before them. Pieces of so many blocks are
+// searched side by side.
+fn hits_behind<R: Threads + Sync>(
+    rt: &R,
+    alloc: Global,
+    matchers: &Matchers,
+    filter: &Filter,
+    items: &[Item],
+    size: usize,
+    before: Vec<Hit>,
+) -> Result<Vec<Hit>, NoMemory>
+    requires { 0 < size }
+    ensures { IfOk result (λ hits. AreItemHitsAdded matchers.now.query filter.now
+        matchers.now.shapes items.now before.items hits.items) }
+{
+    let mut pieces = thread::map_chunks(
         rt,
         alloc,
         items,
         size,
         &|_, chunk| { piece_hits(alloc, matchers, filter, chunk) },
     )?;
+    pieces.insert(0, Ok(before))?;
     joined(alloc, pieces)
 }
 
-// How many blocks a piece has, for a search over so many blocks and games.
-pub(crate) fn piece_size(items: usize, games: usize) -> usize
-    ensures some { 0 < result }
-    ensures few_pieces { items ≤ 8 * result }
+// The hits of the games of the first blocks. Nobody asks for the steps.
+fn first_hits(
+    alloc: Global,
+    matchers: &Matchers,
+    filter: &Filter,
+    items: &[Item],
+) -> Result<FirstHits, NoMemory>
+    ensures most { IfOk result (λ first. first.blocks ≤ length items.now) }
+    ensures hits { IfOk result (λ first. AreFirstHitsAdded matchers.now.query filter.now
+        matchers.now.shapes items.now first.blocks [] first.hits.items) }
 {
-    let pieces = max(1, min(games.div_ceil(GAMES_OF_A_PIECE), MAX_PIECES));
-    max(1, items.div_ceil(pieces))
+    counted_first_hits::<Brand>(alloc, matchers, filter, items, Blank::new(1))
+}
+
+// The same, with steps that are counted in a ledger of their own.
+fn counted_first_hits<L: Ledger>(
+    alloc: Global,
+    matchers: &Matchers,
+    filter: &Filter,
+    items: &[Item],
+    blank: Blank,
+) -> Result<FirstHits, NoMemory>
+    requires name { blank.name ≡ L.name }
+    requires parts { blank.parts ≡ L.parts }
+    requires some { 0 < blank.parts }
+    ensures most { IfOk result (λ first. first.blocks ≤ length items.now) }
+    ensures hits { IfOk result (λ first. AreFirstHitsAdded matchers.now.query filter.now
+        matchers.now.shapes items.now first.blocks [] first.hits.items) }
+{
+    let mut steps = Steps::<L>::new(blank);
+    let mut hits = Vec::new(alloc);
+    let blocks = add_first_hits(alloc, matchers, filter, items, &mut hits, &mut steps)?;
+    Ok(FirstHits { hits, blocks })
 }
 
 // The hits of the games of some blocks. Nobody asks for the steps.

@@ -10,6 +10,7 @@ ghost use Rattle.std.specs.Prelude.{
   [],
   ℕ,
   Contains,
+  IfOk,
   OnOk,
   Some,
   length,
@@ -33,6 +34,7 @@ ghost use Rattle.search_engine.specs.Hits.{AreGameHits, AreHitsFrom};
 ghost use Rattle.search_engine.specs.Items.{games_of_item, games_of_items};
 ghost use Rattle.search_engine.specs.Searching.{
   AreCovered,
+  AreFirstHitsAdded,
   AreHitsAdded,
   AreItemHitsAdded,
   IsCovered,
@@ -40,29 +42,19 @@ ghost use Rattle.search_engine.specs.Searching.{
 ghost use Rattle.search_engine.specs.StepBounds.{AreStepsIn, AreVisited};
 
 use crate::accepted::accepted_games;
-use crate::block_occurrences::gather;
+use crate::block_occurrences::{Room, gather, is_much_in};
 use crate::game_hits::add_hits_in;
 use crate::game_occurrences::GameOccurrences;
 use crate::item::Item;
 use crate::matchers::Matchers;
-use candidate_sieve::Candidate;
 use capture_board::Steps;
 use info_filter::Filter;
 use kb_geometry::NoMemory;
 use pattern_images::Hit;
-use run_matcher::{Begun, Buffers};
+use run_matcher::Begun;
 use segment_store::FinishedGame;
 use std::alloc::Global;
 use std::sync::ledger::Ledger;
-
-// What a piece of a search works with, kept from block to block.
-#[derive(Debug, Drop)]
-struct Room {
-    words: Vec<u64>,
-    candidates: Vec<Candidate>,
-    buffers: Buffers,
-    gathered: GameOccurrences,
-}
 
 // Adds the hits of the games of blocks that a filter accepts.
 pub(crate) fn add_items_hits<L: Ledger>(
@@ -78,16 +70,75 @@ pub(crate) fn add_items_hits<L: Ledger>(
     ensures visited { OnOk result (AreVisited hits.old.items hits.new.items steps.old steps.new) }
     ensures steps { AreStepsIn matchers.now.query (games_of_items items.now) steps.old steps.new }
 {
-    let mut room = Room {
-        words: Vec::new(alloc),
-        candidates: Vec::new(alloc),
-        buffers: Buffers::new(alloc),
-        gathered: GameOccurrences::new(alloc)?,
-    };
+    let mut room = Room::new(alloc);
+    let mut gathered = GameOccurrences::new(alloc)?;
     for item in items {
-        add_block(alloc, matchers, filter, item, &mut room, hits, steps)?;
+        add_block(
+            alloc,
+            matchers,
+            filter,
+            item,
+            &mut room,
+            &mut gathered,
+            hits,
+            steps,
+        )?;
     }
     Ok(())
+}
+
+// Adds the hits of the games of the first blocks that a filter accepts, and tells how many blocks
+// these are: all, or as many as come before so much is done that threads may be worth their start.
+// Where the first block alone is so much, it is none.
+pub(crate) fn add_first_hits<L: Ledger>(
+    alloc: Global,
+    matchers: &Matchers,
+    filter: &Filter,
+    items: &[Item],
+    hits: &mut Vec<Hit>,
+    steps: &mut Steps<L>,
+) -> Result<usize, NoMemory>
+    ensures most { IfOk result (λ done. done ≤ length items.now) }
+    ensures hits { IfOk result (λ done. AreFirstHitsAdded matchers.now.query filter.now
+        matchers.now.shapes items.now done hits.old.items hits.new.items) }
+{
+    let mut room = Room::new(alloc);
+    if is_much_ahead(matchers, filter, items, &mut room)? {
+        return Ok(0);
+    }
+    let mut gathered = GameOccurrences::new(alloc)?;
+    let mut done = 0;
+    for item in items {
+        if room.work.is_much(hits.len()) {
+            return Ok(done);
+        }
+        add_block(
+            alloc,
+            matchers,
+            filter,
+            item,
+            &mut room,
+            &mut gathered,
+            hits,
+            steps,
+        )?;
+        done += 1;
+    }
+    Ok(done)
+}
+
+// Whether the first of several blocks alone is so much that threads may be worth their start.
+fn is_much_ahead(
+    matchers: &Matchers,
+    filter: &Filter,
+    items: &[Item],
+    room: &mut Room,
+) -> Result<bool, NoMemory> {
+    let [item, _, ..] = items else {
+        return Ok(false);
+    };
+    let accepted = accepted_games(filter, item.block, item.skip);
+    is_much_in(matchers, item.block, accepted, room)
 }
 
 // Adds the hits of the games of a block that aren't left out. Where the filter accepts none of them,
@@ -98,6 +149,7 @@ fn add_block<L: Ledger>(
     filter: &Filter,
     item: &Item,
     room: &mut Room,
+    gathered: &mut GameOccurrences,
     hits: &mut Vec<Hit>,
     steps: &mut Steps<L>,
 ) -> Result<(), NoMemory>
@@ -108,19 +160,12 @@ fn add_block<L: Ledger>(
     ensures visited { OnOk result (AreVisited hits.old.items hits.new.items steps.old steps.new) }
     ensures steps { AreStepsIn matchers.now.query (games_of_item item.now) steps.old steps.new }
 {
+    room.work.add_games(item.block.len());
     let accepted = accepted_games(filter, item.block, item.skip);
     if accepted == 0 {
         return Ok(());
     }
-    let Room {
-        words,
-        candidates,
-        buffers,
-        gathered,
-    } = room;
-    gather(
-        matchers, item.block, accepted, words, candidates, buffers, gathered,
-    )?;
+    gather(matchers, item.block, accepted, room, gathered)?;
     add_found(alloc, matchers, filter, item, gathered, hits, steps)
 }
 

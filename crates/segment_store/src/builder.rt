@@ -1,6 +1,6 @@
 // A segment that is being built.
 ghost use Rattle.std.specs.Prelude.{◌≡◌, ◌<◌, ◌≤◌, ◌++◌, ◌∷◌, [], length, IfOk, MatchResult};
-ghost use Rattle.std.specs.Arc.{arc_str_bytes};
+ghost use Rattle.std.specs.Arc.{arc_str_bytes, arc_value};
 ghost use Rattle.node_position.specs.Games.{AreNodeChanges};
 
 use crate::finished::FinishedGame;
@@ -99,6 +99,17 @@ impl SegmentBuilder {
             (λ _. self.new ≡ self.old) }
     {
         let game = Arc::new(alloc, game)?;
+        self.add_shared(game)
+    }
+
+    /// Adds a game that is shared. There must be fewer than 400,000 games yet. After `NoMemory` all is
+    /// as before, and this share of the game is gone.
+    pub fn add_shared(&mut self, game: Arc<FinishedGame>) -> Result<(), NoMemory>
+        requires { length self.old < 400000 }
+        ensures { MatchResult result
+            (λ _. self.new ≡ self.old ++ (arc_value game) ∷ [])
+            (λ _. self.new ≡ self.old) }
+    {
         self.games.push(game)?;
         Ok(())
     }

@@ -5,6 +5,7 @@ mod OutsideLemmas
 mod ReadTo
 mod ReadingLemmas
 mod Shapes
+mod ShortNodes
 mod StepLemmas
 pub mod BeforeLaws
 pub mod EndFaults

@@ -1,19 +1,22 @@
 -- For the reader's private functions: bytes that leave a reader where it stands, and how far it has
 -- read.
-use Rattle.std.specs.Prelude.{◌≡◌, ◌≢◌, ℕ, ◌<◌, ◌≤◌, List, [], length, take, slice_index, Some, None, false}
+use Rattle.std.specs.Prelude.{◌≡◌, ◌≢◌, ℕ, ◌+◌, ◌<◌, ◌≤◌, List, [], length, take, slice_index, Some, None, false}
+use Rattle.sgf_reader.specs.declared.collection.Pair.{Pair}
+use Rattle.sgf_reader.specs.declared.collection.Span.{Span}
 use Rattle.sgf_reader.specs.declared.fault.FaultKind.TheVariants as kind
 use Rattle.sgf_reader.specs.declared.fault.ReadError.{ReadError}
 use Rattle.sgf_reader.specs.declared.fault.ReadError.TheVariants.{Fault}
 use Rattle.sgf_reader.specs.declared.fault.SgfFault.{SgfFault}
-use Rattle.sgf_reader.specs.Bytes.{backslash, round_open, space, square_close}
+use Rattle.sgf_reader.specs.Bytes.{backslash, round_open, space, square_close, square_open}
 use Rattle.sgf_reader.specs.Bytes.{semicolon as node_start}
+use Rattle.sgf_reader.specs.Grammar.{IsUpper}
 use Rattle.sgf_reader.specs.Limits.{most_bytes, most_games}
 use Rattle.sgf_reader.specs.declared.place.Phase as phases
 use Rattle.sgf_reader.specs.declared.place.Phase.TheVariants as at
 use Rattle.sgf_reader.specs.declared.place.Place as places
 use Rattle.sgf_reader.specs.declared.place.Place.TheVariants as stands
 use Rattle.sgf_reader.specs.Scan.{Scan, scan, at_start}
-use Rattle.sgf_reader.specs.Reading.{View, Shows, IsWithinLimits, Fails}
+use Rattle.sgf_reader.specs.Reading.{View, Shows, IsWithinLimits, Fails, with_raw_node, with_raw_pair}
 
 -- no byte of a value that ends it or hides the next one
 abbrev pub IsPlain : ℕ → Type 0
@@ -81,3 +84,31 @@ pub data IsPastEnd (v : View) (now : places.Place) (text : List ℕ) (end : ℕ)
 -- nothing was read so far
 abbrev pub nothing : View
 nothing = record { games = []; nodes = []; is_reading = false; parents = []; last = None }
+
+-- A node of one upper-case letter and one value begins here, behind a value, and its value ends there.
+pub record IsShortNode (text : List ℕ) (from end : ℕ) (now : places.Place) (to : ℕ) : Type 0 where
+  pub behind_value : (name : Span) × (now ≡ stands.Within (at.AfterValue name))
+  pub begins : slice_index text from ≡ node_start
+  pub letter : IsUpper (slice_index text (from + 1))
+  pub opens : slice_index text (from + 2) ≡ square_open
+  pub plain : EachFrom text (from + 3) to IsPlain
+  pub closes : slice_index text to ≡ square_close
+  pub order : from + 3 ≤ to
+  pub within : to < end
+
+-- the pair of a short node that begins here and whose value ends there
+abbrev pub pair_of_short : ℕ → ℕ → Pair
+pair_of_short from to = record {
+  name = record { from = from + 1; to = from + 2 };
+  value = record { from = from + 3; to = to };
+}
+
+-- where a reader stands behind a short node that begins here
+abbrev pub place_behind : ℕ → places.Place
+place_behind from = stands.Within (at.AfterValue (record { from = from + 1; to = from + 2 }))
+
+-- what was read, with a short node more
+abbrev pub with_short_node : View → ℕ → ℕ → View
+with_short_node view from to =
+    let begun : View = with_raw_node view in
+    record begun { nodes = with_raw_pair begun.nodes (pair_of_short from to) }

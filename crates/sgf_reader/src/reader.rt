@@ -1,18 +1,25 @@
 // Reading of a text.
-ghost use Rattle.std.specs.Prelude.{◌≡◌, ◌≤◌, length, IfOk, Err};
+ghost use Rattle.std.specs.Prelude.{◌≡◌, ◌+◌, ◌<◌, ◌≤◌, ◌^◌, length, IfOk, Err};
 ghost use Rattle.sgf_reader.specs.declared.fault.ReadError.TheVariants.{Fault};
 ghost use Rattle.sgf_reader.specs.declared.fault.SgfFault.{SgfFault};
 ghost use Rattle.sgf_reader.specs.declared.fault.FaultKind.TheVariants as kind;
 ghost use Rattle.sgf_reader.specs.Faults.{IsRead, IsFirstFault};
-ghost use Rattle.sgf_reader.specs.Limits.{most_bytes};
-ghost use Rattle.sgf_reader.specs.Stays.{HasReadTo, FailsIn, IsPastEnd, nothing};
+ghost use Rattle.sgf_reader.specs.Limits.{most_bytes, most_nodes};
+ghost use Rattle.sgf_reader.specs.Stays.{
+  HasReadTo,
+  FailsIn,
+  IsPastEnd,
+  nothing,
+  place_behind,
+  with_short_node,
+};
 
 use crate::limits::{MAX_FILE, MAX_GAMES};
-use crate::place::Place;
+use crate::place::{Phase, Place};
 use crate::reading::{Reading, fault};
-use crate::stays::{is_node_next, next_from};
+use crate::stays::{is_node_next, next_from, short_node};
 use crate::step::step;
-use crate::{Collection, FaultKind, FlatCollection, ReadError};
+use crate::{Collection, FaultKind, FlatCollection, Pair, ReadError, Span};
 use std::alloc::Global;
 
 // Reads the first bytes, so many. The answer is where the reader then stands.
@@ -27,12 +34,35 @@ fn read_bytes(reading: &mut Reading, text: &[u8], end: usize) -> Result<Place, R
     let mut at = 0;
     while at < end {
         at = next_from(text, at, end, place);
-        if at < end {
+        if let Some(to) = short_node(text, at, end, place) {
+            place = read_node(reading, at as u32, to as u32)?;
+            at = to + 1;
+        } else if at < end {
             place = step(reading, place, at as u32, text[at])?;
             at += 1;
         }
     }
     Ok(place)
+}
+
+// Reads a node of a `;`, one letter and a value: it begins at the first offset, and its value ends at
+// the second. The answer is where the reader then stands.
+fn read_node(reading: &mut Reading, at: u32, to: u32) -> Result<Place, ReadError>
+    requires { (at + 3 ≤ to) × (to < 2 ^ 24) }
+    ensures ok { IfOk result (λ place. (place ≡ place_behind at)
+        × (reading.new ≡ with_short_node reading.old at to)
+        × (length reading.old.nodes < most_nodes)) }
+    ensures fault { (f : SgfFault) → result ≡ Err (Fault f) →
+        (f ≡ record { kind = kind.TooManyNodes; at = at }) × (most_nodes ≤ length reading.old.nodes) }
+{
+    reading.begin_node(at)?;
+    let name = Span {
+        from: at + 1,
+        to: at + 2,
+    };
+    let value = Span { from: at + 3, to };
+    reading.add_value(Pair { name, value })?;
+    Ok(Place::Within(Phase::AfterValue(name)))
 }
 
 // The fault of a text that goes on at this offset, past its greatest length. Of two that are
@@ -69,7 +99,7 @@ pub fn read_flat(alloc: Global, text: &[u8]) -> Result<FlatCollection, ReadError
     ensures fault { (f : SgfFault) → result ≡ Err (Fault f) → IsFirstFault text.now f.kind f.at }
 {
     let end = text.len().min(MAX_FILE as usize);
-    let mut reading = Reading::new(alloc);
+    let mut reading = Reading::for_text(alloc, end)?;
     let place = read_bytes(&mut reading, text, end)?;
     if end < text.len() {
         return Err(fault_past_end(&reading, place, text, end));

@@ -19,6 +19,7 @@ ghost use Rattle.sgf_reader.specs.declared.fault.ReadError.TheVariants.{Fault};
 ghost use Rattle.sgf_reader.specs.declared.fault.SgfFault.{SgfFault};
 ghost use Rattle.sgf_reader.specs.declared.fault.FaultKind.TheVariants as kind;
 ghost use Rattle.sgf_reader.specs.Limits.{most_games, most_nodes, most_open};
+ghost use Rattle.sgf_reader.specs.Stays.{nothing};
 ghost use Rattle.sgf_reader.specs.Reading.{
   with_raw_pair,
   with_raw_node,
@@ -35,6 +36,12 @@ use crate::place::{Phase, Place};
 use crate::{FaultKind, FlatCollection, Pair, ReadError, SgfFault};
 use std::alloc::Global;
 use std::marker::Model;
+
+// The bytes of a node with a move.
+const SHORT_NODE: usize = 6;
+
+// The most nodes for which there is room before any is read.
+const MOST_ROOM: usize = 1024;
 
 // The values and the nodes of all games so far, and where the games end that have ended; of the game
 // that has not, its first node and its open brackets.
@@ -102,6 +109,19 @@ impl Reading {
             parents: Vec::new(alloc),
             last: None,
         }
+    }
+
+    // Nothing so far, of a text with so many bytes. There is room for as many nodes, and values, as a
+    // text of short nodes has.
+    pub(crate) fn for_text(alloc: Global, bytes: usize) -> Result<Self, ReadError>
+        ensures ok { IfOk result (λ reading. reading ≡ nothing) }
+        ensures fault { (f : SgfFault) → result ≡ Err (Fault f) → ⊥ }
+    {
+        let room = (bytes / SHORT_NODE).min(MOST_ROOM);
+        let mut reading = Reading::new(alloc);
+        reading.pairs.reserve(room)?;
+        reading.nodes.reserve(room)?;
+        Ok(reading)
     }
 
     // One value more of the node that is being read.

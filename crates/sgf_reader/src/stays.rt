@@ -1,7 +1,7 @@
 // How far a reader stays where it stands.
-ghost use Rattle.std.specs.Prelude.{◌≢◌, ◌<◌, ◌≤◌, ◌↔◌, IsTrue, length, slice_index};
+ghost use Rattle.std.specs.Prelude.{◌≢◌, ◌<◌, ◌≤◌, ◌↔◌, IfSome, IsTrue, length, slice_index};
 ghost use Rattle.sgf_reader.specs.Bytes.{round_open, space};
-ghost use Rattle.sgf_reader.specs.Stays.{EachFrom, IsPlain, StaysAt, IsNodeNext};
+ghost use Rattle.sgf_reader.specs.Stays.{EachFrom, IsPlain, IsShortNode, StaysAt, IsNodeNext};
 
 use crate::place::{Phase, Place};
 
@@ -74,6 +74,30 @@ pub(crate) fn next_from(text: &[u8], from: usize, end: usize, place: Place) -> u
             Phase::Escaped { name: _, from: _ } => from,
             _ => not_white_from(text, from, end),
         },
+    }
+}
+
+// Where the value of a short node ends that begins here, behind a value: a `;`, one upper-case letter
+// as identifier, and one value without a backslash. Most nodes of games are such.
+pub(crate) fn short_node(text: &[u8], at: usize, end: usize, place: Place) -> Option<usize>
+    requires start { at ≤ end }
+    requires within { end ≤ length text.now }
+    ensures { IfSome result (IsShortNode text.now at end place) }
+{
+    let Place::Within(Phase::AfterValue(_)) = place else {
+        return None;
+    };
+    let [b';', letter, b'[', ..] = &text[at..end] else {
+        return None;
+    };
+    if !letter.is_ascii_uppercase() {
+        return None;
+    }
+    let to = special_from(text, at + 3, end);
+    if to < end && text[to] == b']' {
+        Some(to)
+    } else {
+        None
     }
 }
 

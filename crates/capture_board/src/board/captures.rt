@@ -1,6 +1,20 @@
 // The stones that a move captures, and how stones are taken off.
-ghost use Rattle.std.specs.Prelude.{◌≡◌, ℕ, ◌<◌, ◌≤◌, ◌↔◌, ◌⊎◌, [], length, All, Contains};
-ghost use Rattle.kb_geometry.specs.Board.{point_count};
+ghost use Rattle.std.specs.Prelude.{
+  ◌≡◌,
+  ℕ,
+  ◌<◌,
+  ◌≤◌,
+  ◌↔◌,
+  ◌⊎◌,
+  [],
+  length,
+  All,
+  Contains,
+  IsTrue,
+  Some,
+};
+ghost use Rattle.kb_geometry.specs.Board.{point_count, AreNeighbours};
+ghost use Rattle.kb_geometry.specs.declared.stone.Cell.TheVariants as cell;
 ghost use Rattle.kb_geometry.specs.Capture.{
   cell_at,
   stone_of,
@@ -13,7 +27,6 @@ ghost use Rattle.kb_geometry.specs.Capture.{
 ghost use Rattle.capture_board.specs.ChangedPoints.{NotesChanges};
 ghost use Rattle.capture_board.specs.WholeGroups.{HasWholeGroups};
 
-use super::adjacent::neighbours;
 use super::groups::find_surrounded;
 use super::point_set::PointSet;
 use super::{MoveSets, ROOM};
@@ -40,23 +53,45 @@ pub fn other_side(side: Colour) -> Colour
     }
 }
 
-/// Finds the stones of a side that a stone on this point captures.
-pub fn find_captured(shape: Shape, cells: &[Cell], side: Colour, point: u16, sets: &mut MoveSets)
+/// Finds the stones of a side that a stone between these neighbours captures.
+pub fn find_captured(
+    shape: Shape,
+    cells: &[Cell],
+    side: Colour,
+    around: &[Option<u16>; 4],
+    sets: &mut MoveSets,
+)
     requires whole { length cells.now ≡ point_count shape }
-    requires on_board { point < point_count shape }
+    requires on_board { (q : ℕ) → Contains around.now (Some q) → q < point_count shape }
     requires no_group { sets.old.group ≡ [] }
     requires none_captured { sets.old.captured ≡ [] }
-    ensures captured { (q : ℕ) → Contains sets.new.captured q
-        ↔ IsCaptured shape cells.now side point q }
+    ensures captured { (point : ℕ) → point < point_count shape →
+        ((n : ℕ) → Contains around.now (Some n) ↔ AreNeighbours shape point n) → (q : ℕ) →
+        Contains sets.new.captured q ↔ IsCaptured shape cells.now side point q }
     ensures no_group { sets.new.group ≡ [] }
 {
     let stone = stone_of(side);
-    let around = neighbours(shape, point);
     for next in around {
         if let Some(touching) = next {
-            add_surrounded(shape, cells, touching, stone, sets);
+            add_surrounded(shape, cells, *touching, stone, sets);
         }
     }
+}
+
+/// Whether one of these neighbours of a stone is empty, so that it has a liberty of its own.
+pub fn breathes(cells: &[Cell], around: &[Option<u16>; 4]) -> bool
+    requires { (q : ℕ) → Contains around.now (Some q) → q < length cells.now }
+    ensures { IsTrue result ↔ ((q : ℕ) × Contains around.now (Some q)
+        × (cell_at cells.now q ≡ cell.Empty)) }
+{
+    for next in around {
+        if let Some(q) = next {
+            if cells[usize::from(*q)] == Cell::Empty {
+                return true;
+            }
+        }
+    }
+    false
 }
 
 // Adds the group of a point to the captured stones, if this stone stands there and the group has no

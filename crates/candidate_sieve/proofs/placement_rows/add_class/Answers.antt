@@ -1,34 +1,34 @@
-use Rattle.std.proofs.Common.{◌≡◌, ℕ, ◌<◌, below_more, length, ◌∙◌, subst, arith}
-use Rattle.candidate_sieve.specs.PlacementRows.{HasClass, IsRowGrown}
-use Rattle.candidate_sieve.proofs.CandidateLists.{number-small}
-use Rattle.candidate_sieve.proofs.PlacementLists.{placed-more, placed-skip, rows-grown}
+use Rattle.std.proofs.Common.{◌≡◌, ℕ, ◌∙◌, arith, length, refl, slice_index, subst}
+use Rattle.std.proofs.lemmas.List.{get_or_past}
+use Rattle.candidate_sieve.specs.PlacementRows.{ArePlacedTo, HasClass, IsRowGrown}
+use Rattle.candidate_sieve.proofs.ClassLists.{placed-first, placed-then}
+use Rattle.candidate_sieve.proofs.PlacementLists.{rows-grown}
 use Rattle.candidate_sieve.proofs.placement_rows.add_class.Goals as goal
-use Rattle.candidate_sieve.proofs.placement_rows.add_class.Goals.{then-class_of-class+in_ok-add_to_rows+in_ok-push, else-class_of-class}
 
-pub overflow_cast-i : goal.overflow_cast-i
-overflow_cast-i c =
-    let images = c.args.images.now in
-    omega (arith, number-small images.shape images.placements c.len-i-end.ensures.images.placed c.len-i-end.ensures.images.ordered c.loop-i.i (omega (arith, c.loop-i-test.true, c.len-i-end.ensures.value)) c.loop-i.invariant.labels c.label-label.ensures)
+pub loop-i-init : goal.loop-i-init
+loop-i-init c = record {
+  placed = placed-first c.args.images.now c.args.class c.args.of_class.now c.requires.of_class c.args.numbers.now.items c.requires.placed;
+  rows = c.requires.rows;
+}
+
+pub base-requires : goal.base-requires
+base-requires c =
+    (c.requires.of_class.sound c.loop-i.i-index c.loop-i-test.true).0
 
 pub loop-i-preserved : goal.loop-i-preserved
 loop-i-preserved c =
     let images = c.args.images.now in
-    let within : c.loop-i.i < length images.placements = omega (arith, c.loop-i-test.true, c.len-i-end.ensures.value) in
-    let has : HasClass images c.loop-i.i c.class_of.result = record { in_range = c.class_of.ensures.in_range; cells = c.class_of.ensures.cells } in
-    let labels = below_more _ _ c.loop-i.invariant.labels c.label-label.ensures in
-    elim c.if-class_of-class.branch [
-      | then-class_of-class+in_ok-add_to_rows+in_ok-push w ↦
-          let own : HasClass images c.loop-i.i c.args.class = subst (HasClass images c.loop-i.i) w.if-class_of-class.true has in
-          let start : w.len.result ≡ length c.loop-i.numbers.items = w.len.ensures ∙ c.loop-i.numbers.ok.0 in
-          rw w.numbers-is (rw w.rows-is (rw w.in_ok-push.ensures.items (record {
-            placed = placed-more images c.len-i-end.ensures.images.different c.args.class c.loop-i.i c.loop-i.numbers.items c.loop-i.invariant.placed within own;
-            rows = rows-grown images c.loop-i.numbers.items c.loop-i.rows.items c.loop-i.invariant.rows c.args.class w.base.result c.loop-i.i own w.base.ensures w.add_to_rows.new.rows.items
-                (subst (λ (n : ℕ). IsRowGrown c.args.class w.base.result n c.loop-i.rows.items w.add_to_rows.new.rows.items) start w.in_ok-add_to_rows.ensures);
-            labels = labels;
-          })))
-      | else-class_of-class w ↦ rw w.numbers-is (rw w.rows-is (record {
-        placed = placed-skip images c.len-i-end.ensures.images.different c.args.class c.loop-i.i c.loop-i.numbers.items c.loop-i.invariant.placed c.class_of.result has w.if-class_of-class.false;
-        rows = c.loop-i.invariant.rows;
-        labels = labels;
-      }))
-    ]
+    let list = c.args.of_class.now in
+    let k = c.loop-i.i-index in
+    let i = slice_index list k in
+    let own : HasClass images (slice_index list k) c.args.class = (c.requires.of_class.sound k c.loop-i-test.true).1 in
+    let start : c.len.result ≡ length c.loop-i.numbers.items = c.len.ensures ∙ c.loop-i.numbers.ok.0 in
+    rw c.in_ok-push.ensures.items (record {
+      placed = placed-then images c.args.class list c.requires.of_class c.len-count.ensures.images.different k i c.loop-i.numbers.items c.loop-i-test.true refl c.loop-i.invariant.placed;
+      rows = rows-grown images c.loop-i.numbers.items c.loop-i.rows.items c.loop-i.invariant.rows c.args.class c.base.result i own c.base.ensures c.add_to_rows.new.rows.items
+          (subst (λ (n : ℕ). IsRowGrown c.args.class c.base.result n c.loop-i.rows.items c.add_to_rows.new.rows.items) start c.in_ok-add_to_rows.ensures);
+    })
+
+pub returns-clause-placed : goal.returns-clause-placed
+returns-clause-placed c =
+    subst (λ (n : ℕ). ArePlacedTo c.args.images.now c.args.class n c.loop-i.numbers.items) (get_or_past c.args.of_class.now c.loop-i.i-index (length c.args.images.now.placements) (omega (arith, c.loop-i-test.false))) c.loop-i.invariant.placed

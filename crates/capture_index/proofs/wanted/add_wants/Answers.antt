@@ -9,7 +9,7 @@ use Rattle.pattern_images.specs.ImageList.{grid_at}
 use Rattle.capture_index.specs.declared.stretch.Want.{Want}
 use Rattle.capture_index.specs.StoredWants.{AreParted, ArePartedOn, grid_with}
 use Rattle.capture_index.specs.Wants.{AreWantsOf}
-use Rattle.capture_index.proofs.WantLists.{AreEmptiesFrom-parted, AreParted-start, AreWantsOf-parted, grid_with-same}
+use Rattle.capture_index.proofs.WantLists.{AreEmptiesFrom-parted, AreParted-start, AreStonesTo-parted, AreWantsOf-parted, grid_with-same}
 use Rattle.capture_index.proofs.wanted.add_wants.Goals as goal
 
 pub loop-y-init : goal.loop-y-init
@@ -40,15 +40,22 @@ returns c =
     c.in_ok-extend_from_slice.ensures.items ∙ ap (λ (ws : List Want). c.loop-y.wants.items ++ ws) c.deref.ensures.value ∙ ap (λ (ws : List Want). ws ++ mixed) parted.stones.added ∙ append_assoc c.args.wants.now.items stones mixed in
     let longer : length c.extend_from_slice.new.self.items ≡ length c.args.wants.now.items + (length stones + length mixed) =
     ap length first ∙ length-append c.args.wants.now.items (stones ++ mixed) ∙ ap (λ (n : ℕ). length c.args.wants.now.items + n) (length-append stones mixed) in
-    let from : c.len-empties.result - length c.args.wants.now.items ≡ length stones + length mixed = omega (arith, c.len-empties.ensures, longer) in
+    let stones_longer : length c.loop-y.wants.items ≡ length c.args.wants.now.items + length stones = ap length parted.stones.added ∙ length-append c.args.wants.now.items stones in
+    let to : c.len-mixed.result - c.len-start.result ≡ length stones = omega (arith, c.len-start.ensures, c.len-mixed.ensures, stones_longer) in
+    let from : c.len-empties.result - c.len-start.result ≡ length stones + length mixed = omega (arith, c.len-start.ensures, c.len-empties.ensures, longer) in
     record {
       more = stones ++ (mixed ++ empties);
       added = c.in_ok-extend_from_slice-2.ensures.items ∙ ap (λ (ws : List Want). c.extend_from_slice.new.self.items ++ ws) c.deref-2.ensures.value ∙ ap (λ (ws : List Want). ws ++ empties) first
           ∙ append_assoc c.args.wants.now.items (stones ++ mixed) empties ∙ ap (λ (ws : List Want). c.args.wants.now.items ++ ws) (append_assoc stones mixed empties);
-      behind = omega (arith, c.len-empties.ensures, longer);
+      start = omega (arith, c.len-start.ensures);
+      end = omega (arith, c.len.ensures);
+      behind = omega (arith, c.len-start.ensures, c.len-mixed.ensures, stones_longer);
+      ordered = omega (arith, c.len-mixed.ensures, c.len-empties.ensures, stones_longer, longer);
       wants = record {
+        ordered = omega (arith, from, to);
+        stones = AreStonesTo-parted c.args.images.now.shape grid (c.loop-y.y * cols_of size) all c.args.wants.now.items c.loop-y.wants.items c.loop-y.others parted (c.len-mixed.result - c.len-start.result) to;
         are = subst (λ (g : Grid). AreWantsOf c.args.images.now.shape g (stones ++ (mixed ++ empties))) same (AreWantsOf-parted c.args.images.now.shape grid (c.loop-y.y * cols_of size) all c.args.wants.now.items c.loop-y.wants.items c.loop-y.others parted);
         within = omega (arith, from, length-append stones (mixed ++ empties), length-append mixed empties);
-        empties = AreEmptiesFrom-parted c.args.images.now.shape grid (c.loop-y.y * cols_of size) all c.args.wants.now.items c.loop-y.wants.items c.loop-y.others parted (c.len-empties.result - length c.args.wants.now.items) from;
+        empties = AreEmptiesFrom-parted c.args.images.now.shape grid (c.loop-y.y * cols_of size) all c.args.wants.now.items c.loop-y.wants.items c.loop-y.others parted (c.len-empties.result - c.len-start.result) from;
       };
     }

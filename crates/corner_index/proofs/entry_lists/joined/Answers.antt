@@ -1,35 +1,48 @@
 use Rattle.std.proofs.Common.{◌≡◌, ◌+◌, ◌-◌, ◌<◌, length, get_or, ap, ◌∙◌, arith}
-use Rattle.std.proofs.lemmas.List.{get_or_default}
-use Rattle.corner_index.proofs.JoinedEntries.{IsJoinedTo-end, IsJoinedTo-first, IsJoinedTo-second, IsJoinedTo-start, first_is_next, second_is_next}
+use Rattle.std.proofs.lemmas.List.{get_or_default, length-replicate}
+use Rattle.corner_index.proofs.JoinedEntries.{IsJoinedIn-first, IsJoinedIn-second, IsJoinedIn-start, IsJoinedIn-whole, IsJoinedTo-end, first_is_next, second_is_next}
+use Rattle.corner_index.proofs.entry_lists.joined.Goals.{then-takes_first, else-takes_first}
 use Rattle.corner_index.proofs.entry_lists.joined.Goals as goal
 
-pub loop-i-init : goal.loop-i-init
-loop-i-init c = rw (c.in_ok-all.ensures.keys, c.in_ok-all.ensures.games) (IsJoinedTo-start c.args.a.now.keys.items c.args.a.now.games.items c.args.b.now.keys.items c.args.b.now.games.items c.args.first)
+pub loop-at-init : goal.loop-at-init
+loop-at-init c = IsJoinedIn-start c.args.a.now.keys.items c.args.a.now.games.items c.args.b.now.keys.items c.args.b.now.games.items c.args.first _ c.in_ok-keys.keys.items c.in_ok-games.games.items
+    (ap length (c.in_ok-keys.ensures.items_if_clones_equal (λ y e. e)) ∙ length-replicate _ 0)
+    (ap length (c.in_ok-games.ensures.items_if_clones_equal (λ y e. e)) ∙ length-replicate _ 0)
 
-pub loop-i-preserved-then-takes_first : goal.loop-i-preserved-then-takes_first
-loop-i-preserved-then-takes_first c =
-    let (some, least) = first_is_next c.args.a.now.keys.items c.args.b.now.keys.items c.deref.result.now c.deref-in-loop-i.result.now c.loop-i.i c.loop-i.j c.takes_first.result c.deref.ensures.value c.deref-in-loop-i.ensures.value c.takes_first.ensures c.if-takes_first.true in
-    let with_game : c.loop-i.i < length c.args.a.now.games.items = omega (arith, some, c.requires.ordered_a.as_many) in
-    rw (c.in_ok-push.ensures.keys, c.in_ok-push.ensures.games)
-    (IsJoinedTo-first c.args.a.now.keys.items c.args.a.now.games.items c.args.b.now.keys.items c.args.b.now.games.items c.args.first c.requires.ordered_a c.requires.ordered_b c.requires.before c.loop-i.i c.loop-i.j c.loop-i.all.keys.items c.loop-i.all.games.items c.loop-i.invariant
-    c.index.result.now c.index-then-takes_first.result.now (c.index.ensures ∙ get_or_default c.args.a.now.keys.items c.loop-i.i _ 0 some) (c.index-then-takes_first.ensures ∙ get_or_default c.args.a.now.games.items c.loop-i.i _ 0 with_game) some least)
+pub loop-at-preserved : goal.loop-at-preserved
+loop-at-preserved c =
+    let a_most = c.loop-at.invariant.joined.a_most in
+    let left : c.loop-at.i + c.loop-at.j < length c.args.a.now.keys.items + length c.args.b.now.keys.items = omega (arith, c.loop-at-test.true, c.loop-at.auto.at-end, c.loop-at.invariant.so_many, c.len.ensures, c.len-2.ensures) in
+    elim c.if-takes_first.branch [
+      | then-takes_first w ↦
+          let (some, least) = first_is_next c.args.a.now.keys.items c.args.b.now.keys.items c.deref.result.now c.deref-in-loop-at.result.now c.loop-at.i c.loop-at.j c.takes_first.result c.deref.ensures.value c.deref-in-loop-at.ensures.value c.takes_first.ensures w.if-takes_first.true in
+          let with_game : c.loop-at.i < length c.args.a.now.games.items = omega (arith, some, c.requires.ordered_a.as_many) in
+          rw (w.keys-is, w.games-is, w.i-is, w.j-is)
+          (IsJoinedIn-first c.args.a.now.keys.items c.args.a.now.games.items c.args.b.now.keys.items c.args.b.now.games.items c.args.first c.requires.ordered_a c.requires.ordered_b c.requires.before c.loop-at.i c.loop-at.j c.loop-at.at _ c.loop-at.keys.items c.loop-at.games.items c.loop-at.invariant (omega (arith, c.loop-at-test.true, c.loop-at.auto.at-end))
+          w.index.result.now w.index-then-takes_first.result.now (w.index.ensures ∙ get_or_default c.args.a.now.keys.items c.loop-at.i _ 0 some) (w.index-then-takes_first.ensures ∙ get_or_default c.args.a.now.games.items c.loop-at.i _ 0 with_game) some least)
+      | else-takes_first w ↦
+          let (some, least) = second_is_next c.args.a.now.keys.items c.args.b.now.keys.items c.deref.result.now c.deref-in-loop-at.result.now c.loop-at.i c.loop-at.j c.takes_first.result c.deref.ensures.value c.deref-in-loop-at.ensures.value c.takes_first.ensures w.if-takes_first.false left a_most in
+          let with_game : c.loop-at.j < length c.args.b.now.games.items = omega (arith, some, c.requires.ordered_b.as_many) in
+          rw (w.keys-is, w.games-is, w.i-is, w.j-is)
+          (IsJoinedIn-second c.args.a.now.keys.items c.args.a.now.games.items c.args.b.now.keys.items c.args.b.now.games.items c.args.first c.requires.ordered_a c.requires.ordered_b c.requires.before c.loop-at.i c.loop-at.j c.loop-at.at _ c.loop-at.keys.items c.loop-at.games.items c.loop-at.invariant (omega (arith, c.loop-at-test.true, c.loop-at.auto.at-end))
+          w.index-else-takes_first.result.now (c.args.first + w.index-else-takes_first-2.result.now) (w.index-else-takes_first.ensures ∙ get_or_default c.args.b.now.keys.items c.loop-at.j _ 0 some) (ap (λ n. c.args.first + n) (w.index-else-takes_first-2.ensures ∙ get_or_default c.args.b.now.games.items c.loop-at.j _ 0 with_game)) some least)
+    ]
 
 pub overflow_add-first : goal.overflow_add-first
 overflow_add-first c =
-    let (some, least) = second_is_next c.args.a.now.keys.items c.args.b.now.keys.items c.deref.result.now c.deref-in-loop-i.result.now c.loop-i.i c.loop-i.j c.takes_first.result c.deref.ensures.value c.deref-in-loop-i.ensures.value c.takes_first.ensures c.if-takes_first.false (omega (arith, c.loop-i-test.true, c.len.ensures, c.len-2.ensures)) c.loop-i.invariant.a_most in
-    let with_game : c.loop-i.j < length c.args.b.now.games.items = omega (arith, some, c.requires.ordered_b.as_many) in
-    let small : get_or c.args.b.now.games.items c.loop-i.j 0 < 400000 - c.args.first = c.requires.fits c.loop-i.j with_game in
-    let is : c.index-else-takes_first-2.result.now ≡ get_or c.args.b.now.games.items c.loop-i.j 0 = c.index-else-takes_first-2.ensures ∙ get_or_default c.args.b.now.games.items c.loop-i.j _ 0 with_game in
+    let left : c.loop-at.i + c.loop-at.j < length c.args.a.now.keys.items + length c.args.b.now.keys.items = omega (arith, c.loop-at-test.true, c.loop-at.auto.at-end, c.loop-at.invariant.so_many, c.len.ensures, c.len-2.ensures) in
+    let (some, least) = second_is_next c.args.a.now.keys.items c.args.b.now.keys.items c.deref.result.now c.deref-in-loop-at.result.now c.loop-at.i c.loop-at.j c.takes_first.result c.deref.ensures.value c.deref-in-loop-at.ensures.value c.takes_first.ensures c.if-takes_first.false left c.loop-at.invariant.joined.a_most in
+    let with_game : c.loop-at.j < length c.args.b.now.games.items = omega (arith, some, c.requires.ordered_b.as_many) in
+    let small : get_or c.args.b.now.games.items c.loop-at.j 0 < 400000 - c.args.first = c.requires.fits c.loop-at.j with_game in
+    let is : c.index-else-takes_first-2.result.now ≡ get_or c.args.b.now.games.items c.loop-at.j 0 = c.index-else-takes_first-2.ensures ∙ get_or_default c.args.b.now.games.items c.loop-at.j _ 0 with_game in
     omega (arith, small, is)
-
-pub loop-i-preserved : goal.loop-i-preserved
-loop-i-preserved c =
-    let (some, least) = second_is_next c.args.a.now.keys.items c.args.b.now.keys.items c.deref.result.now c.deref-in-loop-i.result.now c.loop-i.i c.loop-i.j c.takes_first.result c.deref.ensures.value c.deref-in-loop-i.ensures.value c.takes_first.ensures c.if-takes_first.false (omega (arith, c.loop-i-test.true, c.len.ensures, c.len-2.ensures)) c.loop-i.invariant.a_most in
-    let with_game : c.loop-i.j < length c.args.b.now.games.items = omega (arith, some, c.requires.ordered_b.as_many) in
-    rw (c.in_ok-push-2.ensures.keys, c.in_ok-push-2.ensures.games)
-    (IsJoinedTo-second c.args.a.now.keys.items c.args.a.now.games.items c.args.b.now.keys.items c.args.b.now.games.items c.args.first c.requires.ordered_a c.requires.ordered_b c.requires.before c.loop-i.i c.loop-i.j c.loop-i.all.keys.items c.loop-i.all.games.items c.loop-i.invariant
-    c.index-else-takes_first.result.now (c.args.first + c.index-else-takes_first-2.result.now) (c.index-else-takes_first.ensures ∙ get_or_default c.args.b.now.keys.items c.loop-i.j _ 0 some) (ap (λ n. c.args.first + n) (c.index-else-takes_first-2.ensures ∙ get_or_default c.args.b.now.games.items c.loop-i.j _ 0 with_game)) some least)
 
 pub returns-clause-exact : goal.returns-clause-exact
 returns-clause-exact c =
-    IsJoinedTo-end c.args.a.now.keys.items c.args.a.now.games.items c.args.b.now.keys.items c.args.b.now.games.items c.args.first c.loop-i.i c.loop-i.j c.loop-i.all.keys.items c.loop-i.all.games.items c.loop-i.invariant (omega (arith, c.loop-i-test.false, c.len.ensures, c.len-2.ensures))
+    let whole = IsJoinedIn-whole c.args.a.now.keys.items c.args.a.now.games.items c.args.b.now.keys.items c.args.b.now.games.items c.args.first c.loop-at.i c.loop-at.j c.loop-at.at _ c.loop-at.keys.items c.loop-at.games.items c.loop-at.invariant (omega arith) in
+    IsJoinedTo-end c.args.a.now.keys.items c.args.a.now.games.items c.args.b.now.keys.items c.args.b.now.games.items c.args.first c.loop-at.i c.loop-at.j c.loop-at.keys.items c.loop-at.games.items whole (omega (arith, c.len.ensures, c.len-2.ensures))
+
+pub returns-clause-ordered : goal.returns-clause-ordered
+returns-clause-ordered c =
+    let whole = IsJoinedIn-whole c.args.a.now.keys.items c.args.a.now.games.items c.args.b.now.keys.items c.args.b.now.games.items c.args.first c.loop-at.i c.loop-at.j c.loop-at.at _ c.loop-at.keys.items c.loop-at.games.items c.loop-at.invariant (omega arith) in
+    whole.ordered

@@ -1,5 +1,6 @@
+use Rattle.std.proofs.Common.{◌*◌}
 use Rattle.final_index.specs.PlaneWords.{AreNoted}
 use Rattle.final_index.proofs.planes.note.Given as goal
 
-abbrev pub invariant-loop-point : goal.invariant-loop-point
-invariant-loop-point l = AreNoted l.points l.point l.fn.cell l.members l.game l.fn.words l.words
+abbrev pub invariant-loop-part : goal.invariant-loop-part
+invariant-loop-part l = AreNoted l.points (64 * l.part) l.fn.cell l.members l.game l.fn.words l.words

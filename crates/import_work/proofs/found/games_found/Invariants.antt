@@ -1,4 +1,5 @@
-use Rattle.std.proofs.Common.{◌≡◌, ◌≤◌, ◌*◌, length}
+use Rattle.std.proofs.Common.{◌≡◌, ◌≤◌, ◌*◌, length, map}
+use Rattle.std.specs.Arc.{arc_value}
 use Rattle.import_work.specs.Course.{games_from}
 use Rattle.import_work.specs.Outcome.{nodes_of_trees}
 use Rattle.import_work.proofs.found.games_found.Given as goal
@@ -8,5 +9,5 @@ invariant-loop-tree l = record {
   placed : l.place ≡ length l.yielded;
   counted : l.nodes ≡ nodes_of_trees l.yielded;
   few : l.nodes ≤ length l.yielded * 65536;
-  added : l.games.items ≡ games_from l.name 0 l.yielded;
+  added : map arc_value l.games.items ≡ games_from l.name 0 l.yielded;
 }

@@ -1,4 +1,6 @@
 use Rattle.std.proofs.Common.{◌≡◌, ◌∙◌, ◌+◌, ◌<◌, ◌++◌, [], append-nil, ap, sym, arith, inl, inr, length, refl, rules}
+use Rattle.std.specs.Arc.{arc_value}
+use Rattle.std.proofs.lemmas.List.{length-map}
 use Rattle.std.proofs.lemmas.Grind.{common_steps}
 use Rattle.import_work.specs.Outcome.{games_after, nodes_after}
 use Rattle.import_work.proofs.FileLemmas.{length-games_from}
@@ -10,7 +12,7 @@ pub returns-then-all_games-from-clause-judged : goal.returns-then-all_games-from
 returns-then-all_games-from-clause-judged c = λ name bytes trees have own_is nodes_is few.
     let before = c.args.before in
     let small : before.nodes < 4294967296 = first_of (search rules, grind (arith, common_steps)) in
-    let count : length c.args.own.items ≡ length trees = ap length own_is ∙ length-games_from name 0 trees in
+    let count : length c.args.own.items ≡ length trees = sym (length-map c.args.own.items arc_value) ∙ ap length own_is ∙ length-games_from name 0 trees in
     let games : c.from.result + c.len.result ≡ games_after before trees = omega (arith, c.from.ensures, c.len.ensures, count) in
     let nodes : c.saturating_add-all_nodes.result ≡ nodes_after before trees = omega (arith, c.saturating_add-all_nodes.ensures, c.from-2.ensures, nodes_is, few, small) in
     let full = full_is before trees [] (c.from.result + c.len.result) c.saturating_add-all_nodes.result games nodes
@@ -29,7 +31,7 @@ pub returns-clause-judged : goal.returns-clause-judged
 returns-clause-judged c = λ name bytes trees have own_is nodes_is few.
     let before = c.args.before in
     let small : before.nodes < 4294967296 = first_of (search rules, grind (arith, common_steps)) in
-    let count : length c.args.own.items ≡ length trees = ap length own_is ∙ length-games_from name 0 trees in
+    let count : length c.args.own.items ≡ length trees = sym (length-map c.args.own.items arc_value) ∙ ap length own_is ∙ length-games_from name 0 trees in
     let games : c.from.result + c.len.result ≡ games_after before trees = omega (arith, c.from.ensures, c.len.ensures, count) in
     let nodes : c.saturating_add-all_nodes.result ≡ nodes_after before trees = omega (arith, c.saturating_add-all_nodes.ensures, c.from-2.ensures, nodes_is, few, small) in
     let counted : c.len-count.result ≡ length trees = omega (arith, c.len-count.ensures, count) in

@@ -1,12 +1,10 @@
-use Rattle.std.proofs.Common.{◌≤◌, length}
+use Rattle.std.proofs.Common.{[], List}
 use Rattle.import_work.specs.Batches.{line_reports}
-use Rattle.import_work.specs.Judged.{AreFoundFiles, AreJudgedAs}
+use Rattle.import_work.specs.Judged.{AreFoundFiles, AreJudgedAs, files_in}
+use Rattle.import_work.specs.Log.{games_of_segments}
 use Rattle.import_work.specs.Reads.{FileText}
-use Rattle.std.proofs.Common.{List}
 use Rattle.import_work.proofs.judge.judge_all.Given as goal
 
-abbrev pub invariant-loop-file : goal.invariant-loop-file
-invariant-loop-file l = record {
-  judged : (texts : List FileText) → AreFoundFiles texts l.yielded → AreJudgedAs texts l.fn.counts l.counts (line_reports l.fn.lines.items) (line_reports l.lines.items) l.fn.games l.games;
-  counted : length l.games ≤ l.counts.games;
-}
+abbrev pub invariant-loop-piece : goal.invariant-loop-piece
+invariant-loop-piece l =
+    (texts : List FileText) → AreFoundFiles texts (files_in l.yielded) → AreJudgedAs texts l.fn.counts l.counts (line_reports l.fn.lines.items) (line_reports l.lines.items) [] (games_of_segments l.segments.items)

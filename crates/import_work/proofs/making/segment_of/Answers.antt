@@ -1,14 +1,16 @@
-use Rattle.std.proofs.Common.{◌≡◌, ◌∙◌, ◌+◌, ◌++◌, List, ap, arith, length, subst, sym}
-use Rattle.std.proofs.lemmas.Result.{IfOk-weaker}
-use Rattle.node_position.specs.Games.{Game}
-use Rattle.kb_geometry.specs.Pieces.{ArePiecesJoined}
+use Rattle.std.proofs.Common.{◌-◌, ◌∙◌, ap, arith, length}
+use Rattle.import_work.proofs.MadePieces.{length-made_games, made-is, made-more}
 use Rattle.import_work.proofs.making.segment_of.Goals as goal
 
-pub add_all-requires : goal.add_all-requires
-add_all-requires c = omega (arith, c.requires, ap length c.in_ok-own.ensures.joined, ap length c.new-games.ensures)
+pub add_finished-requires : goal.add_finished-requires
+add_finished-requires c =
+    let piece = c.args.piece in
+    let count = ap length c.loop-number.invariant.made ∙ length-made_games piece.start piece.first (c.loop-number.number - piece.first) in
+    omega (arith, count, c.requires.few)
 
-pub returns : goal.returns
-returns c =
-    IfOk-weaker c.finish.result _ _
-    (λ segment is. subst (ArePiecesJoined c.args.made.items) (sym (is ∙ c.in_ok-add_all.ensures ∙ ap (λ (gs : List Game). gs ++ c.in_ok-own.own.items) c.new-games.ensures)) c.in_ok-own.ensures)
-    c.finish.ensures
+pub loop-number-preserved : goal.loop-number-preserved
+loop-number-preserved c = record {
+  begun = omega (arith, c.loop-number.invariant.begun);
+  made = made-more c.args.piece.start c.args.piece.first c.loop-number.number c.loop-number.games _ _ c.loop-number.invariant.begun c.loop-number.invariant.made c.in_ok-add_finished.ensures
+      (c.in_ok-game.ensures ∙ made-is c.args.piece.start c.loop-number.number _ _ (c.in_ok-clone.ensures.cases ∙ c.in_ok-file.ensures.ok) c.in_ok-tree.ensures.value);
+}

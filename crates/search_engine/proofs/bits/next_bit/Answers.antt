@@ -1,5 +1,5 @@
 use Rattle.std.proofs.Common.{arith}
-use Rattle.search_engine.proofs.PlacementLists.{next_bit-found, next_bit-none}
+use Rattle.search_engine.proofs.GameBits.{next_bit-found, next_bit-none}
 use Rattle.search_engine.proofs.bits.next_bit.Goals as goal
 
 pub returns-then-rest-eq0-clause-none : goal.returns-then-rest-eq0-clause-none

@@ -22,8 +22,8 @@ add_all-requires-clause-in_range c =
     let few : length c.args.block.now ≤ 64 = omega (arith, c.len-count.ensures.value, c.len-count.ensures.most) in
     let on_board = subst (λ (s : Shape). ArePlacements query s matcher.images.now.placements) c.shape.ensures c.in-Some.ensures.placements in
     let are = subst (λ (i : ImageList). ArePlacements query planes.shape i.placements) (sym matcher.by_runs) on_board in
-    let exact = only_candidates planes c.args.games matcher.rows.images.now images c.clear.new.self.items c.add_candidates.new.found.items c.deref.result.now (matcher.in_rows ∙ sym matcher.by_runs) c.clear.ensures.items c.deref.ensures.value c.in_ok-add_candidates.ensures.ok in
-    in_list query c.args.block.now few c.args.games planes c.requires images.placements are c.deref.result.now exact
+    let exact = only_candidates planes c.args.games matcher.rows.images.now images c.clear.new.self.items c.add_candidates.new.found.items c.deref-2.result.now (matcher.in_rows ∙ sym matcher.by_runs) c.clear.ensures.items c.deref-2.ensures.value c.in_ok-add_candidates.ensures.ok in
+    in_list query c.args.block.now few c.args.games planes c.requires images.placements are c.deref-2.result.now exact
 
 pub add_all-requires-clause-on_boards : goal.add_all-requires-clause-on_boards
 add_all-requires-clause-on_boards c =
@@ -34,9 +34,9 @@ add_all-requires-clause-on_boards c =
     let few : length c.args.block.now ≤ 64 = omega (arith, c.len-count.ensures.value, c.len-count.ensures.most) in
     let on_board = subst (λ (s : Shape). ArePlacements query s matcher.images.now.placements) c.shape.ensures c.in-Some.ensures.placements in
     let are = subst (λ (i : ImageList). ArePlacements query planes.shape i.placements) (sym matcher.by_runs) on_board in
-    let exact = only_candidates planes c.args.games matcher.rows.images.now images c.clear.new.self.items c.add_candidates.new.found.items c.deref.result.now (matcher.in_rows ∙ sym matcher.by_runs) c.clear.ensures.items c.deref.ensures.value c.in_ok-add_candidates.ensures.ok in
+    let exact = only_candidates planes c.args.games matcher.rows.images.now images c.clear.new.self.items c.add_candidates.new.found.items c.deref-2.result.now (matcher.in_rows ∙ sym matcher.by_runs) c.clear.ensures.items c.deref-2.ensures.value c.in_ok-add_candidates.ensures.ok in
     let shape : images.shape ≡ planes.shape = ap (λ (i : ImageList). i.shape) matcher.by_runs ∙ c.in-Some.ensures.shape ∙ c.shape.ensures in
-    λ d there. subst (λ (s : Shape). AreOnBoards c.args.block.now s d) (sym shape) (on_boards query c.args.block.now few c.args.games planes c.requires images.placements are c.deref.result.now exact d there)
+    λ d there. subst (λ (s : Shape). AreOnBoards c.args.block.now s d) (sym shape) (on_boards query c.args.block.now few c.args.games planes c.requires images.placements are c.deref-2.result.now exact d there)
 
 pub returns-clause-gathered : goal.returns-clause-gathered
 returns-clause-gathered c =
@@ -47,8 +47,8 @@ returns-clause-gathered c =
     let few : length c.args.block.now ≤ 64 = omega (arith, c.len-count.ensures.value, c.len-count.ensures.most) in
     let on_board = subst (λ (s : Shape). ArePlacements query s matcher.images.now.placements) c.shape.ensures c.in-Some.ensures.placements in
     let are = subst (λ (i : ImageList). ArePlacements query planes.shape i.placements) (sym matcher.by_runs) on_board in
-    let exact = only_candidates planes c.args.games matcher.rows.images.now images c.clear.new.self.items c.add_candidates.new.found.items c.deref.result.now (matcher.in_rows ∙ sym matcher.by_runs) c.clear.ensures.items c.deref.ensures.value c.in_ok-add_candidates.ensures.ok in
-    on_shape query c.args.block.now few c.args.games planes c.requires images.placements are c.deref.result.now exact c.args.matchers.now.shapes (subst (Contains c.args.matchers.now.shapes) c.shape.ensures c.in-Some.ensures.among_shapes) c.args.gathered.now c.add_all.new.self c.in_ok-add_all.ensures.gathered
+    let exact = only_candidates planes c.args.games matcher.rows.images.now images c.clear.new.self.items c.add_candidates.new.found.items c.deref-2.result.now (matcher.in_rows ∙ sym matcher.by_runs) c.clear.ensures.items c.deref-2.ensures.value c.in_ok-add_candidates.ensures.ok in
+    on_shape query c.args.block.now few c.args.games planes c.requires images.placements are c.deref-2.result.now exact c.args.matchers.now.shapes (subst (Contains c.args.matchers.now.shapes) c.shape.ensures c.in-Some.ensures.among_shapes) c.args.gathered.now c.add_all.new.self c.in_ok-add_all.ensures.gathered
 
 pub returns-clause-go_on : goal.returns-clause-go_on
 returns-clause-go_on c =

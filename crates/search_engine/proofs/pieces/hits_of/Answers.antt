@@ -1,14 +1,20 @@
-use Rattle.std.proofs.Common.{arith, rules, get_or, subst}
-use Rattle.std.proofs.lemmas.Grind.{common_steps}
+use Rattle.std.proofs.Common.{◌≡◌, ◌-◌, List, ap, arith, drop, length, subst, sym, take}
+use Rattle.std.proofs.lemmas.Bool.{eqb-true}
+use Rattle.std.proofs.lemmas.List.{length-drop, take_all}
 use Rattle.std.proofs.lemmas.Result.{IfOk-weaker}
-use Rattle.search_engine.specs.Searching.{AreAllPieces, IsPiece}
-use Rattle.search_engine.proofs.BlocksSearched.{hits_alone}
-use Rattle.search_engine.proofs.JoinedPieces.{hits_joined}
+use Rattle.search_engine.specs.declared.item.Item.{Item}
+use Rattle.search_engine.specs.Searching.{AreItemHitsAdded}
+use Rattle.search_engine.proofs.BlocksSearched.{hits_behind_first, hits_of_first}
 use Rattle.search_engine.proofs.pieces.hits_of.Goals as goal
 
-pub returns-then-items-size : goal.returns-then-items-size
-returns-then-items-size g c =
-    IfOk-weaker c.piece_hits.result _ _ (λ hits are. hits_alone c.args.matchers.now.query c.args.filter.now c.args.matchers.now.shapes c.args.items.now hits.items 0 are c.requires.numbered c.requires.covered) c.piece_hits.ensures
+pub returns-then-is_empty : goal.returns-then-is_empty
+returns-then-is_empty g c =
+    let first = c.in_ok-first.first in
+    let items = c.args.items.now in
+    let left : take (length items - first.blocks) (drop first.blocks items) ≡ drop first.blocks items = take_all (length items - first.blocks) (drop first.blocks items) (omega (arith, length-drop first.blocks items)) in
+    let none : length (take (length items - first.blocks) (drop first.blocks items)) ≡ 0 = eqb-true _ 0 (sym c.if-is_empty.ensures) in
+    hits_of_first c.args.matchers.now.query c.args.filter.now c.args.matchers.now.shapes items first.blocks 0 first.hits.items
+    (omega (arith, none, ap (λ (is : List Item). length is) left, length-drop first.blocks items)) c.in_ok-first.ensures.hits c.requires.numbered c.requires.covered
 
 pub returns : goal.returns
 returns g c =
@@ -16,12 +22,7 @@ returns g c =
     let filter = c.args.filter.now in
     let shapes = c.args.matchers.now.shapes in
     let items = c.args.items.now in
-    let pieces = c.in_ok-pieces.pieces.items in
-    let size = c.piece_size-size.result in
-    let are : AreAllPieces query filter shapes items size pieces = record {
-      all = first_of (search rules, grind (arith, common_steps));
-      each = λ n d lt.
-          let given = (c.in_ok-pieces.ensures.each n d lt).1 in
-          subst (λ chunk. IsPiece query filter shapes chunk (get_or pieces n d)) given.argument_is.value (let called = given.call in search rules);
-    } in
-    IfOk-weaker c.joined.result _ _ (λ hits joined. hits_joined query filter shapes items size pieces are c.requires.numbered c.requires.covered hits.items joined) c.joined.ensures
+    let first = c.in_ok-first.first in
+    let left : take (length items - first.blocks) (drop first.blocks items) ≡ drop first.blocks items = take_all (length items - first.blocks) (drop first.blocks items) (omega (arith, length-drop first.blocks items)) in
+    IfOk-weaker c.hits_behind.result _ _ (λ hits behind. hits_behind_first query filter shapes items first.blocks 0 first.hits.items hits.items c.in_ok-first.ensures.hits
+    (subst (λ (is : List Item). AreItemHitsAdded query filter shapes is first.hits.items hits.items) left behind) c.requires.numbered c.requires.covered) c.hits_behind.ensures

@@ -5,8 +5,8 @@ use Rattle.search_engine.proofs.StepsTaken.{AreStepsIn-block, AreStepsIn-items, 
 use Rattle.search_engine.proofs.NodesVisited.{AreVisited-none, AreVisited-then}
 use Rattle.search_engine.proofs.search_items.add_items_hits.Goals as goal
 
-pub returns-in_err-new-clause-steps : goal.returns-in_err-new-clause-steps
-returns-in_err-new-clause-steps g c = AreStepsIn-none c.args.matchers.now.query (games_of_items c.args.items.now) c.args.steps.now
+pub returns-in_err-gathered-clause-steps : goal.returns-in_err-gathered-clause-steps
+returns-in_err-gathered-clause-steps g c = AreStepsIn-none c.args.matchers.now.query (games_of_items c.args.items.now) c.args.steps.now
 
 pub loop-item-init : goal.loop-item-init
 loop-item-init g c = record {

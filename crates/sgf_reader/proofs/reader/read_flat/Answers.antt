@@ -13,7 +13,7 @@ use Rattle.sgf_reader.proofs.reader.read_flat.Goals as goal
 pub returns-in_err-place-clause-fault : goal.returns-in_err-place-clause-fault
 returns-in_err-place-clause-fault c = λ f is.
     let e = c.min-end.ensures in
-    IsFirstFault-in _ _ f (omega arith) (omega arith) (c.read_bytes.ensures.fault f (same_error _ _ _ _ c.from_residual.ensures.1 c.in_err-place.was is))
+    IsFirstFault-in _ _ f (omega arith) (omega arith) (c.read_bytes.ensures.fault f (same_error _ _ _ _ c.from_residual-in_err-place.ensures.1 c.in_err-place.was is))
 
 pub returns-then-end-text-clause-fault : goal.returns-then-end-text-clause-fault
 returns-then-end-text-clause-fault c = λ f is.

@@ -1,5 +1,6 @@
-use Rattle.std.proofs.Common.{◌≡◌, ℕ, length, subst, arith}
-use Rattle.candidate_sieve.specs.PlacementRows.{ArePlacedTo}
+use Rattle.std.proofs.Common.{◌≡◌, ◌<◌, ◌∙◌, ℕ, length, subst, sym, arith}
+use Rattle.candidate_sieve.specs.PlacementRows.{AreOfClass, ArePlacedTo}
+use Rattle.candidate_sieve.proofs.ClassLists.{list_at-read}
 use Rattle.candidate_sieve.proofs.PlacementLists.{placed-next, rows-all}
 use Rattle.candidate_sieve.proofs.placement_rows.PlacementRows.of.Goals as goal
 
@@ -8,6 +9,15 @@ loop-class-preserved c = record {
   placed = placed-next c.args.images.now c.loop-class.class c.add_class.new.numbers.items c.in_ok-add_class.ensures.placed;
   rows = c.in_ok-add_class.ensures.rows;
 }
+
+pub add_class-requires-clause-of_class : goal.add_class-requires-clause-of_class
+add_class-requires-clause-of_class c =
+    let images = c.args.images.now in
+    let class = c.loop-class.class in
+    let vecs = c.in_ok-classes.classes.items in
+    let in_range : class < length images.grids = omega (arith, c.loop-class-test.true, c.class_count-class-end.ensures) in
+    let below : class < length vecs = omega (arith, in_range, c.in_ok-classes.ensures.count) in
+    subst (AreOfClass images class (length images.placements)) (sym (list_at-read vecs class c.index.result.now below c.index.ensures) ∙ sym c.deref.ensures.value) (c.in_ok-classes.ensures.each class in_range)
 
 pub invariant_of-result : goal.invariant_of-result
 invariant_of-result c =

@@ -8,8 +8,8 @@ overflow_cast-end c =
     omega (
       arith,
       c.len-end.ensures,
-      c.extend_from_slice.new.self.ok.0,
-      ap length c.in_ok-extend_from_slice.ensures.items,
+      c.append.new.all.ok.0,
+      ap length c.in_ok-append.ensures.ok,
       length-append c.self.inside.changes.items c.args.changes.now,
       count_fits _ _ _ _ _ c.args.parent c.self.view_is c.self.invariant c.requires.room c.requires.parent c.requires.changes,
     )
@@ -22,10 +22,10 @@ pub invariant_of-self-2 : goal.invariant_of-self-2
 invariant_of-self-2 c =
     stored_push _ _ _ _ _ c.args.parent c.self.view_is c.self.invariant c.requires.room c.requires.parent c.requires.changes _ _ c.new-node.result
     (c.in_ok-push.ensures.items ∙ ap (λ ts. ts ++ c.new-node.result ∷ []) c.reserve.ensures.items)
-    c.in_ok-extend_from_slice.ensures.items (c.new-node.ensures.parent ∙ c.unwrap_or.ensures) (c.new-node.ensures.end ∙ c.len-end.ensures ∙ c.extend_from_slice.new.self.ok.0)
+    c.in_ok-append.ensures.ok (c.new-node.ensures.parent ∙ c.unwrap_or.ensures) (c.new-node.ensures.end ∙ c.len-end.ensures ∙ c.append.new.all.ok.0)
 
 pub returns-clause-ok : goal.returns-clause-ok
 returns-clause-ok c =
     shown_push _ _ _ _ _ c.args.parent c.self.view_is c.self.invariant c.requires.room c.requires.parent c.requires.changes _ _ c.new-node.result
     (c.in_ok-push.ensures.items ∙ ap (λ ts. ts ++ c.new-node.result ∷ []) c.reserve.ensures.items)
-    c.in_ok-extend_from_slice.ensures.items (c.new-node.ensures.parent ∙ c.unwrap_or.ensures) (c.new-node.ensures.end ∙ c.len-end.ensures ∙ c.extend_from_slice.new.self.ok.0)
+    c.in_ok-append.ensures.ok (c.new-node.ensures.parent ∙ c.unwrap_or.ensures) (c.new-node.ensures.end ∙ c.len-end.ensures ∙ c.append.new.all.ok.0)

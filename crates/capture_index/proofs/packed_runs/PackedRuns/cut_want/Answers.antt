@@ -7,6 +7,4 @@ cut-requires c = falling-apart c.args.self.now.nodes c.args.found.now.items c.re
 
 pub returns-clause-nodes : goal.returns-clause-nodes
 returns-clause-nodes c =
-    IsCutAt-list c.args.self.now c.args.base c.args.want c.time_of-time.result
-    c.time_of-time.ensures
-    c.list-2.result.now c.list.result c.args.found.now.items c.cut.new.found.items (c.is_many.ensures.0 c.if-not-is_many.false) c.list.ensures c.list-2.ensures (λ n lt. c.in_ok-cut.ensures.nodes n)
+    IsCutAt-list c.args.self.now c.args.base c.args.want c.in-Some.runs.now c.in-Some.ensures.some.1 c.in-Some.ensures.some.0 c.args.found.now.items c.cut.new.found.items c.in_ok-cut.ensures.nodes

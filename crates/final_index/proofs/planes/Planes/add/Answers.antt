@@ -1,4 +1,4 @@
-use Rattle.std.proofs.Common.{Some, length, sym, ap, ◌∙◌}
+use Rattle.std.proofs.Common.{◌≡◌, Some, length, sym, ap, ◌∙◌, arith}
 use Rattle.std.proofs.lemmas.List.{with_items_is}
 use Rattle.kb_geometry.specs.Board.{point_count}
 use Rattle.final_index.specs.Planes.{PlaneGames}
@@ -8,6 +8,12 @@ use Rattle.final_index.proofs.planes.Planes.add.Goals as goal
 pub note_sets-requires-clause-few : goal.note_sets-requires-clause-few
 note_sets-requires-clause-few c =
     count-few c.self.inside.shape (point_count c.self.inside.shape) c.self.inside.present c.self.inside.words.items c.self.inside.count c.args.self.now c.self.view_is c.requires.few
+
+pub note_sets-requires-clause-on_board : goal.note_sets-requires-clause-on_board
+note_sets-requires-clause-on_board c = λ stone p is_in.
+    let on = c.requires.on_board stone p is_in in
+    let same : point_count c.self.inside.shape ≡ point_count c.args.self.now.shape = ap (λ (planes : PlaneGames). point_count planes.shape) c.self.view_is in
+    omega (arith, on, same, c.count-points.ensures.value)
 
 pub overflow_shl-self : goal.overflow_shl-self
 overflow_shl-self c =

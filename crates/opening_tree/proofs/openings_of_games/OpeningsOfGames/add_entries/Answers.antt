@@ -1,4 +1,4 @@
-use Rattle.std.proofs.Common.{◌≡◌, List, arith, refl, subst, sym}
+use Rattle.std.proofs.Common.{◌≡◌, ◌∙◌, List, arith, refl, subst, sym}
 use Rattle.game_tree.specs.Position.{ArePositions}
 use Rattle.game_tree.specs.Tree as trees
 use Rattle.node_position.proofs.EachTree.{positions-found}
@@ -12,6 +12,8 @@ loop-node-init c = record {
   stands = c.restart.ensures.stands;
   here = c.restart.ensures.here;
   asked = refl;
+  board = c.restart.ensures.shape ∙ c.requires.board;
+  width = refl;
   gone = λ positions are es ns ready.
       subst (λ (fs : List Frame). IsGoneTo c.args.self.now.asked.depth c.args.number c.tree-tree.result.now positions 0 es ns c.args.self.now.openings.entries fs) (sym c.clear.ensures.items)
       (gone-start c.args.self.now.asked.depth c.args.number c.tree-tree.result.now positions es ns c.args.self.now.openings.entries ready);

@@ -13,6 +13,8 @@ invariant-loop-node l = record {
   stands : StandsTurned l.deltas l.self.walker;
   here : l.self.walker.here ≡ node_before l.node;
   asked : l.self.asked ≡ l.fn.self.asked;
+  board : l.self.walker.shape ≡ l.fn.game.tree.shape;
+  width : l.self.openings.width ≡ l.fn.self.openings.width;
   gone : (positions : List Position) → ArePositions l.tree positions → (es : List Entry) (ns : List NextAt) →
       IsReadyForGame l.tree.shape es ns l.fn.self.openings.entries →
       IsGoneTo l.fn.self.asked.depth l.number l.tree positions l.node es ns l.self.openings.entries l.self.frames.items;

@@ -2,7 +2,10 @@ use Rattle.std.proofs.Common.{◌∙◌, ◌++◌, ◌∷◌, [], ap, length, re
 use Rattle.std.proofs.lemmas.Bool.{false≢true}
 use Rattle.game_tree.specs.Tree.{IsTree, Tree}
 use Rattle.node_position.proofs.EachTree.{positions-found}
+use Rattle.kb_geometry.specs.declared.shape.Shape.{Shape}
+use Rattle.kb_geometry.specs.Board.{point_count}
 use Rattle.opening_tree.specs.declared.openings.Asked.{Asked}
+use Rattle.opening_tree.specs.Packing.{words_for}
 use Rattle.opening_tree.specs.StoredGames.{AreOpeningsOf}
 use Rattle.opening_tree.specs.Turned.{TurnedWalk}
 use Rattle.opening_tree.proofs.GoneSteps.{game-added, nexts-carried, nexts-start}
@@ -11,6 +14,9 @@ use Rattle.opening_tree.proofs.openings_of_games.OpeningsOfGames.add_game.Goals 
 
 pub add_entries-requires-clause-board : goal.add_entries-requires-clause-board
 add_entries-requires-clause-board c = c.requires.board ∙ sym (c.is_on.ensures.0 c.if-not-is_on.false)
+
+pub add_entries-requires-clause-width : goal.add_entries-requires-clause-width
+add_entries-requires-clause-width c = c.requires.width ∙ sym (ap (λ (s : Shape). words_for (point_count s)) (c.is_on.ensures.0 c.if-not-is_on.false))
 
 pub add_entries-requires-clause-so_far : goal.add_entries-requires-clause-so_far
 add_entries-requires-clause-so_far c =

@@ -40,4 +40,4 @@ returns-clause-gone c positions are es ns to =
     nexts-at c.args.self.now.asked.depth c.args.game.now.tree positions c.args.n es ns c.args.self.now.openings.entries c.args.self.now.frames.items to is_tree are c.requires.in_range
     c.in-Some.next.parent c.in-Some.next.played next c.index-frame.result.now c.index-frame.ensures c.place_in_frame-point.result
     (subst (λ (s : Shape). (position canonical : Position) → AreBringing s position canonical c.index-frame.result.now.symmetries → IsPlaceInFrame s position canonical c.in-Some.next.played.point c.place_in_frame-point.result) shape c.place_in_frame-point.ensures)
-    c.outcome.result c.outcome.ensures c.add_next.new.openings.entries c.in_ok-add_next.ensures
+    c.outcome.result c.outcome.ensures c.add_next.new.openings.entries c.in_ok-add_next.ensures.added

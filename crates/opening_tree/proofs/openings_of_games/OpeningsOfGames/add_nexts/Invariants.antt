@@ -9,6 +9,7 @@ use Rattle.opening_tree.proofs.openings_of_games.OpeningsOfGames.add_nexts.Given
 abbrev pub invariant-loop-n : goal.invariant-loop-n
 invariant-loop-n l = record {
   asked : l.self.asked ≡ l.fn.self.asked;
+  width : l.self.openings.width ≡ l.fn.self.openings.width;
   walker : l.self.walker ≡ l.fn.self.walker;
   frames : l.self.frames ≡ l.fn.self.frames;
   gone : (positions : List Position) → ArePositions l.game.tree positions → (es : List Entry) (ns : List NextAt) →

@@ -9,14 +9,14 @@ use Rattle.run_matcher.proofs.OccurrencesOfOne.{begins-added, known-added}
 use Rattle.run_matcher.proofs.gathered.Gathered.add_begins.Goals as goal
 
 pub known_end-requires : goal.known_end-requires
-known_end-requires c = λ k d lt. let each = c.requires.apart.each k d lt in omega (arith, each.2, c.node_count-few.ensures.value, c.node_count-few.ensures.most)
+known_end-requires c = λ k d lt. let each = c.requires.apart.each k d lt in omega (arith, each.2, c.in_ok-push_begins.ensures.most)
 
 pub push_keys-requires-clause-nodes : goal.push_keys-requires-clause-nodes
 push_keys-requires-clause-nodes c =
     let nodes = c.push_begins.new.nodes.items in
     let begun = only-added c.clear.new.self.items nodes (BeginsIn c.args.runs.now c.args.stretches.now) c.clear.ensures.items c.in_ok-push_begins.ensures.begun in
     subst (λ (ns : List ℕ). All (λ n. n < 65536) ns) (sym c.deref.ensures.value)
-    (begun-few c.args.runs.now c.args.stretches.now c.requires.apart nodes begun (omega (arith, c.node_count-few.ensures.value, c.node_count-few.ensures.most)))
+    (begun-few c.args.runs.now c.args.stretches.now c.requires.apart nodes begun (omega (arith, c.in_ok-push_begins.ensures.most)))
 
 pub returns-clause-occurrences : goal.returns-clause-occurrences
 returns-clause-occurrences c =

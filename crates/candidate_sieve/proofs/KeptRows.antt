@@ -1,0 +1,224 @@
+-- The games that are kept by placements, row by row.
+use Rattle.std.proofs.Common.{◌≡◌, ◌↔◌, ℕ, ◌+◌, ◌-◌, ◌^◌, ◌<◌, ◌≤◌, List, None, Option, Some, ap, bit_and, bit_or, inl, inr, length, refl, slice_index, slice_index_or, sym, ◌∙◌, subst, arith}
+use Rattle.std.specs.Borrow.{Bor}
+use Rattle.std.specs.Int.{bit_at, bit_not, w64}
+use Rattle.std.specs.Option.{IsSome, IsSomeAnd}
+use Rattle.std.specs.Prelude.{slice_range}
+use Rattle.std.proofs.lemmas.Bool.{cases_eq, cases_lt}
+use Rattle.std.proofs.lemmas.Nat.Bits.{bit_at-lt, bit_at-zero, bit_at_not}
+use Rattle.kb_geometry.specs.declared.shape.Shape.{Shape}
+use Rattle.capture_board.specs.Deltas.{Deltas, node_count}
+use Rattle.pattern_images.specs.ImageList.{AreImages, ImageList, IsPlacedOn, grid_at, no_placement, placement_at}
+use Rattle.pattern_images.specs.Placements.{Placement}
+use Rattle.capture_index.specs.declared.stretch.Want.{Want}
+use Rattle.capture_index.specs.Wants.{AreWantsOf}
+use Rattle.final_index.specs.declared.ever_sets.EverSets.{EverSets}
+use Rattle.final_index.specs.Ever.{AreSetsOf}
+use Rattle.final_index.specs.Planes.{PlaneGames}
+use Rattle.final_index.proofs.KeptBits.{and-bit, or-bit}
+use Rattle.candidate_sieve.specs.declared.placement_rows.PlacementRow.{PlacementRow}
+use Rattle.candidate_sieve.specs.BlockGames.{HaveEach}
+use Rattle.candidate_sieve.specs.Candidates.{IsPossibleIn, MeetsCells}
+use Rattle.candidate_sieve.specs.Kept.{HadCorners, IsKeptBy, WereAllowed}
+use Rattle.candidate_sieve.specs.KeptWords.{AreAmong, AreKeptOf, AreThose, HasNumbers, IsGameOf, IsMetBy}
+use Rattle.candidate_sieve.specs.PlacementRows.{AreRowsOf, IsRowIn}
+use Rattle.candidate_sieve.proofs.CellsTold.{meets-were, were-meets}
+use Rattle.candidate_sieve.proofs.KeptPlacements.{kept-at, kept-by}
+use Rattle.candidate_sieve.proofs.PlacementLists.{number-found}
+use Rattle.candidate_sieve.proofs.RowsSieved.{row-told, sliced-length, sliced-number}
+
+-- ---- the games of the words of some placements
+
+module _ (shape : Shape) (placements : List Placement) (numbers words : List ℕ) (corners : List (Bor (List (List ℕ)))) where
+  -- one of the first so many placements has the game, of which each corner had its cells
+  abbrev IsMetTo : ℕ → ℕ → Deltas → Type 0
+  IsMetTo count g changes = (k : ℕ) × (k < count) × (bit_at (slice_index words k) g ≡ 1) × HadCorners changes (placement_at placements (slice_index numbers k))
+
+  pub record AreMetTo (count word : ℕ) : Type 0 where
+    pub exact : (g : ℕ) (changes : Deltas) → g < 64 → changes.shape ≡ shape → HasNumbers corners g changes → (bit_at word g ≡ 1) ↔ IsMetTo count g changes
+    pub among : (g : ℕ) → g < 64 → bit_at word g ≡ 1 → (k : ℕ) × (k < count) × (bit_at (slice_index words k) g ≡ 1)
+
+  pub met-start : AreMetTo 0 0
+  met-start = record {
+    exact = λ g changes lt same numbers. (λ e. absurd (omega (arith, e, bit_at-zero g)), λ h. absurd (omega (arith, h.1)));
+    among = λ g lt e. absurd (omega (arith, e, bit_at-zero g));
+  }
+
+  pub met-next : (count word new : ℕ) → AreMetTo count word → AreThose shape corners (λ changes. HadCorners changes (placement_at placements (slice_index numbers count))) (slice_index words count) new → AreAmong new (slice_index words count) → AreMetTo (count + 1) (bit_or word new)
+  met-next count word new so_far those among = record {
+    exact = λ g changes lt same has.
+        let both = or-bit word new g in
+        let before = so_far.exact g changes lt same has in
+        let now = those g changes lt same has in (
+          λ e. elim (both.0 e) [
+            | inl was ↦ let t = before.0 was in (t.0, omega (arith, t.1), t.2, t.3)
+            | inr is ↦ let t = now.0 is in (count, omega arith, t.0, t.1)
+          ],
+          λ h. elim (cases_lt h.0 count) [
+            | inl low ↦ both.1 (inl (before.1 (h.0, low, h.2, h.3)))
+            | inr from ↦
+                let here : h.0 ≡ count = omega (arith, h.1, from) in
+                both.1 (inr (now.1 (subst (λ (k : ℕ). bit_at (slice_index words k) g ≡ 1) here h.2, subst (λ (k : ℕ). HadCorners changes (placement_at placements (slice_index numbers k))) here h.3)))
+          ],
+        );
+    among = λ g lt e. elim ((or-bit word new g).0 e) [
+      | inl was ↦ let t = so_far.among g lt was in (t.0, omega (arith, t.1), t.2)
+      | inr is ↦ (count, omega arith, among g lt is)
+    ];
+  }
+
+-- ---- bits, and sets that are there
+
+-- the games that are there and aren't kept yet
+pub left-bit : (present kept g : ℕ) → kept < 2 ^ 64 → g < 64 → (bit_at (bit_and present (bit_not w64 kept)) g ≡ 1) ↔ ((bit_at present g ≡ 1) × ¬ (bit_at kept g ≡ 1))
+left-bit present kept g fits lt =
+    let both = and-bit present (bit_not w64 kept) g in
+    let turned : bit_at (bit_not w64 kept) g ≡ 1 - bit_at kept g = bit_at_not w64 kept g fits lt in (
+      λ e. let t = both.0 e in (t.0, λ one. omega (arith, t.1, turned, one)),
+      λ h. both.1 (h.0, elim (cases_eq (bit_at kept g) 1) [ inl one ↦ absurd (h.1 one) | inr other ↦ omega (arith, turned, other, bit_at-lt kept g) ]),
+    )
+
+some-of : (o : Option EverSets) (P : EverSets → Type 0) → IsSomeAnd o P → IsSome o
+some-of None P h = absurd h
+some-of (Some sets) P h = refl
+
+cells-told : (changes : Deltas) (shape : Shape) (placement : Placement) (o : Option EverSets) → 0 < node_count changes → changes.shape ≡ shape → IsSomeAnd o (AreSetsOf changes) → IsPlacedOn shape placement → IsSomeAnd o (λ sets. MeetsCells shape sets placement) ↔ WereAllowed changes placement
+cells-told changes shape placement None some same are placed = absurd are
+cells-told changes shape placement (Some sets) some same are placed = (
+  λ meets. meets-were changes sets are placement some (subst (λ (s : Shape). MeetsCells s sets placement) (sym same) meets),
+  λ were. subst (λ (s : Shape). MeetsCells s sets placement) same (were-meets changes sets are placement (subst (λ (s : Shape). IsPlacedOn s placement) (sym same) placed) were),
+)
+
+-- the placements of a row, read from the list
+pub part-in_range : (images : ImageList) (numbers : List ℕ) → ((k : ℕ) → k < length numbers → slice_index numbers k < length images.placements) → (row : PlacementRow) → IsRowIn images numbers row → (read : List ℕ) → read ≡ numbers →
+    (k : ℕ) → k < length (slice_range read row.start (row.start + row.count)) → slice_index (slice_range read row.start (row.start + row.count)) k < length images.placements
+part-in_range images numbers in_range row is read same k lt =
+    let all = ap (λ (ns : List ℕ). length (slice_range ns row.start (row.start + row.count))) same ∙ sliced-length numbers row.start row.count is.within in
+    let below : k < row.count = omega (arith, lt, all) in
+    let at = ap (λ (ns : List ℕ). slice_index (slice_range ns row.start (row.start + row.count)) k) same ∙ sliced-number numbers row.start row.count k below in
+    omega (arith, at, in_range (row.start + k) (omega (arith, is.within, below)))
+
+-- ---- the rows so far
+
+module _ (images : ImageList) (planes : PlaneGames) (corners : List (Bor (List (List ℕ)))) (numbers : List ℕ) where
+  -- one of the first so many placements of the list keeps the game with these changes
+  abbrev IsKeptTo : ℕ → Deltas → Type 0
+  IsKeptTo count changes = (k : ℕ) × (k < count) × IsKeptBy changes (placement_at images.placements (slice_index numbers k))
+
+  pub record AreKeptTo (count word : ℕ) : Type 0 where
+    pub exact : (g : ℕ) (changes : Deltas) → g < 64 → IsGameOf planes corners g changes → (bit_at word g ≡ 1) ↔ IsKeptTo count changes
+    pub there : (g : ℕ) → g < 64 → bit_at word g ≡ 1 → IsSome (slice_index_or planes.games g None)
+
+  pub kept-start : AreKeptTo 0 0
+  kept-start = record {
+    exact = λ g changes lt game. (λ e. absurd (omega (arith, e, bit_at-zero g)), λ h. absurd (omega (arith, h.1)));
+    there = λ g lt e. absurd (omega (arith, e, bit_at-zero g));
+  }
+
+  module _ (present : ℕ) (told : (g : ℕ) → g < 64 → (bit_at present g ≡ 1) ↔ IsSome (slice_index_or planes.games g None)) where
+    is-there : (g : ℕ) (changes : Deltas) → g < 64 → IsGameOf planes corners g changes → bit_at present g ≡ 1
+    is-there g changes lt game = (told g lt).1 (some-of (slice_index_or planes.games g None) (AreSetsOf changes) game.sets)
+
+    module _ (are-images : AreImages images) (same : images.shape ≡ planes.shape) (in_range : (k : ℕ) → k < length numbers → slice_index numbers k < length images.placements)
+        (row : PlacementRow) (is : IsRowIn images numbers row) (wants : List Want) (are : AreWantsOf images.shape (grid_at images.grids row.class) wants) (kept : ℕ) (fits : kept < 2 ^ 64) (words : List ℕ)
+        (have : (k : ℕ) → k < row.count → HaveEach planes.games (row.base + k) wants (bit_and present (bit_not w64 kept)) (length wants) (slice_index words k)) where
+      abbrev left : ℕ
+      left = bit_and present (bit_not w64 kept)
+
+      abbrev here : ℕ → Placement
+      here k = placement_at images.placements (slice_index numbers (row.start + k))
+
+      pub row-placed : (k : ℕ) → k < row.count → IsPlacedOn images.shape (here k)
+      row-placed k lt = are-images.placed (slice_index numbers (row.start + k)) no_placement (in_range (row.start + k) (omega (arith, is.within, lt)))
+
+      left-there : (g : ℕ) → g < 64 → bit_at left g ≡ 1 → IsSome (slice_index_or planes.games g None)
+      left-there g lt e = (told g lt).0 ((left-bit present kept g fits lt).0 e).0
+
+      -- the word of a placement
+      word-told : (k g : ℕ) → k < row.count → g < 64 → (bit_at (slice_index words k) g ≡ 1) ↔ ((bit_at left g ≡ 1) × IsPossibleIn planes g (here k))
+      word-told = row-told images are-images planes same numbers in_range row is wants are left words left-there have
+
+      cells : (k g : ℕ) (changes : Deltas) → k < row.count → IsGameOf planes corners g changes → IsPossibleIn planes g (here k) ↔ WereAllowed changes (here k)
+      cells k g changes lt game = cells-told changes planes.shape (here k) (slice_index_or planes.games g None) game.some_node game.same_shape game.sets (subst (λ (s : Shape). IsPlacedOn s (here k)) same (row-placed k lt))
+
+      module _ (part : List ℕ) (all : length part ≡ row.count) (parts : (k : ℕ) → k < row.count → slice_index part k ≡ slice_index numbers (row.start + k)) (met : ℕ)
+          (exact : (g : ℕ) (changes : Deltas) → g < 64 → changes.shape ≡ images.shape → HasNumbers corners g changes → (bit_at met g ≡ 1) ↔ IsMetBy images.placements part words g changes)
+          (among : (g : ℕ) → g < 64 → bit_at met g ≡ 1 → (k : ℕ) × (k < length part) × (bit_at (slice_index words k) g ≡ 1)) (so_far : AreKeptTo row.start kept) where
+        -- a placement of the row keeps the game, or the game was kept before
+        met-kept : (g : ℕ) (changes : Deltas) → g < 64 → IsGameOf planes corners g changes → bit_at met g ≡ 1 → IsKeptTo (row.start + row.count) changes
+        met-kept g changes lt game e =
+            let t = (exact g changes lt (game.same_shape ∙ sym same) game.numbers).0 e in
+            let k = t.0 in
+            let below : t.0 < row.count = omega (arith, t.1, all) in
+            let possible = (word-told k g below lt).0 t.2 in (
+              row.start + k,
+              omega (arith, below),
+              record {
+                cells = (cells k g changes below game).0 possible.1;
+                corners = subst (λ (n : ℕ). HadCorners changes (placement_at images.placements n)) (parts k below) t.3;
+              },
+            )
+
+        kept-met : (g : ℕ) (changes : Deltas) → g < 64 → IsGameOf planes corners g changes → ¬ (bit_at kept g ≡ 1) → (k : ℕ) → k < row.count → IsKeptBy changes (here k) → bit_at met g ≡ 1
+        kept-met g changes lt game unkept k below by =
+            let open_still = (left-bit present kept g fits lt).1 (is-there g changes lt game, unkept) in
+            let word = (word-told k g below lt).1 (open_still, (cells k g changes below game).1 by.cells) in
+            (exact g changes lt (game.same_shape ∙ sym same) game.numbers).1 (k, omega (arith, below, all), word, subst (λ (n : ℕ). HadCorners changes (placement_at images.placements n)) (sym (parts k below)) by.corners)
+
+        pub kept-row : AreKeptTo (row.start + row.count) (bit_or kept met)
+        kept-row = record {
+          exact = λ g changes lt game.
+              let both = or-bit kept met g in (
+                λ e. elim (both.0 e) [
+                  | inl was ↦ let t = (so_far.exact g changes lt game).0 was in (t.0, omega (arith, t.1), t.2)
+                  | inr now ↦ met-kept g changes lt game now
+                ],
+                λ (j, below, by). elim (cases_lt j row.start) [
+                  | inl before ↦ both.1 (inl ((so_far.exact g changes lt game).1 (j, before, by)))
+                  | inr from ↦ elim (cases_eq (bit_at kept g) 1) [
+                    | inl was ↦ both.1 (inl was)
+                    | inr other ↦
+                        let at : j ≡ row.start + (j - row.start) = omega (arith, from) in
+                        both.1 (inr (kept-met g changes lt game other (j - row.start) (omega (arith, below, from)) (subst (λ (n : ℕ). IsKeptBy changes (placement_at images.placements (slice_index numbers n))) at by)))
+                  ]
+                ],
+              );
+          there = λ g lt e. elim ((or-bit kept met g).0 e) [
+            | inl was ↦ so_far.there g lt was
+            | inr now ↦ let t = among g lt now in left-there g lt ((word-told t.0 g (omega (arith, t.1, all)) lt).0 t.2).0
+          ];
+        }
+
+    -- ---- all rows, or as many as it takes
+
+    module _ (rows : List PlacementRow) (made : AreRowsOf images numbers rows) (word : ℕ) where
+      kept-of : (count : ℕ) (changes : Deltas) → count ≤ length numbers → IsKeptTo count changes → (k : ℕ) × (k < length numbers) × IsKeptBy changes (placement_at images.placements (slice_index numbers k))
+      kept-of count changes few (k, lt, by) = (k, omega (arith, few, lt), by)
+
+      pub kept-all : AreKeptTo (length numbers) word → AreKeptOf planes images.placements corners word
+      kept-all so_far = record {
+        exact = λ g changes lt game.
+            let told = so_far.exact g changes lt game in (
+              λ e. let (k, below, by) = told.0 e in kept-by changes images.placements (slice_index numbers k) (made.in_range k below) by,
+              λ kept.
+                  let (i, below, by) = kept-at changes images.placements kept in
+                  let (k, within, at) = number-found images numbers rows made i below in
+                  told.1 (k, within, subst (λ (n : ℕ). IsKeptBy changes (placement_at images.placements n)) (sym at) by),
+            );
+        there = so_far.there;
+      }
+
+      -- where no game is left, the rest of the rows keeps none more
+      pub kept-early : (count : ℕ) → count ≤ length numbers → word < 2 ^ 64 → bit_and present (bit_not w64 word) ≡ 0 → AreKeptTo count word → AreKeptOf planes images.placements corners word
+      kept-early count few fits none so_far = record {
+        exact = λ g changes lt game. (
+          λ e. let (k, below, by) = (so_far.exact g changes lt game).0 e in kept-by changes images.placements (slice_index numbers k) (made.in_range k (omega (arith, few, below))) by,
+          λ kept. elim (cases_eq (bit_at word g) 1) [
+            | inl was ↦ was
+            | inr other ↦
+                let bit = (left-bit present word g fits lt).1 (is-there g changes lt game, other) in
+                absurd (omega (arith, bit, ap (λ (w : ℕ). bit_at w g) none, bit_at-zero g))
+          ],
+        );
+        there = so_far.there;
+      }

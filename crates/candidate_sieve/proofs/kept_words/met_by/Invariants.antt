@@ -1,0 +1,6 @@
+use Rattle.candidate_sieve.proofs.KeptRows.{AreMetTo}
+use Rattle.candidate_sieve.proofs.kept_words.met_by.Given as goal
+
+-- the placements so far
+abbrev pub invariant-loop-k : goal.invariant-loop-k
+invariant-loop-k l = AreMetTo l.images.shape l.images.placements l.numbers l.words l.corners l.k l.met
