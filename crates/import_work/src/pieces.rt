@@ -24,7 +24,7 @@ use std::{mem, thread};
 const MAX_PIECES: usize = 8;
 
 // For fewer bytes of text than these a thread costs more than it spares.
-pub(crate) const LEAST_SHARE: u64 = 16_384;
+pub(crate) const LEAST_SHARE: u64 = 12_288;
 
 // The most bytes of memory that a piece takes at once.
 const MOST_ROOM: u64 = 98_304;

@@ -1,9 +1,10 @@
 -- The games of parts that are gone over, added and merged.
 use Rattle.std.proofs.Common.{◌≡◌, ◌∙◌, ℕ, ◌+◌, ◌<◌, ◌≤◌, List, [], ◌∷◌, ◌++◌, Option, Some, None, get_or, length, length-append, map, take, drop, sym, ap, append_assoc, arith}
-use Rattle.std.specs.Prelude.{IfSome}
+use Rattle.std.specs.Prelude.{IfOk, IfSome, Result, Ok, Err}
 use Rattle.std.specs.Option.{option_to_list}
 use Rattle.std.proofs.lemmas.List.{map-append, map_push, take-append-drop, take_more}
 use Rattle.version_publisher.specs.Contents.{items_in}
+use Rattle.version_publisher.specs.declared.state.VersionState.{VersionState}
 use Rattle.run_audit.proofs.BaseSteps.{items-append, items-push}
 
 -- with one part more
@@ -39,3 +40,8 @@ items-merged old new before last both taken joined =
 pub merged-room : {B : Type 0} (old new : List (List B)) (before last : List B) (most : ℕ) → old ≡ new ++ before ∷ [] → length (items_in old) + length last ≤ most → length before + length last ≤ most
 merged-room old new before last most taken few =
     omega (arith, few, ap (λ (l : List _). length (items_in l)) taken ∙ ap length (items-push new before), length-append (items_in new) before)
+
+-- the version of merged parts has the games that these parts have
+pub merged-version : {B E : Type 0} (result : Result (VersionState B) E) (number : ℕ) (parts : List (List B)) (games : List B) → IfOk result (λ (v : VersionState B). (v.number ≡ number) × (v.parts ≡ parts)) → items_in parts ≡ games → IfOk result (λ v. items_in v.parts ≡ games)
+merged-version (Ok v) number parts games is same = ap items_in is.1 ∙ same
+merged-version (Err e) number parts games is same = tt

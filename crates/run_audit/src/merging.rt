@@ -19,14 +19,13 @@ ghost use Rattle.std.specs.Arc.{arc_value};
 ghost use Rattle.version_publisher.specs.Contents.{items_in};
 
 use kb_geometry::NoMemory;
-use segment_store::{Segment, SegmentBuilder, merge};
+use segment_store::{Segment, merge};
 use std::alloc::Global;
 use std::sync::Arc;
 use version_publisher::Version;
 
 // The version with the same number and the same games, whose parts are merged: from the second one on each
-// has fewer games than the one before it. Behind these are parts without games, so that its number is the
-// same. A version that has more such parts than its number tells comes back as it is.
+// has fewer games than the one before it.
 pub(crate) fn with_merged_parts(
     alloc: Global,
     version: &Version<Segment>,
@@ -35,35 +34,15 @@ pub(crate) fn with_merged_parts(
     ensures games { IfOk result (λ v. items_in v.parts ≡ items_in version.now.parts) }
 {
     let parts = merged_parts(alloc, version.parts())?;
-    if parts.len() as u64 > version.number() {
-        return version.copy(alloc);
-    }
-    let mut merged = version_of(alloc, &parts)?;
-    let none = Arc::new(alloc, SegmentBuilder::new(alloc).finish(alloc)?)?;
-    while merged.number() < version.number() {
-        push_part(&mut merged, none.clone()?)?;
-    }
-    Ok(merged)
-}
-
-// The version of these parts.
-fn version_of(alloc: Global, parts: &[Arc<Segment>]) -> Result<Version<Segment>, NoMemory>
-    requires { length (items_in (map arc_value parts.now)) ≤ 400000 }
-    ensures number { IfOk result (λ v. v.number ≡ length parts.now) }
-    ensures games { IfOk result (λ v. items_in v.parts ≡ items_in (map arc_value parts.now)) }
-{
-    let mut version = Version::empty(alloc);
-    for part in parts {
-        push_part(&mut version, part.clone()?)?;
-    }
-    Ok(version)
+    Version::of(alloc, version.number(), parts.as_slice())
 }
 
 // The games of these parts in merged parts.
 fn merged_parts(alloc: Global, parts: &[Arc<Segment>]) -> Result<Vec<Arc<Segment>>, NoMemory>
     requires { length (items_in (map arc_value parts.now)) ≤ 400000 }
-    ensures { IfOk result (λ merged.
+    ensures same { IfOk result (λ merged.
         items_in (map arc_value merged.items) ≡ items_in (map arc_value parts.now)) }
+    ensures few { IfOk result (λ merged. length (items_in (map arc_value merged.items)) ≤ 400000) }
 {
     let mut merged = Vec::new(alloc);
     for part in parts {

@@ -26,6 +26,7 @@ pub mod ToldKept
 mod JoinedPieces
 mod BlocksSearched
 mod SameShapes
+mod SeveralAnswers
 mod ShapeNumbers
 mod ShapesSought
 mod StepsTaken

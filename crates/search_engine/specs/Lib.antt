@@ -1,4 +1,5 @@
 -- Definitions that contracts of public functions rest on.
+pub mod Answers
 pub mod HitNodes
 pub mod Hits
 pub mod KeptGames
@@ -11,5 +12,6 @@ pub mod Gathering
 pub mod ImagesMade
 pub mod Items
 pub mod Searching
+pub mod Several
 pub mod ShapePlaces
 pub mod StepBounds

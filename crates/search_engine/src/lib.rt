@@ -4,8 +4,8 @@
 //! candidate_sieve for which games may have a placement, on run_matcher for where a placement begins
 //! to hold in a game, on continuation_table for how it goes on, and on info_filter for which games
 //! are asked. The layers above use that [`search`] gives the hits in all games of
-//! the version, in order, and their table, in however many pieces it works, and that [`kept`] tells
-//! how many games are kept.
+//! the version, in order, and their table, in however many pieces it works, that [`search_each`] does
+//! so for several searches, and that [`kept`] tells how many games are kept.
 #![tactic(auto)]
 
 mod accepted;
@@ -23,6 +23,7 @@ mod matchers;
 mod pieces;
 mod search_items;
 mod searches;
+mod several;
 mod shape_list;
 mod shapes;
 mod version_games;
@@ -34,5 +35,6 @@ pub use laws::{
     a_game_with_a_hit_is_kept, games_have_one_count_of_kept, games_have_one_count_of_kept_nodes,
     games_have_one_list_of_hits, hits_of_two_parts_are_those_of_each,
 };
-pub use searches::{search, search_from, search_if_little, search_segment};
+pub use searches::{search, search_from, search_segment};
+pub use several::{Asked, search_each};
 pub use version_games::{find_game, game_count};

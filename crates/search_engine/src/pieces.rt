@@ -79,7 +79,8 @@ pub(crate) fn little_hits(
 }
 
 // In how many pieces blocks that are left are searched, where so many others were: each has about as
-// many blocks as those, and there are no more pieces than processors.
+// many blocks as those. There is one piece on one processor. Elsewhere there are at most two for each:
+// one takes longer than another, and so all processors have work until about the end.
 fn pieces_for<R: Threads>(rt: &R, done: usize, left: usize) -> usize
     ensures { result ≤ 8 }
 {
@@ -87,7 +88,13 @@ fn pieces_for<R: Threads>(rt: &R, done: usize, left: usize) -> usize
         Ok(count) => count.get(),
         Err(_) => 1,
     };
-    min(min(left.div_ceil(max(1, done)), processors), MAX_PIECES)
+    if processors < 2 {
+        return 1;
+    }
+    min(
+        left.div_ceil(max(1, done)),
+        min(processors, MAX_PIECES / 2) * 2,
+    )
 }
 
 // How many blocks a piece has, of so many in at most so many pieces.

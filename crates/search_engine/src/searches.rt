@@ -1,5 +1,5 @@
 // A search over a version, and over one part of it.
-ghost use Rattle.std.specs.Prelude.{◌≤◌, ◌+◌, ℕ, IfOk, IfSome, drop, length};
+ghost use Rattle.std.specs.Prelude.{◌≤◌, ◌+◌, ℕ, IfOk, drop, length};
 ghost use Rattle.version_publisher.specs.Contents.{items_in};
 ghost use Rattle.continuation_table.specs.Table.{IsTable};
 ghost use Rattle.search_engine.specs.HitNodes.{hit_nodes};
@@ -10,7 +10,7 @@ ghost use Rattle.segment_store.specs.Nodes.{nodes_of};
 use crate::answer::Answer;
 use crate::items::{items_of_part, items_of_version};
 use crate::matchers::{Matchers, images_for};
-use crate::pieces::{hits_of, little_hits};
+use crate::pieces::hits_of;
 use crate::search_items::add_items_hits;
 use capture_board::Steps;
 use continuation_table::Table;
@@ -27,8 +27,8 @@ use version_publisher::Version;
 /// are numbered from 0. Hits stand by game, then by node, then in the order of the placements.
 ///
 /// A search that does little starts no thread. Of one that does much the games that are left are
-/// searched in pieces, side by side where threads can be had: at most eight, and no more than there
-/// are processors. The only error is `NoMemory`.
+/// searched in pieces, side by side where threads can be had: at most eight, and at most two for each
+/// processor. The only error is `NoMemory`.
 pub fn search<R: Threads + Sync>(
     rt: &R,
     alloc: Global,
@@ -46,29 +46,6 @@ pub fn search<R: Threads + Sync>(
     let hits = hits_of(rt, alloc, &matchers, filter, &items)?;
     let table = Table::of(alloc, &hits)?;
     Ok(Answer { hits, table })
-}
-
-/// The answer of [`search`], where it does little; `None` where it does much, and then it is to be had
-/// of [`search`]. No thread is started. The only error is `NoMemory`.
-pub fn search_if_little(
-    alloc: Global,
-    version: &Version<Segment>,
-    query: &Query,
-    filter: &Filter,
-) -> Result<Option<Answer>, NoMemory>
-    ensures hits { IfOk result (λ found. IfSome found (λ answer.
-        AreHits query.now filter.now (items_in version.now.parts) answer.hits.items)) }
-    ensures table { IfOk result (λ found. IfSome found (λ answer.
-        IsTable answer.hits.items answer.table)) }
-{
-    let items = items_of_version(alloc, version)?;
-    let images = images_for(alloc, query, &items)?;
-    let matchers = Matchers::of(alloc, &images)?;
-    let Some(hits) = little_hits(alloc, &matchers, filter, &items)? else {
-        return Ok(None);
-    };
-    let table = Table::of(alloc, &hits)?;
-    Ok(Some(Answer { hits, table }))
 }
 
 /// The hits of a query in the games of one part that a filter accepts. The games are numbered from

@@ -1,3 +1,4 @@
+mod BlockAnswers
 pub mod CauseLemmas
 pub mod CountLemmas
 pub mod FittingWatches

@@ -5,3 +5,5 @@ pub mod RunErrors
 pub mod Script
 pub mod Serial
 pub mod Steps
+-- Definitions of private functions.
+pub mod Block

@@ -5,7 +5,7 @@ use Rattle.std.specs.Option.{option_map_or}
 use Rattle.std.specs.List.{AllZip, flat_map}
 use Rattle.std.proofs.lemmas.List.{flat_map_more, length-map, length-take-le, map-append, take_more}
 use Rattle.std.proofs.lemmas.Option.{slice_get-get_or}
-use Rattle.std.proofs.lemmas.Slice.Zip.{AllZip-long}
+use Rattle.std.proofs.lemmas.Slice.Zip.{AllZip-long, all_zipped_more}
 use Rattle.game_tree.specs.Tree.{IsTree}
 use Rattle.dyer_signature.specs.declared.bytes.Signature.{Signature}
 use Rattle.dyer_signature.specs.Patterns.{Matches}
@@ -31,6 +31,14 @@ few_games slice games all count same are counted most = omega (arith, ap length 
 -- the canonical form that is kept of a game
 form-is : (forms : List Signature) (n : ℕ) (d : Signature) → n < length forms → form_at forms n ≡ (get_or forms n d).bytes
 form-is forms n d within = ap (λ o. option_map_or (λ (s : Signature). s.bytes) o []) (slice_get-get_or forms n d within)
+
+-- the form of one game more
+pub forms-next : (games : List (Bor Game)) (n : ℕ) (game : Bor Game) (forms new : List Signature) (form : Signature) → n < length games → game ≡ get_or games n game → AreFormsOf (take n games) forms → IsCanonicalOf game.now.tree form.bytes → new ≡ forms ++ form ∷ [] → AreFormsOf (take (n + 1) games) new
+forms-next games n game forms new form below at are is pushed =
+    let next : take (n + 1) games ≡ take n games ++ game ∷ [] = take_more games n game below ∙ ap (λ (g : Bor Game). take n games ++ g ∷ []) (sym at) in
+    subst (λ (list : List Signature). AreFormsOf (take (n + 1) games) list) (sym pushed)
+    (subst (λ (gs : List (Bor Game)). AreFormsOf gs (forms ++ form ∷ [])) (sym next)
+    (all_zipped_more (λ (g : Bor Game) (s : Signature). IsCanonicalOf g.now.tree s.bytes) (take n games) forms game form are is))
 
 -- there are as many forms as games
 pub forms-long : (games : List (Bor Game)) (forms : List Signature) → AreFormsOf games forms → length forms ≡ length games

@@ -5,7 +5,7 @@ mod KeyEntries
 mod Numbered
 mod Groups
 mod KeysOfGames
-mod FoundGames
+pub mod FoundGames
 mod AllFound
 mod ListTexts
 mod OpeningTexts

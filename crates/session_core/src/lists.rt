@@ -39,12 +39,10 @@ use query_script::{
 use search_engine::game_count;
 use segment_store::{FinishedGame, Segment, games};
 use std::alloc::Global;
-use std::thread::Threads;
 use version_publisher::Version;
 
 // Appends the text of the games whose signature matches a pattern.
-pub(crate) fn append_signature<R: Threads + Sync>(
-    rt: &R,
+pub(crate) fn append_signature(
     alloc: Global,
     line: u32,
     pattern: &SigPattern,
@@ -58,7 +56,7 @@ pub(crate) fn append_signature<R: Threads + Sync>(
 {
     let count = game_count(version);
     let games = games(alloc, version)?;
-    let forms = canonical_forms(rt, alloc, games.as_slice())?;
+    let forms = canonical_forms(alloc, games.as_slice())?;
     let found = found_by(alloc, pattern, games.as_slice(), forms.as_slice())?;
     print_signature_head(line, version.number(), count, found.len(), out)?;
     append_found(forms.as_slice(), found.as_slice(), out)
@@ -134,8 +132,7 @@ fn players_of(alloc: Global, games: &[&FinishedGame]) -> Result<Players, NoMemor
 }
 
 // Appends the text of the groups of double games.
-pub(crate) fn append_doubles<R: Threads + Sync>(
-    rt: &R,
+pub(crate) fn append_doubles(
     alloc: Global,
     line: u32,
     version: &Version<Segment>,
@@ -148,7 +145,7 @@ pub(crate) fn append_doubles<R: Threads + Sync>(
 {
     let count = game_count(version);
     let games = games(alloc, version)?;
-    let forms = canonical_forms(rt, alloc, games.as_slice())?;
+    let forms = canonical_forms(alloc, games.as_slice())?;
     let by_key = games_by_key(alloc, games.as_slice(), forms.as_slice())?;
     let groups = count_groups(&by_key);
     print_doubles_head(line, version.number(), count, groups, out)?;

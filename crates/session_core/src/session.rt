@@ -134,10 +134,10 @@ impl<C: Collector> Session<C> {
             }
             Statement::Kept { query } => append_kept(alloc, line, query, version, out),
             Statement::Signature { pattern } => {
-                append_signature(rt, alloc, line, pattern, version, out)
+                append_signature(alloc, line, pattern, version, out)
             }
             Statement::Players => append_players(alloc, line, version, out),
-            Statement::Doubles => append_doubles(rt, alloc, line, version, out),
+            Statement::Doubles => append_doubles(alloc, line, version, out),
             Statement::Game { number: game } => append_game(line, *game, version, out),
             Statement::Opening {
                 shape,

@@ -58,8 +58,11 @@ impl<P: Part> Version<P> {
         }
     }
 
-    // Copies of these parts under this number.
-    pub(crate) fn of(alloc: Global, number: u64, parts: &[Arc<P>]) -> Result<Version<P>, NoMemory>
+    /// The version with this number and these parts. There may be fewer parts than the number tells,
+    /// where parts were merged.
+    ///
+    /// The parts must together have at most [`Part::MOST`] items. The only error is `NoMemory`.
+    pub fn of(alloc: Global, number: u64, parts: &[Arc<P>]) -> Result<Version<P>, NoMemory>
         requires fits { length (items_in (map (λ a. P.items (arc_value a)) parts.now)) ≤ P.MOST }
         ensures { IfOk result (λ v. (v.number ≡ number)
             × (v.parts ≡ map (λ a. P.items (arc_value a)) parts.now)) }

@@ -2,9 +2,25 @@ use Rattle.std.proofs.Common.{◌<◌, [], ◌∷◌, ◌++◌, arith, length, m
 use Rattle.std.proofs.lemmas.List.{map-append, take_all}
 use Rattle.session_core.specs.Stores.{view_of}
 use Rattle.serial_run.specs.Steps.{AreAnsweredFrom}
+use Rattle.serial_run.proofs.BlockAnswers.{answer_at, answers_as_many}
 use Rattle.serial_run.proofs.RunLemmas.{taken_more}
 use Rattle.serial_run.proofs.StatementLemmas.{AreAnsweredFrom-more}
 use Rattle.serial_run.proofs.block.block_text.Goals as goal
+
+pub index-requires : goal.index-requires
+index-requires g c =
+    let as_many = answers_as_many c.args.searches.now c.args.versions.now c.in_ok-asked.asked.items c.deref.result.now c.in_ok-answers.answers.items c.in_ok-asked.ensures c.deref.ensures.value c.in_ok-answers.ensures in
+    omega (arith, c.loop-i-test.true, as_many, c.in_ok-answers.answers.ok.0)
+
+pub deliver-requires-clause-hits : goal.deliver-requires-clause-hits
+deliver-requires-clause-hits g c =
+    let is = answer_at c.args.searches.now c.args.versions.now c.in_ok-asked.asked.items c.deref.result.now c.in_ok-answers.answers.items c.in_ok-asked.ensures c.deref.ensures.value c.in_ok-answers.ensures c.loop-i.i c.index-searches-i.result c.index-versions-i.result c.index.result.now _ c.loop-i-test.true c.index-searches-i.is c.index-versions-i.is c.index.ensures in
+    is.0
+
+pub deliver-requires-clause-table : goal.deliver-requires-clause-table
+deliver-requires-clause-table g c =
+    let is = answer_at c.args.searches.now c.args.versions.now c.in_ok-asked.asked.items c.deref.result.now c.in_ok-answers.answers.items c.in_ok-asked.ensures c.deref.ensures.value c.in_ok-answers.ensures c.loop-i.i c.index-searches-i.result c.index-versions-i.result c.index.result.now _ c.loop-i-test.true c.index-searches-i.is c.index-versions-i.is c.index.ensures in
+    is.1
 
 pub loop-i-preserved : goal.loop-i-preserved
 loop-i-preserved g c =

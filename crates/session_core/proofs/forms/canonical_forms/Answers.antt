@@ -1,14 +1,11 @@
-use Rattle.std.proofs.Common.{ap, ◌∙◌}
-use Rattle.std.specs.Borrow.{Bor}
-use Rattle.dyer_signature.specs.declared.bytes.Signature.{Signature}
-use Rattle.node_position.specs.Games.{Game}
-use Rattle.rayon.proofs.ToStd.{slice-AllZip}
-use Rattle.segment_store.specs.Finished.{IsCanonicalOf}
+use Rattle.std.proofs.Common.{arith, rules, subst}
+use Rattle.std.proofs.lemmas.List.{take_all}
+use Rattle.session_core.specs.Listing.{AreFormsOf}
+use Rattle.session_core.proofs.FoundGames.{forms-next}
 use Rattle.session_core.proofs.forms.canonical_forms.Goals as goal
 
+pub loop-game-preserved : goal.loop-game-preserved
+loop-game-preserved c = forms-next c.args.games.now c.loop-game.game-index c.game-item.result c.loop-game.forms.items c.push.new.self.items _ c.loop-game-test.true c.game-item.is c.loop-game.invariant (search rules) c.in_ok-push.ensures.items
+
 pub returns : goal.returns
-returns g c =
-    let slice = ap (λ it. it.slice.now) c.map.ensures.base ∙ c.par_iter.ensures in
-    let done = c.in_ok-forms.ensures in
-    let chain = done.1 in
-    rw done.2 (slice-AllZip chain.0 c.args.games.now (chain.1 ∙ slice) (λ (game : Bor Game) (form : Signature). IsCanonicalOf game.now.tree form.bytes) done.0 chain.2)
+returns c = subst (λ gs. AreFormsOf gs c.loop-game.forms.items) (take_all c.loop-game.game-index c.args.games.now (omega (arith, c.loop-game-test.false))) c.loop-game.invariant

@@ -14,13 +14,13 @@ use Rattle.session_core.proofs.ListTexts.{IsDoublesText-printed}
 use Rattle.session_core.proofs.lists.append_doubles.Goals as goal
 
 pub games_by_key-requires-clause-most : goal.games_by_key-requires-clause-most
-games_by_key-requires-clause-most g c = few_games c.as_slice-2.result.now c.in_ok-games.games.items (view_of c.args.version.now).games c.game_count-count.result c.as_slice-2.ensures.value c.in_ok-games.ensures c.game_count-count.ensures.value c.game_count-count.ensures.most
+games_by_key-requires-clause-most c = few_games c.as_slice-2.result.now c.in_ok-games.games.items (view_of c.args.version.now).games c.game_count-count.result c.as_slice-2.ensures.value c.in_ok-games.ensures c.game_count-count.ensures.value c.game_count-count.ensures.most
 
 pub games_by_key-requires-clause-as_many : goal.games_by_key-requires-clause-as_many
-games_by_key-requires-clause-as_many g c = ap length c.as_slice-3.ensures.value ∙ (forms-long _ _ c.in_ok-forms.ensures ∙ (ap length c.as_slice.ensures.value ∙ sym (ap length c.as_slice-2.ensures.value)))
+games_by_key-requires-clause-as_many c = ap length c.as_slice-3.ensures.value ∙ (forms-long _ _ c.in_ok-forms.ensures ∙ (ap length c.as_slice.ensures.value ∙ sym (ap length c.as_slice-2.ensures.value)))
 
 pub returns-clause-ok : goal.returns-clause-ok
-returns-clause-ok g c =
+returns-clause-ok c =
     let entries = c.in_ok-by_key.by_key.entries in
     let all = YieldsList-end (YieldsList-from_rest entries (c.into_iter-key-iterator.ensures.into_iter_gives ∙ c.iter-key-items.ensures.rest)) c.loop-key.yielded _ c.loop-key.yielded_by _ _ c.in-None.is c.next.ensures.steps in
     let line : Group → List ℕ = λ g. double_text g.form g.games in
