@@ -1,24 +1,19 @@
 -- Candidates that are listed row by row, a placement after the other.
-use Prim.Native.Nat.{zero}
-use Rattle.std.proofs.Common.{◌≡◌, ℕ, suc, ◌+◌, ◌*◌, ◌<◌, ◌≤◌, ◌↔◌, ◌⊎◌, List, [], ◌∷◌, ◌++◌, Option, None, length, get_or, slice_index, slice_index_or, bit_and, append_assoc, refl, sym, ◌∙◌, ap, subst, arith, inl, inr}
+use Rattle.std.proofs.Common.{◌≡◌, ℕ, ◌+◌, ◌<◌, ◌≤◌, ◌↔◌, ◌⊎◌, List, [], ◌∷◌, ◌++◌, Option, None, length, get_or, slice_index, slice_index_or, bit_and, append_assoc, refl, sym, ◌∙◌, ap, subst, arith, inl, inr}
 use mathlib.Core.List.{IsPrefix}
 use Rattle.std.specs.Int.{bit_at}
 use Rattle.std.specs.Option.{IsSome, IsSomeAnd}
 use Rattle.std.specs.Prelude.{◌≢◌, All, AllPairs, Any, Some}
-use Rattle.std.proofs.Math.Nat.{mul-le-mul_right}
 use Rattle.std.proofs.lemmas.Bool.{cases_lt}
 use Rattle.std.proofs.lemmas.List.{append-nil, get_or_append_left, get_or_push, length_push}
 use Rattle.std.proofs.lemmas.List.Elements.{All-nil, All-push, All-weaker}
 use Rattle.std.proofs.lemmas.List.Quantifiers.{all_pairs_push}
-use Rattle.std.proofs.lemmas.Nat.{mul-add-lt}
 use Rattle.std.proofs.lemmas.Nat.Bits.{bit_at-zero}
-use Rattle.kb_geometry.specs.declared.shape.Shape.{Shape}
-use Rattle.kb_geometry.specs.Board.{cols_of, point_count, rows_of}
 use Rattle.kb_geometry.proofs.Lists.{Any-kept}
 use Rattle.kb_geometry.proofs.Prefixes.{prefix_same, prefix_trans}
-use Rattle.kb_geometry.proofs.Shapes.{point_count-le-most}
-use Rattle.pattern_images.specs.ImageList.{IsPlacedOn, no_placement, placement_at}
-use Rattle.pattern_images.specs.Placements.{IsBefore, Placement}
+use Rattle.pattern_images.specs.ImageList.{ImageList, placement_at}
+use Rattle.ready_images.specs.declared.row.Row.{Row}
+use Rattle.ready_images.specs.Prepared.{IsPreparedAs}
 use Rattle.final_index.specs.declared.ever_sets.EverSets.{EverSets}
 use Rattle.final_index.specs.Planes.{PlaneGames}
 use Rattle.candidate_sieve.specs.declared.candidates.Candidate.{Candidate}
@@ -31,56 +26,14 @@ use Rattle.final_index.proofs.KeptBits.{and-bit}
 pub unchanged-behind : (old new : List Candidate) → new ≡ old → IsPrefix old new
 unchanged-behind old new same = ([], append-nil old ∙ sym same)
 
-one-behind : (i games : ℕ) (old new : List Candidate) → IsAddedFor i games old new → IsPrefix old new
-one-behind i games old new (inl none) = unchanged-behind old new none.1
-one-behind i games old new (inr pushed) = (record { placement = i; games = games } ∷ [], sym pushed.1)
+one-behind : (row : Row) (k i games : ℕ) (old new : List Candidate) → IsAddedFor row k i games old new → IsPrefix old new
+one-behind row k i games old new (inl none) = unchanged-behind old new none.1
+one-behind row k i games old new (inr pushed) = (record { placement = i; base = row.base + k; class = row.class; games = games } ∷ [], sym pushed.1)
 
-pub added-behind : (numbers words : List ℕ) (old : List Candidate) (k : ℕ) (new : List Candidate) → AreAddedFor numbers words old k new → IsPrefix old new
-added-behind numbers words old _ _ nothing = prefix_same old
-added-behind numbers words old _ next (one_more k now _ so_far last) =
-    prefix_trans old now next (added-behind numbers words old k now so_far) (one-behind (slice_index numbers k) (slice_index words k) now next last)
-
--- ---- how many placements there are
-
--- so far behind the placements before it stands the upper left point
-abbrev first_of : Shape → Placement → ℕ
-first_of shape placement = placement.y * cols_of shape + placement.x
-
--- a placement that stands before another has a lesser point, or the same and a lesser label
-earlier : (shape : Shape) (a b : Placement) → IsPlacedOn shape a → IsBefore a b → (first_of shape a < first_of shape b) ⊎ ((first_of shape a ≡ first_of shape b) × (a.label < b.label))
-earlier shape a b placed (inl above) =
-    let rows : (a.y + 1) * cols_of shape ≤ b.y * cols_of shape = mul-le-mul_right (cols_of shape) (omega arith) in
-    inl (omega (arith, placed.columns, placed.some_column))
-earlier shape a b placed (inr (same_row, inl left)) = let e : a.y * cols_of shape ≡ b.y * cols_of shape = ap (λ (y : ℕ). y * cols_of shape) same_row in inl (omega arith)
-earlier shape a b placed (inr (same_row, inr (same, less))) = let e : a.y * cols_of shape ≡ b.y * cols_of shape = ap (λ (y : ℕ). y * cols_of shape) same_row in inr (omega arith, less)
-
-first-lt : (shape : Shape) (a : Placement) → IsPlacedOn shape a → first_of shape a < point_count shape
-first-lt shape a placed =
-    let below : a.y * cols_of shape + a.x < cols_of shape * rows_of shape =
-    mul-add-lt a.y (cols_of shape) a.x (rows_of shape) (omega (arith, placed.rows, placed.some_row)) (omega (arith, placed.columns, placed.some_column)) in
-    omega arith
-
-module _ (shape : Shape) (placements : List Placement) (placed : All (IsPlacedOn shape) placements) (ordered : AllPairs IsBefore placements) where
-  -- the labels of the first so many are labels
-  abbrev pub HaveLabels : ℕ → Type 0
-  HaveLabels count = (j : ℕ) → j < count → (placement_at placements j).label < 16
-
-  -- a placement's number is at most 16 times that of its point, and its label
-  number-le : (i : ℕ) → i < length placements → HaveLabels i → i ≤ 16 * first_of shape (placement_at placements i) + (placement_at placements i).label
-  number-le zero lt labels = omega arith
-  number-le (suc i) lt labels =
-      let before : i ≤ 16 * first_of shape (placement_at placements i) + (placement_at placements i).label = number-le i (omega arith) (λ j low. labels j (omega arith)) in
-      let label : (placement_at placements i).label < 16 = labels i (omega arith) in
-      elim (earlier shape (placement_at placements i) (placement_at placements (suc i)) (placed i no_placement (omega arith)) (ordered i (suc i) no_placement (omega arith) lt)) [
-        | inl less ↦ omega arith
-        | inr same ↦ omega (arith, same.0, same.1)
-      ]
-
-  pub number-small : (i : ℕ) → i < length placements → HaveLabels i → (placement_at placements i).label < 16 → i < 4294967296
-  number-small i lt labels label =
-      let le = number-le i lt labels in
-      let first = first-lt shape (placement_at placements i) (placed i no_placement lt) in
-      omega (arith, le, first, label, point_count-le-most shape)
+pub added-behind : (row : Row) (numbers words : List ℕ) (old : List Candidate) (k : ℕ) (new : List Candidate) → AreAddedFor row numbers words old k new → IsPrefix old new
+added-behind row numbers words old _ _ nothing = prefix_same old
+added-behind row numbers words old _ next (one_more k now _ so_far last) =
+    prefix_trans old now next (added-behind row numbers words old k now so_far) (one-behind row k (slice_index numbers k) (slice_index words k) now next last)
 
 -- ---- some element
 
@@ -102,6 +55,10 @@ Any-cases P xs y (k, x, lt, is, holds) =
 abbrev pub IsFor : ℕ → ℕ → Candidate → Type 0
 IsFor i g c = (c.placement ≡ i) × (bit_at c.games g ≡ 1)
 
+-- the candidate is for a placement of the images, with its base and its class
+abbrev IsOwn : ImageList → Candidate → Type 0
+IsOwn images c = IsPreparedAs images c.placement c.base c.class
+
 -- two candidates are for two placements
 abbrev pub IsForAnother : Candidate → Candidate → Type 0
 IsForAnother c d = c.placement ≢ d.placement
@@ -111,30 +68,32 @@ abbrev pub IsAmong : List ℕ → ℕ → ℕ → Type 0
 IsAmong numbers count i = (j : ℕ) × (j < count) × (slice_index numbers j ≡ i)
 
 -- the candidates are, for each of the first placements of the list, the games that may have it
-pub record AreCandidatesTo (planes : PlaneGames) (placements : List Placement) (there : ℕ) (numbers : List ℕ) (count : ℕ) (found : List Candidate) : Type 0 where
+pub record AreCandidatesTo (planes : PlaneGames) (images : ImageList) (there : ℕ) (numbers : List ℕ) (count : ℕ) (found : List Candidate) : Type 0 where
   pub before : All (λ (c : Candidate). IsAmong numbers count c.placement) found
+  pub prepared : All (IsOwn images) found
   pub some_game : All (λ (c : Candidate). 0 < c.games) found
   pub distinct : AllPairs IsForAnother found
-  pub exact : (j g : ℕ) → j < count → g < 64 → Any (IsFor (slice_index numbers j) g) found ↔ ((bit_at there g ≡ 1) × IsPossibleIn planes g (placement_at placements (slice_index numbers j)))
+  pub exact : (j g : ℕ) → j < count → g < 64 → Any (IsFor (slice_index numbers j) g) found ↔ ((bit_at there g ≡ 1) × IsPossibleIn planes g (placement_at images.placements (slice_index numbers j)))
 
 -- the list has gained such candidates
-pub record AreAddedTo (planes : PlaneGames) (placements : List Placement) (there : ℕ) (numbers : List ℕ) (count : ℕ) (old new : List Candidate) : Type 0 where
+pub record AreAddedTo (planes : PlaneGames) (images : ImageList) (there : ℕ) (numbers : List ℕ) (count : ℕ) (old new : List Candidate) : Type 0 where
   pub more : List Candidate
   pub added : new ≡ old ++ more
-  pub are : AreCandidatesTo planes placements there numbers count more
+  pub are : AreCandidatesTo planes images there numbers count more
 
-module _ (planes : PlaneGames) (placements : List Placement) (there : ℕ) (numbers : List ℕ) (old : List Candidate) where
-  pub added-start : AreAddedTo planes placements there numbers 0 old old
+module _ (planes : PlaneGames) (images : ImageList) (there : ℕ) (numbers : List ℕ) (old : List Candidate) where
+  pub added-start : AreAddedTo planes images there numbers 0 old old
   added-start = record {
     more = [];
     added = sym (append-nil old);
-    are = record { before = All-nil (λ (c : Candidate). IsAmong numbers 0 c.placement); some_game = All-nil (λ (c : Candidate). 0 < c.games); distinct = λ i j d before lt. absurd (omega (arith, lt)); exact = λ j g lt. absurd (omega arith) };
+    are = record { before = All-nil (λ (c : Candidate). IsAmong numbers 0 c.placement); prepared = All-nil (IsOwn images); some_game = All-nil (λ (c : Candidate). 0 < c.games); distinct = λ i j d before lt. absurd (omega (arith, lt)); exact = λ j g lt. absurd (omega arith) };
   }
 
   -- each number stands in the list once
   module _ (once : (j k : ℕ) → j < length numbers → k < length numbers → slice_index numbers j ≡ slice_index numbers k → j ≡ k) where
-    module _ (count : ℕ) (within : count < length numbers) (now next : List Candidate) (so_far : AreAddedTo planes placements there numbers count old now) (games : ℕ)
-        (told : (g : ℕ) → g < 64 → (bit_at games g ≡ 1) ↔ ((bit_at there g ≡ 1) × IsPossibleIn planes g (placement_at placements (slice_index numbers count)))) where
+    module _ (count : ℕ) (within : count < length numbers) (now next : List Candidate) (so_far : AreAddedTo planes images there numbers count old now) (games : ℕ)
+        (told : (g : ℕ) → g < 64 → (bit_at games g ≡ 1) ↔ ((bit_at there g ≡ 1) × IsPossibleIn planes g (placement_at images.placements (slice_index numbers count))))
+        (row : Row) (k : ℕ) (own : IsPreparedAs images (slice_index numbers count) (row.base + k) row.class) where
       abbrev here : ℕ
       here = slice_index numbers count
 
@@ -149,9 +108,9 @@ module _ (planes : PlaneGames) (placements : List Placement) (there : ℕ) (numb
 
       -- no candidate so far is for the next placement
       not-next : (g : ℕ) → Any (IsFor here g) so_far.more → ⊥
-      not-next g (k, c, lt, is, at) =
-          let same : (get_or so_far.more k c).placement ≡ here = ap (λ (d : Candidate). d.placement) is ∙ at.0 in
-          new-number (subst (IsAmong numbers count) same (so_far.are.before k c lt))
+      not-next g (j, c, lt, is, at) =
+          let same : (get_or so_far.more j c).placement ≡ here = ap (λ (d : Candidate). d.placement) is ∙ at.0 in
+          new-number (subst (IsAmong numbers count) same (so_far.are.before j c lt))
 
       -- the games of one of the placements so far, and of the next one
       by-place : (Q : ℕ → Type 0) → ((j : ℕ) → j < count → Q j) → Q count → (j : ℕ) → j < count + 1 → Q j
@@ -161,15 +120,16 @@ module _ (planes : PlaneGames) (placements : List Placement) (there : ℕ) (numb
             | inr from ↦ let at : count ≡ j = omega (arith, lt, from) in subst Q at last
           ]
 
-      added-none : games ≡ 0 → next ≡ now → AreAddedTo planes placements there numbers (count + 1) old next
+      added-none : games ≡ 0 → next ≡ now → AreAddedTo planes images there numbers (count + 1) old next
       added-none none same = record {
         more = so_far.more;
         added = same ∙ so_far.added;
         are = record {
           before = All-weaker (λ (c : Candidate). IsAmong numbers count c.placement) (λ (c : Candidate). IsAmong numbers (count + 1) c.placement) (λ c. among-more c.placement) so_far.more so_far.are.before;
+          prepared = so_far.are.prepared;
           some_game = so_far.are.some_game;
           distinct = so_far.are.distinct;
-          exact = λ j g lt few. by-place (λ j. Any (IsFor (slice_index numbers j) g) so_far.more ↔ ((bit_at there g ≡ 1) × IsPossibleIn planes g (placement_at placements (slice_index numbers j))))
+          exact = λ j g lt few. by-place (λ j. Any (IsFor (slice_index numbers j) g) so_far.more ↔ ((bit_at there g ≡ 1) × IsPossibleIn planes g (placement_at images.placements (slice_index numbers j))))
               (λ j below. so_far.are.exact j g below few)
               (λ h. absurd (not-next g h), λ h. let one = (told g few).1 h in absurd (omega (arith, one, ap (λ (n : ℕ). bit_at n g) none, bit_at-zero g)))
               j lt;
@@ -177,11 +137,11 @@ module _ (planes : PlaneGames) (placements : List Placement) (there : ℕ) (numb
       }
 
       abbrev last_one : Candidate
-      last_one = record { placement = here; games = games }
+      last_one = record { placement = here; base = row.base + k; class = row.class; games = games }
 
-      exact-more : (j g : ℕ) → j < count + 1 → g < 64 → Any (IsFor (slice_index numbers j) g) (so_far.more ++ last_one ∷ []) ↔ ((bit_at there g ≡ 1) × IsPossibleIn planes g (placement_at placements (slice_index numbers j)))
+      exact-more : (j g : ℕ) → j < count + 1 → g < 64 → Any (IsFor (slice_index numbers j) g) (so_far.more ++ last_one ∷ []) ↔ ((bit_at there g ≡ 1) × IsPossibleIn planes g (placement_at images.placements (slice_index numbers j)))
       exact-more j g lt few =
-          by-place (λ j. Any (IsFor (slice_index numbers j) g) (so_far.more ++ last_one ∷ []) ↔ ((bit_at there g ≡ 1) × IsPossibleIn planes g (placement_at placements (slice_index numbers j))))
+          by-place (λ j. Any (IsFor (slice_index numbers j) g) (so_far.more ++ last_one ∷ []) ↔ ((bit_at there g ≡ 1) × IsPossibleIn planes g (placement_at images.placements (slice_index numbers j))))
           (λ j below. (
             λ h. elim (Any-cases (IsFor (slice_index numbers j) g) so_far.more last_one h) [
               | inl was ↦ (so_far.are.exact j g below few).0 was
@@ -197,36 +157,38 @@ module _ (planes : PlaneGames) (placements : List Placement) (there : ℕ) (numb
           )
           j lt
 
-      added-one : 0 < games → next ≡ now ++ last_one ∷ [] → AreAddedTo planes placements there numbers (count + 1) old next
+      added-one : 0 < games → next ≡ now ++ last_one ∷ [] → AreAddedTo planes images there numbers (count + 1) old next
       added-one some pushed = record {
         more = so_far.more ++ last_one ∷ [];
         added = pushed ∙ ap (λ (xs : List Candidate). xs ++ last_one ∷ []) so_far.added ∙ append_assoc old so_far.more (last_one ∷ []);
         are = record {
           before = All-push (λ (c : Candidate). IsAmong numbers (count + 1) c.placement) so_far.more last_one
               (All-weaker (λ (c : Candidate). IsAmong numbers count c.placement) (λ (c : Candidate). IsAmong numbers (count + 1) c.placement) (λ c. among-more c.placement) so_far.more so_far.are.before) (count, omega arith, refl);
+          prepared = All-push (IsOwn images) so_far.more last_one so_far.are.prepared own;
           some_game = All-push (λ (c : Candidate). 0 < c.games) so_far.more last_one so_far.are.some_game some;
           distinct = all_pairs_push IsForAnother so_far.more last_one so_far.are.distinct (λ k d lt e. new-number (subst (IsAmong numbers count) e (so_far.are.before k d lt)));
           exact = exact-more;
         };
       }
 
-      added-more : IsAddedFor here games now next → AreAddedTo planes placements there numbers (count + 1) old next
+      added-more : IsAddedFor row k here games now next → AreAddedTo planes images there numbers (count + 1) old next
       added-more (inl none) = added-none none.0 none.1
       added-more (inr pushed) = added-one pushed.0 pushed.1
 
     -- ---- a row of placements
 
-    module _ (start : ℕ) (now : List Candidate) (so_far : AreAddedTo planes placements there numbers start old now) (part words : List ℕ) where
+    module _ (start : ℕ) (now : List Candidate) (so_far : AreAddedTo planes images there numbers start old now) (row : Row) (part words : List ℕ) where
       pub added-row : (n : ℕ) (next : List Candidate) → start + n ≤ length numbers → ((k : ℕ) → k < n → slice_index part k ≡ slice_index numbers (start + k)) →
-          ((k g : ℕ) → k < n → g < 64 → (bit_at (slice_index words k) g ≡ 1) ↔ ((bit_at there g ≡ 1) × IsPossibleIn planes g (placement_at placements (slice_index numbers (start + k))))) →
-          AreAddedFor part words now n next → AreAddedTo planes placements there numbers (start + n) old next
-      added-row n next within same told nothing = let at : start ≡ start + 0 = omega arith in subst (λ (m : ℕ). AreAddedTo planes placements there numbers m old now) at so_far
-      added-row n next within same told (one_more k before _ those last) =
+          ((k g : ℕ) → k < n → g < 64 → (bit_at (slice_index words k) g ≡ 1) ↔ ((bit_at there g ≡ 1) × IsPossibleIn planes g (placement_at images.placements (slice_index numbers (start + k))))) →
+          ((k : ℕ) → k < n → IsPreparedAs images (slice_index numbers (start + k)) (row.base + k) row.class) →
+          AreAddedFor row part words now n next → AreAddedTo planes images there numbers (start + n) old next
+      added-row n next within same told own nothing = let at : start ≡ start + 0 = omega arith in subst (λ (m : ℕ). AreAddedTo planes images there numbers m old now) at so_far
+      added-row n next within same told own (one_more k before _ those last) =
           let at : start + k + 1 ≡ start + (k + 1) = omega arith in
-          subst (λ (m : ℕ). AreAddedTo planes placements there numbers m old next) at
+          subst (λ (m : ℕ). AreAddedTo planes images there numbers m old next) at
           (added-more (start + k) (omega (arith, within)) before next
-          (added-row k before (omega (arith, within)) (λ j lt. same j (omega (arith, lt))) (λ j g lt. told j g (omega (arith, lt))) those)
-          (slice_index words k) (λ g. told k g (omega arith)) (subst (λ (i : ℕ). IsAddedFor i (slice_index words k) before next) (same k (omega arith)) last))
+          (added-row k before (omega (arith, within)) (λ j lt. same j (omega (arith, lt))) (λ j g lt. told j g (omega (arith, lt))) (λ j lt. own j (omega (arith, lt))) those)
+          (slice_index words k) (λ g. told k g (omega arith)) row k (own k (omega arith)) (subst (λ (i : ℕ). IsAddedFor row k i (slice_index words k) before next) (same k (omega arith)) last))
 
   -- ---- all placements
 
@@ -235,23 +197,22 @@ module _ (planes : PlaneGames) (placements : List Placement) (there : ℕ) (numb
   some-and (Some sets) P h = refl
 
   pub added-end : (asked present : ℕ) (new : List Candidate) → there ≡ bit_and asked present → ((g : ℕ) → g < 64 → (bit_at present g ≡ 1) ↔ IsSome (slice_index_or planes.games g None)) →
-      ((k : ℕ) → k < length numbers → slice_index numbers k < length placements) → ((i : ℕ) → i < length placements → IsAmong numbers (length numbers) i) →
-      AreAddedTo planes placements there numbers (length numbers) old new → AreCandidatesAdded planes placements asked old new
-  added-end asked present new is told in_range complete so_far = record {
+      ((i : ℕ) → i < length images.placements → IsAmong numbers (length numbers) i) →
+      AreAddedTo planes images there numbers (length numbers) old new → AreCandidatesAdded planes images asked old new
+  added-end asked present new is told complete so_far = record {
     more = so_far.more;
     added = so_far.added;
     are = record {
-      in_range = All-weaker (λ (c : Candidate). IsAmong numbers (length numbers) c.placement) (λ (c : Candidate). c.placement < length placements)
-          (λ c among. omega (arith, in_range among.0 among.1, among.2)) so_far.more so_far.are.before;
+      prepared = so_far.are.prepared;
       some_game = so_far.are.some_game;
       distinct = so_far.are.distinct;
       exact = λ i g lt few.
           let among = complete i lt in
-          let here = subst (λ (n : ℕ). Any (IsFor n g) so_far.more ↔ ((bit_at there g ≡ 1) × IsPossibleIn planes g (placement_at placements n))) among.2 (so_far.are.exact among.0 g among.1 few) in
+          let here = subst (λ (n : ℕ). Any (IsFor n g) so_far.more ↔ ((bit_at there g ≡ 1) × IsPossibleIn planes g (placement_at images.placements n))) among.2 (so_far.are.exact among.0 g among.1 few) in
           let both = and-bit asked present g in
           let bits = ap (λ (n : ℕ). bit_at n g) is in (
             λ h. let e = here.0 h in ((both.0 (sym bits ∙ e.0)).0, e.1),
-            λ h. here.1 (bits ∙ both.1 (h.0, (told g few).1 (some-and (slice_index_or planes.games g None) (λ sets. MeetsCells planes.shape sets (placement_at placements i)) h.1)), h.1),
+            λ h. here.1 (bits ∙ both.1 (h.0, (told g few).1 (some-and (slice_index_or planes.games g None) (λ sets. MeetsCells planes.shape sets (placement_at images.placements i)) h.1)), h.1),
           );
     };
   }

@@ -10,21 +10,20 @@ use Rattle.kb_geometry.specs.declared.shape.Shape.{Shape}
 use Rattle.capture_board.specs.Deltas.{Deltas, node_count}
 use Rattle.pattern_images.specs.ImageList.{AreImages, ImageList, IsPlacedOn, grid_at, no_placement, placement_at}
 use Rattle.pattern_images.specs.Placements.{Placement}
-use Rattle.capture_index.specs.declared.stretch.Want.{Want}
-use Rattle.capture_index.specs.Wants.{AreWantsOf}
+use Rattle.ready_images.specs.declared.row.Row.{Row}
+use Rattle.ready_images.specs.declared.want.Want.{Want}
+use Rattle.ready_images.specs.Rows.{AreRowsOf, IsRowIn}
+use Rattle.ready_images.specs.Wants.{AreWantsOf}
 use Rattle.final_index.specs.declared.ever_sets.EverSets.{EverSets}
 use Rattle.final_index.specs.Ever.{AreSetsOf}
 use Rattle.final_index.specs.Planes.{PlaneGames}
 use Rattle.final_index.proofs.KeptBits.{and-bit, or-bit}
-use Rattle.candidate_sieve.specs.declared.placement_rows.PlacementRow.{PlacementRow}
 use Rattle.candidate_sieve.specs.BlockGames.{HaveEach}
 use Rattle.candidate_sieve.specs.Candidates.{IsPossibleIn, MeetsCells}
 use Rattle.candidate_sieve.specs.Kept.{HadCorners, IsKeptBy, WereAllowed}
 use Rattle.candidate_sieve.specs.KeptWords.{AreAmong, AreKeptOf, AreThose, HasNumbers, IsGameOf, IsMetBy}
-use Rattle.candidate_sieve.specs.PlacementRows.{AreRowsOf, IsRowIn}
 use Rattle.candidate_sieve.proofs.CellsTold.{meets-were, were-meets}
 use Rattle.candidate_sieve.proofs.KeptPlacements.{kept-at, kept-by}
-use Rattle.candidate_sieve.proofs.PlacementLists.{number-found}
 use Rattle.candidate_sieve.proofs.RowsSieved.{row-told, sliced-length, sliced-number}
 
 -- ---- the games of the words of some placements
@@ -89,13 +88,12 @@ cells-told changes shape placement (Some sets) some same are placed = (
   λ were. subst (λ (s : Shape). MeetsCells s sets placement) same (were-meets changes sets are placement (subst (λ (s : Shape). IsPlacedOn s placement) (sym same) placed) were),
 )
 
--- the placements of a row, read from the list
-pub part-in_range : (images : ImageList) (numbers : List ℕ) → ((k : ℕ) → k < length numbers → slice_index numbers k < length images.placements) → (row : PlacementRow) → IsRowIn images numbers row → (read : List ℕ) → read ≡ numbers →
-    (k : ℕ) → k < length (slice_range read row.start (row.start + row.count)) → slice_index (slice_range read row.start (row.start + row.count)) k < length images.placements
-part-in_range images numbers in_range row is read same k lt =
-    let all = ap (λ (ns : List ℕ). length (slice_range ns row.start (row.start + row.count))) same ∙ sliced-length numbers row.start row.count is.within in
-    let below : k < row.count = omega (arith, lt, all) in
-    let at = ap (λ (ns : List ℕ). slice_index (slice_range ns row.start (row.start + row.count)) k) same ∙ sliced-number numbers row.start row.count k below in
+-- the placements of a row are among those of the images
+pub part-in_range : (images : ImageList) (numbers : List ℕ) → ((k : ℕ) → k < length numbers → slice_index numbers k < length images.placements) → (row : Row) → IsRowIn images numbers row → (part : List ℕ) → part ≡ slice_range numbers row.start (row.start + row.count) →
+    (k : ℕ) → k < length part → slice_index part k < length images.placements
+part-in_range images numbers in_range row is part same k lt =
+    let below : k < row.count = omega (arith, lt, ap length same, sliced-length numbers row.start row.count is.within) in
+    let at : slice_index part k ≡ slice_index numbers (row.start + k) = ap (λ (ns : List ℕ). slice_index ns k) same ∙ sliced-number numbers row.start row.count k below in
     omega (arith, at, in_range (row.start + k) (omega (arith, is.within, below)))
 
 -- ---- the rows so far
@@ -120,7 +118,7 @@ module _ (images : ImageList) (planes : PlaneGames) (corners : List (Bor (List (
     is-there g changes lt game = (told g lt).1 (some-of (slice_index_or planes.games g None) (AreSetsOf changes) game.sets)
 
     module _ (are-images : AreImages images) (same : images.shape ≡ planes.shape) (in_range : (k : ℕ) → k < length numbers → slice_index numbers k < length images.placements)
-        (row : PlacementRow) (is : IsRowIn images numbers row) (wants : List Want) (are : AreWantsOf images.shape (grid_at images.grids row.class) wants) (kept : ℕ) (fits : kept < 2 ^ 64) (words : List ℕ)
+        (row : Row) (is : IsRowIn images numbers row) (wants : List Want) (are : AreWantsOf images.shape (grid_at images.grids row.class) wants) (kept : ℕ) (fits : kept < 2 ^ 64) (words : List ℕ)
         (have : (k : ℕ) → k < row.count → HaveEach planes.games (row.base + k) wants (bit_and present (bit_not w64 kept)) (length wants) (slice_index words k)) where
       abbrev left : ℕ
       left = bit_and present (bit_not w64 kept)
@@ -191,7 +189,7 @@ module _ (images : ImageList) (planes : PlaneGames) (corners : List (Bor (List (
 
     -- ---- all rows, or as many as it takes
 
-    module _ (rows : List PlacementRow) (made : AreRowsOf images numbers rows) (word : ℕ) where
+    module _ (rows : List Row) (made : AreRowsOf images numbers rows) (word : ℕ) where
       kept-of : (count : ℕ) (changes : Deltas) → count ≤ length numbers → IsKeptTo count changes → (k : ℕ) × (k < length numbers) × IsKeptBy changes (placement_at images.placements (slice_index numbers k))
       kept-of count changes few (k, lt, by) = (k, omega (arith, few, lt), by)
 
@@ -202,7 +200,7 @@ module _ (images : ImageList) (planes : PlaneGames) (corners : List (Bor (List (
               λ e. let (k, below, by) = told.0 e in kept-by changes images.placements (slice_index numbers k) (made.in_range k below) by,
               λ kept.
                   let (i, below, by) = kept-at changes images.placements kept in
-                  let (k, within, at) = number-found images numbers rows made i below in
+                  let (k, within, at) = made.complete i below in
                   told.1 (k, within, subst (λ (n : ℕ). IsKeptBy changes (placement_at images.placements n)) (sym at) by),
             );
         there = so_far.there;

@@ -1,4 +1,3 @@
-pub mod FrameKeys
 pub mod CornersTold
 pub mod CellsTold
 pub mod KeptPlacements
@@ -6,8 +5,6 @@ pub mod NotedPoints
 pub mod BegunLists
 pub mod GamesTold
 pub mod CandidateLists
-pub mod PlacementLists
-pub mod ClassLists
 pub mod RowsSieved
 pub mod OccurrencesKept
 pub mod CornerGames

@@ -2,24 +2,23 @@
 use Rattle.std.proofs.Common.{◌≡◌, ◌↔◌, ℕ, ◌+◌, ◌-◌, ◌<◌, ◌≤◌, List, [], ◌∷◌, Option, None, drop, length, slice_index, slice_index_or, ap, ◌∙◌, subst, arith}
 use Rattle.std.specs.Int.{bit_at}
 use Rattle.std.specs.Option.{IsSome}
-use Rattle.std.specs.Prelude.{All, slice_range}
+use Rattle.std.specs.Prelude.{slice_range}
 use Rattle.std.proofs.lemmas.List.{get_or-drop, get_or-take, length-drop, length-take-le}
 use Rattle.kb_geometry.specs.declared.shape.Shape.{Shape}
-use Rattle.kb_geometry.specs.Board.{point_count}
 use Rattle.pattern_images.specs.Grid.{Grid}
 use Rattle.pattern_images.specs.ImageList.{AreImages, ImageList, IsPlacedOn, grid_at, no_placement, placement_at}
 use Rattle.pattern_images.specs.Placements.{Placement}
-use Rattle.capture_index.specs.declared.stretch.Want.{Want}
-use Rattle.capture_index.specs.Wants.{AreWantsOf, base_of}
-use Rattle.capture_index.proofs.WantsOfPlacements.{wants-on_board}
+use Rattle.ready_images.specs.declared.row.Row.{Row}
+use Rattle.ready_images.specs.declared.want.Want.{Want}
+use Rattle.ready_images.specs.Prepared.{IsPreparedAs}
+use Rattle.ready_images.specs.Rows.{IsRowIn}
+use Rattle.ready_images.specs.Wants.{AreWantsOf, base_of}
 use Rattle.final_index.specs.Planes.{PlaneGames}
-use Rattle.candidate_sieve.specs.declared.placement_rows.PlacementRow.{PlacementRow}
 use Rattle.candidate_sieve.specs.declared.candidates.Candidate.{Candidate}
 use Rattle.final_index.specs.declared.ever_sets.EverSets.{EverSets}
 use Rattle.candidate_sieve.specs.BlockGames.{AreAddedFor, HaveEach, IsAddedFor, AreRowCandidatesAdded}
 use Rattle.candidate_sieve.specs.BlockGames.AreAddedFor.{nothing, one_more}
 use Rattle.candidate_sieve.specs.Candidates.{IsPossibleIn}
-use Rattle.candidate_sieve.specs.PlacementRows.{IsRowIn}
 use Rattle.candidate_sieve.proofs.CandidateLists.{AreAddedTo, added-row}
 use Rattle.candidate_sieve.proofs.GamesTold.{possible-told}
 
@@ -37,7 +36,7 @@ sliced-number xs start count k lt = get_or-take (start + count - start) (drop st
 -- ---- a row
 
 module _ (images : ImageList) (are-images : AreImages images) (planes : PlaneGames) (same : images.shape ≡ planes.shape) (numbers : List ℕ) (in_range : (k : ℕ) → k < length numbers → slice_index numbers k < length images.placements)
-    (row : PlacementRow) (is : IsRowIn images numbers row) (wants : List Want) (are : AreWantsOf images.shape (grid_at images.grids row.class) wants) where
+    (row : Row) (is : IsRowIn images numbers row) (wants : List Want) (are : AreWantsOf images.shape (grid_at images.grids row.class) wants) where
   -- a placement of the row
   abbrev here : ℕ → Placement
   here k = placement_at images.placements (slice_index numbers (row.start + k))
@@ -51,12 +50,8 @@ module _ (images : ImageList) (are-images : AreImages images) (planes : PlaneGam
   at-base : (k : ℕ) → k < row.count → row.base + k ≡ base_of planes.shape (here k)
   at-base k lt = is.bases k lt ∙ ap (λ (s : Shape). base_of s (here k)) same
 
-  -- the points of the last placement are on the board, and so those of the others
-  pub row-on_board : All (λ (w : Want). row.base + w.offset + row.count ≤ point_count planes.shape) wants
-  row-on_board k d lt =
-      let last : row.count - 1 < row.count = omega (arith, is.some) in
-      let below = wants-on_board planes.shape (here (row.count - 1)) (placed (row.count - 1) last) wants (wants-of (row.count - 1) last) k d lt in
-      omega (arith, below, at-base (row.count - 1) last, is.some)
+  own : (k : ℕ) → k < row.count → IsPreparedAs images (slice_index numbers (row.start + k)) (row.base + k) row.class
+  own k lt = record { in_range = in_range (row.start + k) (omega (arith, is.within, lt)); has = is.classes k lt; at_base = is.bases k lt }
 
   pub row-told : (there : ℕ) (words : List ℕ) → ((g : ℕ) → g < 64 → bit_at there g ≡ 1 → IsSome (slice_index_or planes.games g None)) →
       ((k : ℕ) → k < row.count → HaveEach planes.games (row.base + k) wants there (length wants) (slice_index words k)) →
@@ -67,22 +62,22 @@ module _ (images : ImageList) (are-images : AreImages images) (planes : PlaneGam
   -- the candidates of the row are added
   pub row-added : (there : ℕ) → ((g : ℕ) → g < 64 → bit_at there g ≡ 1 → IsSome (slice_index_or planes.games g None)) →
       ((j k : ℕ) → j < length numbers → k < length numbers → slice_index numbers j ≡ slice_index numbers k → j ≡ k) →
-      (old now next : List Candidate) → AreAddedTo planes images.placements there numbers row.start old now →
-      AreRowCandidatesAdded planes.games row.base wants there (slice_range numbers row.start (row.start + row.count)) now next →
-      AreAddedTo planes images.placements there numbers (row.start + row.count) old next
+      (old now next : List Candidate) → AreAddedTo planes images there numbers row.start old now →
+      AreRowCandidatesAdded planes.games row wants there (slice_range numbers row.start (row.start + row.count)) now next →
+      AreAddedTo planes images there numbers (row.start + row.count) old next
   row-added there present once old now next so_far added =
       let part : List ℕ = slice_range numbers row.start (row.start + row.count) in
       let all : length part ≡ row.count = sliced-length numbers row.start row.count is.within in
-      added-row planes images.placements there numbers old once row.start now so_far part added.words row.count next is.within (sliced-number numbers row.start row.count)
-      (row-told there added.words present (λ k lt. added.have k (omega (arith, all, lt)))) (subst (λ (n : ℕ). AreAddedFor part added.words now n next) all added.added)
+      added-row planes images there numbers old once row.start now so_far row part added.words row.count next is.within (sliced-number numbers row.start row.count)
+      (row-told there added.words present (λ k lt. added.have k (omega (arith, all, lt)))) own (subst (λ (n : ℕ). AreAddedFor row part added.words now n next) all added.added)
 
 -- ---- a row of one placement
 
-pub one-added : (games : List (Option EverSets)) (base : ℕ) (wants : List Want) (there : ℕ) (numbers : List ℕ) (word : ℕ) (old new : List Candidate) → length numbers ≡ 1 → HaveEach games base wants there (length wants) word → IsAddedFor (slice_index numbers 0) word old new → AreRowCandidatesAdded games base wants there numbers old new
-one-added games base wants there numbers word old new one have added = record {
+pub one-added : (games : List (Option EverSets)) (row : Row) (wants : List Want) (there : ℕ) (numbers : List ℕ) (word : ℕ) (old new : List Candidate) → length numbers ≡ 1 → HaveEach games row.base wants there (length wants) word → IsAddedFor row 0 (slice_index numbers 0) word old new → AreRowCandidatesAdded games row wants there numbers old new
+one-added games row wants there numbers word old new one have added = record {
   words = word ∷ [];
   have = λ k lt.
       let first : 0 ≡ k = omega (arith, lt, one) in
-      subst (λ (i : ℕ). HaveEach games (base + i) wants there (length wants) (slice_index (word ∷ []) i)) first (subst (λ (b : ℕ). HaveEach games b wants there (length wants) word) (omega arith) have);
-  added = subst (λ (n : ℕ). AreAddedFor numbers (word ∷ []) old n new) (omega (arith, one)) (one_more 0 old new nothing added);
+      subst (λ (i : ℕ). HaveEach games (row.base + i) wants there (length wants) (slice_index (word ∷ []) i)) first (subst (λ (b : ℕ). HaveEach games b wants there (length wants) word) (omega arith) have);
+  added = subst (λ (n : ℕ). AreAddedFor row numbers (word ∷ []) old n new) (omega (arith, one)) (one_more 0 old new nothing added);
 }

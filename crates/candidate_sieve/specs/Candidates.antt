@@ -8,7 +8,8 @@ use Rattle.pattern_images.specs.declared.cell.PatternCell.{PatternCell}
 use Rattle.pattern_images.specs.declared.cell.PatternCell.TheVariants as cell
 use Rattle.pattern_images.specs.Grid.{cell_in}
 use Rattle.pattern_images.specs.Holds.{Allows, number_under}
-use Rattle.pattern_images.specs.ImageList.{placement_at}
+use Rattle.pattern_images.specs.ImageList.{ImageList, placement_at}
+use Rattle.ready_images.specs.Prepared.{IsPreparedAs}
 use Rattle.pattern_images.specs.Placements.{Placement}
 use Rattle.final_index.specs.declared.ever_sets.EverSets.{EverSets}
 use Rattle.final_index.specs.Ever.{set_of}
@@ -33,20 +34,20 @@ IsPossibleIn planes g placement =
     IsSomeAnd (slice_index_or planes.games g None) (λ sets. MeetsCells planes.shape sets placement)
 
 -- The candidates are, for each placement, exactly the games of the block among those that are asked
--- for whose sets meet its cells. A placement has one candidate at most, and a candidate has some
--- game.
-pub record AreCandidates (planes : PlaneGames) (placements : List Placement) (games : ℕ)
+-- for whose sets meet its cells. A placement has one candidate at most, with its base and its class,
+-- and a candidate has some game.
+pub record AreCandidates (planes : PlaneGames) (images : ImageList) (games : ℕ)
     (found : List Candidate) : Type 0 where
-  pub in_range : All (λ (c : Candidate). c.placement < length placements) found
+  pub prepared : All (λ (c : Candidate). IsPreparedAs images c.placement c.base c.class) found
   pub some_game : All (λ (c : Candidate). 0 < c.games) found
   pub distinct : AllPairs (λ (c d : Candidate). c.placement ≢ d.placement) found
-  pub exact : (i g : ℕ) → i < length placements → g < 64 →
+  pub exact : (i g : ℕ) → i < length images.placements → g < 64 →
       Any (λ (c : Candidate). (c.placement ≡ i) × (bit_at c.games g ≡ 1)) found
-      ↔ ((bit_at games g ≡ 1) × IsPossibleIn planes g (placement_at placements i))
+      ↔ ((bit_at games g ≡ 1) × IsPossibleIn planes g (placement_at images.placements i))
 
 -- the list has gained such candidates
-pub record AreCandidatesAdded (planes : PlaneGames) (placements : List Placement) (games : ℕ)
+pub record AreCandidatesAdded (planes : PlaneGames) (images : ImageList) (games : ℕ)
     (old new : List Candidate) : Type 0 where
   pub more : List Candidate
   pub added : new ≡ old ++ more
-  pub are : AreCandidates planes placements games more
+  pub are : AreCandidates planes images games more

@@ -1,15 +1,13 @@
 -- The games that are kept for a search, by two rules over all nodes: each cell of a placement was
 -- allowed at some node, and each corner that it covers stood as it asks at some node.
-use Rattle.std.specs.Prelude.{◌≡◌, ℕ, ◌<◌, List, Any}
-use Rattle.kb_geometry.specs.declared.shape.Shape.{Shape}
+use Rattle.std.specs.Prelude.{ℕ, ◌<◌, List, Any}
 use Rattle.kb_geometry.specs.Capture.{cell_at}
 use Rattle.capture_board.specs.Deltas.{Deltas, node_count, position_at}
 use Rattle.pattern_images.specs.declared.cell.PatternCell.{PatternCell}
-use Rattle.pattern_images.specs.declared.cell.PatternCell.TheVariants as cell
 use Rattle.pattern_images.specs.Grid.{cell_in}
 use Rattle.pattern_images.specs.Holds.{Allows, number_under}
 use Rattle.pattern_images.specs.Placements.{Placement}
-use Rattle.corner_index.specs.Corners.{HasCorners, point_in_frame}
+use Rattle.ready_images.specs.Corners.{CoversCorner, HasCorners, LiesOn}
 
 -- at some node the point has a cell that the pattern's cell allows
 abbrev pub WasAllowed : Deltas → ℕ → PatternCell → Type 0
@@ -21,29 +19,6 @@ abbrev pub WereAllowed : Deltas → Placement → Type 0
 WereAllowed deltas placement =
     (dx dy : ℕ) → dx < placement.grid.cols → dy < placement.grid.rows →
     WasAllowed deltas (number_under deltas.shape placement dx dy) (cell_in placement.grid dx dy)
-
--- the pattern's cell is empty, black or white
-abbrev pub IsExact : PatternCell → Type 0
-IsExact cell.Empty = Unit {0}
-IsExact cell.Black = Unit {0}
-IsExact cell.White = Unit {0}
-IsExact cell.NotWhite = ⊥
-IsExact cell.NotBlack = ⊥
-IsExact cell.Any = ⊥
-
--- the placement's cell in column dx and row dy lies on the point in a column and a row of a
--- corner's frame
-pub record LiesOn (shape : Shape) (placement : Placement)
-    (corner column row dx dy : ℕ) : Type 0 where
-  pub in_cols : dx < placement.grid.cols
-  pub in_rows : dy < placement.grid.rows
-  pub on_point : number_under shape placement dx dy ≡ point_in_frame corner shape column row
-
--- the placement covers the corner, with empty, black and white cells alone
-abbrev pub CoversCorner : Shape → Placement → ℕ → Type 0
-CoversCorner shape placement corner =
-    (column row : ℕ) → column < 6 → row < 6 → (dx : ℕ) × (dy : ℕ)
-    × LiesOn shape placement corner column row dx dy × IsExact (cell_in placement.grid dx dy)
 
 -- at the node the corner's points have the cells that the placement has there
 abbrev pub HasCornerOf : Deltas → Placement → ℕ → ℕ → Type 0

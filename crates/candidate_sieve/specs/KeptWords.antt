@@ -11,7 +11,7 @@ use Rattle.final_index.specs.Ever.{AreSetsOf}
 use Rattle.final_index.specs.Planes.{PlaneGames}
 use Rattle.pattern_images.specs.ImageList.{placement_at}
 use Rattle.pattern_images.specs.Placements.{Placement}
-use Rattle.candidate_sieve.specs.Kept.{CoversCorner, HadCorners, HasCornerOf, IsKept}
+use Rattle.candidate_sieve.specs.Kept.{HadCorners, IsKept}
 
 -- these are the numbers that the corners of game g of a block had, by its changes
 pub record HasNumbers (corners : List (Bor (List (List ℕ)))) (g : ℕ)
@@ -54,11 +54,6 @@ abbrev pub AreThose : Shape → List (Bor (List (List ℕ))) → (Deltas → Typ
 AreThose shape corners holds games word = (g : ℕ) (changes : Deltas) → g < 64 →
     changes.shape ≡ shape → HasNumbers corners g changes →
     (bit_at word g ≡ 1) ↔ ((bit_at games g ≡ 1) × holds changes)
-
--- the corner had the placement's cells at some node, if the placement covers it
-abbrev pub HadCorner : Placement → ℕ → Deltas → Type 0
-HadCorner placement corner changes = CoversCorner changes.shape placement corner →
-    (n : ℕ) × (n < node_count changes) × HasCornerOf changes placement corner n
 
 -- one of some placements, of which each has a word of games, has the game g, of which each corner that
 -- it covers had its cells

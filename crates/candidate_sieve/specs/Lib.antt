@@ -4,7 +4,5 @@ pub mod Kept
 pub mod NodeCandidates
 -- Definitions of private functions.
 pub mod BlockGames
-pub mod FrameCells
 pub mod Noting
-pub mod PlacementRows
 pub mod KeptWords

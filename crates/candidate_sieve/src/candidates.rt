@@ -17,31 +17,48 @@ ghost use Rattle.std.specs.Prelude.{
 ghost use Rattle.std.specs.Int.{bit_at};
 ghost use mathlib.Core.List.{IsPrefix};
 ghost use Rattle.kb_geometry.specs.Board.{point_count};
-ghost use Rattle.capture_index.specs.declared.stretch.Want.{Want};
-ghost use Rattle.capture_index.specs.Wants.{AreStonesFirst};
+ghost use Rattle.pattern_images.specs.Holds.{Allows};
 ghost use Rattle.final_index.specs.Planes.{HadThere};
 ghost use Rattle.candidate_sieve.specs.BlockGames.{
   AreAddedFor,
-  AreEverEmpty,
+  AreRowCandidatesAdded,
   HadWanted,
   HaveEach,
   IsAddedFor,
-  AreRowCandidatesAdded,
+  IsSieve,
 };
 ghost use Rattle.candidate_sieve.specs.Candidates.{AreCandidatesAdded};
 
-use crate::placement_rows::PlacementRows;
-use capture_index::{Want, Wants};
 use final_index::Planes;
 use kb_geometry::{Cell, NoMemory};
+use pattern_images::PatternCell;
+use ready_images::{ReadyImages, Row, Want};
 
 /// A placement that some games of a block may have.
 #[derive(Clone, Copy, Debug, PartialEq, Eq)]
 pub struct Candidate {
     /// The number of the placement among those of the images.
     pub placement: u32,
+    /// The number of its upper left point.
+    pub base: u16,
+    /// The number of its class.
+    pub class: u8,
     /// A bit for each game of the block that may have it.
     pub games: u64,
+}
+
+// A row of placements, to be sieved in the games of a block: its first placement stands behind the
+// base, each of the others behind the next point. In the games `ever_empty` each point was empty at
+// some node.
+#[derive(Clone, Copy, Debug)]
+pub(crate) struct RowSieve<'a> {
+    pub(crate) planes: &'a Planes,
+    pub(crate) ever_empty: u64,
+    pub(crate) row: &'a Row,
+    // The numbers of the placements.
+    pub(crate) numbers: &'a [u32],
+    // What they ask of points.
+    pub(crate) wants: &'a [Want],
 }
 
 /// Adds, for each placement that some of these games of the block may have, those that may have it:
@@ -51,97 +68,141 @@ pub struct Candidate {
 /// was in it before.
 pub fn add_candidates(
     planes: &Planes,
-    rows: &PlacementRows,
-    wants: &Wants,
+    ready: &ReadyImages,
     games: u64,
     room: &mut Vec<u64>,
     found: &mut Vec<Candidate>,
 ) -> Result<(), NoMemory>
-    requires shape { rows.now.images.now.shape ≡ planes.now.shape }
-    requires wants { wants.now ≡ record {
-      shape = rows.now.images.now.shape;
-      grids = rows.now.images.now.grids;
-    } }
-    ensures ok { OnOk result (AreCandidatesAdded planes.now rows.now.images.now.placements games
+    requires { ready.now.images.shape ≡ planes.now.shape }
+    ensures ok { OnOk result (AreCandidatesAdded planes.now ready.now.images games
         found.old.items found.new.items) }
     ensures refused { OnErr result (IsPrefix found.old.items found.new.items) }
 {
     let among = games & planes.present();
     let ever_empty = planes.ever_empty();
-    let _count = rows.images.len();
-    for row in &rows.rows {
-        let wants = wants.of_class(row.class).wants;
-        let numbers = &rows.numbers[row.start..row.start + row.count];
-        sieve_row(
-            planes, ever_empty, row.base, wants, numbers, among, room, found,
-        )?;
+    for row in ready.rows() {
+        let sieve = RowSieve {
+            planes,
+            ever_empty,
+            row,
+            numbers: ready.numbers_of(row),
+            wants: ready.wants_of(row),
+        };
+        sieve_row(&sieve, among, room, found)?;
     }
     Ok(())
 }
 
-// Adds a candidate for each placement of a row that some of the games `among` may have: the first has
-// its upper left point on the base. In the games `ever_empty` each point was empty at some node.
-// Many rows have one placement, whose word needs no room.
+// Adds a candidate for each placement of a row that some of the games `among` may have. Many rows have
+// one placement, whose word needs no room.
 fn sieve_row(
-    planes: &Planes,
-    ever_empty: u64,
-    base: u16,
-    wants: &[Want],
-    numbers: &[u32],
+    sieve: &RowSieve,
     among: u64,
     room: &mut Vec<u64>,
     found: &mut Vec<Candidate>,
 ) -> Result<(), NoMemory>
-    requires ever_empty { AreEverEmpty planes.now ever_empty }
-    requires stones_first { AreStonesFirst wants.now }
-    requires on_board { All (λ (w : Want). base + w.offset + length numbers.now
-        ≤ point_count planes.now.shape) wants.now }
-    ensures ok { OnOk result (AreRowCandidatesAdded planes.now.games base wants.now among numbers.now
-        found.old.items found.new.items) }
+    requires { IsSieve sieve.now }
+    ensures ok { OnOk result (AreRowCandidatesAdded sieve.now.planes.now.games sieve.now.row.now
+        sieve.now.wants.now among sieve.now.numbers.now found.old.items found.new.items) }
     ensures refused { OnErr result (IsPrefix found.old.items found.new.items) }
 {
-    if let [number] = numbers {
-        add_games(
-            *number,
-            games_at(planes, ever_empty, base, wants, among),
-            found,
-        )?;
+    if let [number] = sieve.numbers {
+        add_games(sieve.row, 0, *number, sieve.games_at(among), found)?;
         return Ok(());
     }
-    fill_room(planes, ever_empty, base, wants, among, numbers.len(), room)?;
-    add_row(numbers, room, found)?;
+    sieve.fill_room(among, room)?;
+    add_row(sieve.row, sieve.numbers, room, found)?;
     Ok(())
 }
 
-// Those of the games `among` that had, for each want, a cell that it allows on its point behind the
-// base.
-fn games_at(planes: &Planes, ever_empty: u64, base: u16, wants: &[Want], among: u64) -> u64
-    requires ever_empty { AreEverEmpty planes.now ever_empty }
-    requires stones_first { AreStonesFirst wants.now }
-    requires on_board { All (λ (w : Want). base + w.offset + 1 ≤ point_count planes.now.shape)
-        wants.now }
-    ensures { HaveEach planes.now.games base wants.now among (length wants.now) result }
-{
-    let mut games = among;
-    for k in 0..wants.len() {
-        if is_settled(wants[k], ever_empty, games) {
-            return games;
+impl<'a> RowSieve<'a> {
+    // Those of the games `among` that had, for each want, a cell that it allows on its point behind
+    // the base.
+    fn games_at(&self, among: u64) -> u64
+        requires sieve { IsSieve self.now }
+        requires some { 0 < length self.now.numbers.now }
+        ensures { HaveEach self.now.planes.now.games self.now.row.now.base self.now.wants.now among
+            (length self.now.wants.now) result }
+    {
+        let mut games = among;
+        for k in 0..self.wants.len() {
+            let want = self.wants[k];
+            if is_settled(want, self.ever_empty, games) {
+                return games;
+            }
+            games = games_with(self.planes, want, self.row.base + want.offset, games);
         }
-        games = games_with(planes, wants[k], base + wants[k].offset, games);
+        games
     }
-    games
+
+    // Fills the room with a word for each placement of the row: those of the games `among` that may
+    // have it. The word of one placement alone is made by itself.
+    pub(crate) fn fill_room(&self, among: u64, room: &mut Vec<u64>) -> Result<(), NoMemory>
+        requires { IsSieve self.now }
+        ensures count { OnOk result (length room.new.items ≡ length self.now.numbers.now) }
+        ensures games { OnOk result ((k : ℕ) → k < length self.now.numbers.now →
+            HaveEach self.now.planes.now.games (self.now.row.now.base + k) self.now.wants.now among
+            (length self.now.wants.now) (slice_index room.new.items k)) }
+    {
+        room.clear();
+        if self.numbers.len() == 1 {
+            room.push(self.games_at(among))?;
+            return Ok(());
+        }
+        room.resize(self.numbers.len(), among)?;
+        self.keep_wanted(room);
+        Ok(())
+    }
+
+    // Keeps in each word the games that had, for each want, a cell that it allows on its point, which
+    // stands behind the base for the first word, behind the next point for the next, and so on. In
+    // most games each point was empty at some node, and then wants that allow an empty point ask
+    // nothing. The others stand first.
+    fn keep_wanted(&self, words: &mut [u64])
+        requires sieve { IsSieve self.now }
+        requires count { length words.old ≡ length self.now.numbers.now }
+        ensures count { length words.new ≡ length words.old }
+        ensures kept { (k : ℕ) → k < length words.old →
+            HaveEach self.now.planes.now.games (self.now.row.now.base + k) self.now.wants.now
+            (slice_index words.old k) (length self.now.wants.now) (slice_index words.new k) }
+    {
+        for k in 0..self.wants.len() {
+            let want = self.wants[k];
+            if are_settled(want, self.ever_empty, words) {
+                return;
+            }
+            keep_want(self.planes, want, self.row.base + want.offset, words);
+        }
+    }
 }
 
 // Whether a want and those behind it ask nothing of the games of a word: there are none, or in each
 // every point was empty at some node and the want allows an empty point, as then the others do too.
 fn is_settled(want: Want, ever_empty: u64, games: u64) -> bool
     ensures { IsTrue result → (g : ℕ) → bit_at games g ≡ 1 →
-        (bit_at ever_empty g ≡ 1) × IsTrue want.empty }
+        (bit_at ever_empty g ≡ 1) × Allows want.cell Cell.Empty }
 {
-    if want.empty {
+    if want.cell.allows(Cell::Empty) {
         return are_among(games, ever_empty);
     }
     games == 0
+}
+
+// Those of the games that had a cell which the want allows on the point, as `keep_want` keeps them in
+// many words. A wildcard asks nothing.
+fn games_with(planes: &Planes, want: Want, point: u16, games: u64) -> u64
+    requires { point < point_count planes.now.shape }
+    ensures { (g : ℕ) → g < 64 → (bit_at result g ≡ 1) ↔ ((bit_at games g ≡ 1)
+        × HadWanted planes.now.games g want point) }
+{
+    match want.cell {
+        PatternCell::Any => games,
+        PatternCell::NotWhite => games_with_either(planes, Cell::Empty, Cell::Black, point, games),
+        PatternCell::NotBlack => games_with_either(planes, Cell::Empty, Cell::White, point, games),
+        PatternCell::Empty => games_with_cell(planes, Cell::Empty, point, games),
+        PatternCell::Black => games_with_cell(planes, Cell::Black, point, games),
+        PatternCell::White => games_with_cell(planes, Cell::White, point, games),
+    }
 }
 
 // Whether a word has no games but these.
@@ -149,25 +210,6 @@ fn are_among(word: u64, games: u64) -> bool
     ensures { IsTrue result → (g : ℕ) → bit_at word g ≡ 1 → bit_at games g ≡ 1 }
 {
     word & games == word
-}
-
-// Those of the games that had a cell which the want allows on the point, as `keep_want` keeps them in
-// many words. A want of each cell asks nothing.
-fn games_with(planes: &Planes, want: Want, point: u16, games: u64) -> u64
-    requires { point < point_count planes.now.shape }
-    ensures { (g : ℕ) → g < 64 → (bit_at result g ≡ 1) ↔ ((bit_at games g ≡ 1)
-        × HadWanted planes.now.games g want point) }
-{
-    match (want.empty, want.black, want.white) {
-        (true, true, true) => games,
-        (true, true, false) => games_with_either(planes, Cell::Empty, Cell::Black, point, games),
-        (true, false, true) => games_with_either(planes, Cell::Empty, Cell::White, point, games),
-        (false, true, true) => games_with_either(planes, Cell::Black, Cell::White, point, games),
-        (true, false, false) => games_with_cell(planes, Cell::Empty, point, games),
-        (false, true, false) => games_with_cell(planes, Cell::Black, point, games),
-        (false, false, true) => games_with_cell(planes, Cell::White, point, games),
-        (false, false, false) => 0,
-    }
 }
 
 // Those of the games that had the cell on the point.
@@ -188,61 +230,12 @@ fn games_with_either(planes: &Planes, one: Cell, other: Cell, point: u16, games:
     games & (planes.word(point, one) | planes.word(point, other))
 }
 
-// Fills the room with so many words, one for each placement of a row: those of the games `among` that
-// may have it. The word of one placement alone is made by itself.
-pub(crate) fn fill_room(
-    planes: &Planes,
-    ever_empty: u64,
-    base: u16,
-    wants: &[Want],
-    among: u64,
-    count: usize,
-    room: &mut Vec<u64>,
-) -> Result<(), NoMemory>
-    requires ever_empty { AreEverEmpty planes.now ever_empty }
-    requires stones_first { AreStonesFirst wants.now }
-    requires on_board { All (λ (w : Want). base + w.offset + count ≤ point_count planes.now.shape)
-        wants.now }
-    ensures count { OnOk result (length room.new.items ≡ count) }
-    ensures games { OnOk result ((k : ℕ) → k < count → HaveEach planes.now.games (base + k)
-        wants.now among (length wants.now) (slice_index room.new.items k)) }
-{
-    room.clear();
-    if count == 1 {
-        room.push(games_at(planes, ever_empty, base, wants, among))?;
-        return Ok(());
-    }
-    room.resize(count, among)?;
-    keep_wanted(planes, ever_empty, base, wants, room);
-    Ok(())
-}
-
-// Keeps in each word the games that had, for each want, a cell that it allows on its point, which
-// stands behind the base for the first word, behind the next point for the next, and so on. In most
-// games each point was empty at some node, and then wants that allow an empty point ask nothing. The
-// others stand first.
-fn keep_wanted(planes: &Planes, ever_empty: u64, base: u16, wants: &[Want], words: &mut [u64])
-    requires ever_empty { AreEverEmpty planes.now ever_empty }
-    requires stones_first { AreStonesFirst wants.now }
-    requires on_board { All (λ (w : Want). base + w.offset + length words.old
-        ≤ point_count planes.now.shape) wants.now }
-    ensures count { length words.new ≡ length words.old }
-    ensures kept { (k : ℕ) → k < length words.old → HaveEach planes.now.games (base + k) wants.now
-        (slice_index words.old k) (length wants.now) (slice_index words.new k) }
-{
-    for k in 0..wants.len() {
-        if are_settled(wants[k], ever_empty, words) {
-            return;
-        }
-        keep_want(planes, wants[k], base + wants[k].offset, words);
-    }
-}
-
 // Whether a want and those behind it ask nothing of the games of some words. Mostly the first word
 // alone tells that they ask something.
 fn are_settled(want: Want, ever_empty: u64, words: &[u64]) -> bool
     ensures { IsTrue result → (k g : ℕ) → k < length words.now →
-        bit_at (slice_index words.now k) g ≡ 1 → (bit_at ever_empty g ≡ 1) × IsTrue want.empty }
+        bit_at (slice_index words.now k) g ≡ 1 →
+        (bit_at ever_empty g ≡ 1) × Allows want.cell Cell.Empty }
 {
     if words.len() > 0 && !is_settled(want, ever_empty, words[0]) {
         return false;
@@ -263,7 +256,7 @@ fn joined(words: &[u64]) -> u64
 }
 
 // Keeps in each word the games that had a cell that the want allows on its point: the first word is
-// that of the point `from`, and so on. A want of each cell asks nothing.
+// that of the point `from`, and so on. A wildcard asks nothing.
 fn keep_want(planes: &Planes, want: Want, from: u16, words: &mut [u64])
     requires { from + length words.old ≤ point_count planes.now.shape }
     ensures count { length words.new ≡ length words.old }
@@ -271,39 +264,55 @@ fn keep_want(planes: &Planes, want: Want, from: u16, words: &mut [u64])
         (bit_at (slice_index words.new k) g ≡ 1) ↔ ((bit_at (slice_index words.old k) g ≡ 1)
         × HadWanted planes.now.games g want (from + k)) }
 {
-    match (want.empty, want.black, want.white) {
-        (true, true, true) => {}
-        (true, true, false) => planes.keep_either(Cell::Empty, Cell::Black, from, words),
-        (true, false, true) => planes.keep_either(Cell::Empty, Cell::White, from, words),
-        (false, true, true) => planes.keep_either(Cell::Black, Cell::White, from, words),
-        (true, false, false) => planes.keep(Cell::Empty, from, words),
-        (false, true, false) => planes.keep(Cell::Black, from, words),
-        (false, false, true) => planes.keep(Cell::White, from, words),
-        (false, false, false) => words.fill(0),
+    match want.cell {
+        PatternCell::Any => {}
+        PatternCell::NotWhite => planes.keep_either(Cell::Empty, Cell::Black, from, words),
+        PatternCell::NotBlack => planes.keep_either(Cell::Empty, Cell::White, from, words),
+        PatternCell::Empty => planes.keep(Cell::Empty, from, words),
+        PatternCell::Black => planes.keep(Cell::Black, from, words),
+        PatternCell::White => planes.keep(Cell::White, from, words),
     }
 }
 
 // Adds a candidate for each placement of a row that some game may have.
-fn add_row(numbers: &[u32], words: &[u64], found: &mut Vec<Candidate>) -> Result<(), NoMemory>
-    requires { length words.now ≡ length numbers.now }
-    ensures ok { OnOk result (AreAddedFor numbers.now words.now found.old.items
+fn add_row(
+    row: &Row,
+    numbers: &[u32],
+    words: &[u64],
+    found: &mut Vec<Candidate>,
+) -> Result<(), NoMemory>
+    requires count { length words.now ≡ length numbers.now }
+    requires small { row.now.base + length numbers.now ≤ 65536 }
+    ensures ok { OnOk result (AreAddedFor row.now numbers.now words.now found.old.items
         (length numbers.now) found.new.items) }
     ensures refused { OnErr result (IsPrefix found.old.items found.new.items) }
 {
     for k in 0..numbers.len() {
-        add_games(numbers[k], words[k], found)?;
+        add_games(row, k, numbers[k], words[k], found)?;
     }
     Ok(())
 }
 
-// Adds a candidate, unless no game is left.
-fn add_games(placement: u32, games: u64, found: &mut Vec<Candidate>) -> Result<(), NoMemory>
-    ensures ok { OnOk result (IsAddedFor placement games found.old.items found.new.items) }
+// Adds a candidate, the placement with this number in the row, unless no game is left.
+fn add_games(
+    row: &Row,
+    k: usize,
+    placement: u32,
+    games: u64,
+    found: &mut Vec<Candidate>,
+) -> Result<(), NoMemory>
+    requires { row.now.base + k < 65536 }
+    ensures ok { OnOk result (IsAddedFor row.now k placement games found.old.items found.new.items) }
     ensures refused { OnErr result (found.new.items ≡ found.old.items) }
 {
     if games == 0 {
         return Ok(());
     }
-    found.push(Candidate { placement, games })?;
+    found.push(Candidate {
+        placement,
+        base: row.base + k as u16,
+        class: row.class,
+        games,
+    })?;
     Ok(())
 }

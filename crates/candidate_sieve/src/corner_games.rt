@@ -1,82 +1,46 @@
 // The games of a block of which each corner that a placement covers had its cells.
-ghost use Rattle.std.specs.Prelude.{◌≡◌, ◌≢◌, ◌<◌, ◌≤◌, ◌↔◌, ℕ, Contains, IsFalse, IsTrue, length};
+ghost use Rattle.std.specs.Prelude.{
+  ◌≡◌,
+  ◌≢◌,
+  ◌<◌,
+  ◌≤◌,
+  ◌↔◌,
+  ℕ,
+  All,
+  Contains,
+  length,
+};
 ghost use Rattle.std.specs.Int.{bit_at};
-ghost use Rattle.pattern_images.specs.ImageList.{IsPlacedOn, placement_at};
-ghost use Rattle.corner_index.specs.Corners.{HasCorners, keys_of};
-ghost use Rattle.candidate_sieve.specs.FrameCells.{IsOpenAt};
+ghost use Rattle.pattern_images.specs.ImageList.{ImageList, IsPlacedOn, placement_at};
+ghost use Rattle.corner_index.specs.Corners.{keys_of};
+ghost use Rattle.ready_images.specs.declared.corner_number.CornerNumber.{CornerNumber};
+ghost use Rattle.ready_images.specs.Corners.{AreCornersOf};
 ghost use Rattle.candidate_sieve.specs.Kept.{HadCorners};
-ghost use Rattle.candidate_sieve.specs.KeptWords.{AreAmong, AreThose, HadCorner, HadKey};
+ghost use Rattle.candidate_sieve.specs.KeptWords.{AreAmong, AreThose, HadKey};
 
-use crate::corners::{CORNERS, SIDE, corner_key, has_corners};
 use corner_index::CornerKeys;
-use pattern_images::{Images, Place};
+use ready_images::CornerNumber;
 
-// Those of some games of a block in which each corner that a placement covers with empty, black and
-// white cells alone had these cells at some node. The number of such a corner is made once for all
-// games.
+// Those of some games of a block in which each of the corners that a placement covers had the cells
+// of the placement at some node.
 pub(crate) fn games_with_corners(
-    images: &Images,
-    i: usize,
+    covered: &[CornerNumber],
     games: u64,
     corners: &[&CornerKeys],
 ) -> u64
-    requires placement { i < length images.now.placements }
-    requires placed { IsPlacedOn images.now.shape (placement_at images.now.placements i) }
+    requires in_range { All (λ (c : CornerNumber). c.corner < 4) covered.now }
     requires few { length corners.now ≤ 64 }
-    ensures those { AreThose images.now.shape corners.now
-        (λ changes. HadCorners changes (placement_at images.now.placements i)) games result }
+    ensures those { (images : ImageList) (i : ℕ) → AreCornersOf images i covered.now →
+        IsPlacedOn images.shape (placement_at images.placements i) →
+        AreThose images.shape corners.now
+        (λ changes. HadCorners changes (placement_at images.placements i)) games result }
     ensures among { AreAmong result games }
 {
-    if !has_room(images, i) {
-        return games;
-    }
     let mut left = games;
-    for corner in 0..CORNERS {
-        left = games_with_corner(images, i, corner, left, corners);
+    for corner in covered {
+        left = games_with_key(corner.corner, corner.number, left, corners);
     }
     left
-}
-
-// Whether the rectangle of a placement is so large that it may cover a corner, on a board that has
-// corners.
-fn has_room(images: &Images, i: usize) -> bool
-    requires { i < length images.now.placements }
-    ensures corners { IsTrue result → HasCorners images.now.shape }
-    ensures uncovered { IsFalse result → HasCorners images.now.shape → (corner : ℕ) → corner < 4 →
-        IsOpenAt images.now.shape (placement_at images.now.placements i) corner }
-{
-    let Place { cols, rows, .. } = images.place(i);
-    if cols < SIDE {
-        return false;
-    }
-    if rows < SIDE {
-        return false;
-    }
-    has_corners(images.shape())
-}
-
-// Those of the games in which a corner had the cells of a placement at some node, if the placement
-// covers it with empty, black and white cells alone.
-fn games_with_corner(
-    images: &Images,
-    i: usize,
-    corner: u8,
-    games: u64,
-    corners: &[&CornerKeys],
-) -> u64
-    requires placement { i < length images.now.placements }
-    requires placed { IsPlacedOn images.now.shape (placement_at images.now.placements i) }
-    requires corner { corner < 4 }
-    requires sides { HasCorners images.now.shape }
-    requires few { length corners.now ≤ 64 }
-    ensures those { AreThose images.now.shape corners.now
-        (HadCorner (placement_at images.now.placements i) corner) games result }
-    ensures among { AreAmong result games }
-{
-    match corner_key(images, i, corner) {
-        Some(key) => games_with_key(corner, key, games, corners),
-        None => games,
-    }
 }
 
 // Those of the games in which a corner had a number.

@@ -1,7 +1,7 @@
 //! Which games of a base, and which nodes of a game, a search for a pattern need look at.
 //!
 //! Stands on kb_geometry, kb_bits, node_paths, capture_board, pattern_images, final_index,
-//! capture_index, corner_index and line_matcher. The layer above uses that no game and no node with
+//! capture_index, corner_index, line_matcher and ready_images. The layer above uses that no game and no node with
 //! an occurrence is left out.
 #![tactic(auto)]
 
@@ -13,7 +13,6 @@ mod corners;
 mod kept_words;
 mod laws;
 mod nodes;
-mod placement_rows;
 mod sieve;
 
 pub use asked::AskedPoints;
@@ -26,5 +25,4 @@ pub use laws::{
     the_node_candidates_have_all_occurrences,
 };
 pub use nodes::{candidates_under, node_candidates};
-pub use placement_rows::PlacementRows;
 pub use sieve::passes;

@@ -1,4 +1,5 @@
 -- Stretches that are cut at the runs of a point, the latest run first.
+use Rattle.kb_geometry.specs.declared.stone.Cell.TheVariants as stone
 use Prim.Native.Nat.{min}
 use Rattle.std.proofs.Common.{◌≡◌, ℕ, ◌+◌, ◌<◌, ◌≤◌, ◌⊎◌, ◌↔◌, Bool, List, [], ◌∷◌, length, get_or, drop, sym, ◌∙◌, ap, subst, arith, inl, inr, add-one, drop-cons}
 use Rattle.std.proofs.Math.Nat.{min-le_left, min-le_right, le-min}
@@ -7,7 +8,7 @@ use Rattle.std.proofs.lemmas.List.{drop_all, get_or_default}
 use Rattle.std.specs.Prelude.{IsTrue}
 use Rattle.capture_index.specs.declared.run.Run.{Run}
 use Rattle.capture_index.specs.declared.stretch.Stretch.{Stretch}
-use Rattle.capture_index.specs.declared.stretch.Want.{Want}
+use Rattle.ready_images.specs.declared.want.Want.{Want}
 use Rattle.capture_index.specs.Runs.{AreToldBehind, cell_by}
 use Rattle.capture_index.specs.Lists.{IsInFirst}
 use Rattle.capture_index.specs.Stretches.{IsIn, IsWithin, is_wanted}
@@ -97,12 +98,12 @@ module _ (runs : List Run) (want : Want) (stretch : Stretch) (before : List Stre
   )
 
   -- before all runs
-  pub IsCutTo-all : (next : ℕ) (now after : List Stretch) (count : ℕ) → length runs ≤ count → IsCutTo runs want stretch before count next now →
-      ((n : ℕ) → IsIn after n ↔ (IsIn now n ⊎ (IsWithin n stretch × (0 ≤ n) × (n < next) × IsTrue want.empty))) →
+  pub IsCutTo-all : (next : ℕ) (now after : List Stretch) (count : ℕ) (wanted : Bool) → wanted ≡ is_wanted want stone.Empty → length runs ≤ count → IsCutTo runs want stretch before count next now →
+      ((n : ℕ) → IsIn after n ↔ (IsIn now n ⊎ (IsWithin n stretch × (0 ≤ n) × (n < next) × IsTrue wanted))) →
       (n : ℕ) → IsIn after n ↔ (IsIn before n ⊎ (IsWithin n stretch × IsTrue (is_wanted want (cell_by runs n))))
-  IsCutTo-all next now after count all cut pushed n =
-      let whole = cut-further count next now cut after 0 want.empty pushed
-      (λ m from to. ap (is_wanted want) (cut.rest m to ∙ ap (λ (rs : List Run). cell_by rs m) (drop_all count runs all)))
+  IsCutTo-all next now after count wanted wanted_is all cut pushed n =
+      let whole = cut-further count next now cut after 0 wanted pushed
+      (λ m from to. ap (is_wanted want) (cut.rest m to ∙ ap (λ (rs : List Run). cell_by rs m) (drop_all count runs all)) ∙ sym wanted_is)
       0 (omega arith) (omega arith) (λ m from to. omega arith) n in (
         λ h. elim (whole.0 h) [ inl first ↦ inl first | inr (within, from, is) ↦ inr (within, is) ],
         λ h. whole.1 (elim h [ inl first ↦ inl first | inr (within, is) ↦ inr (within, omega arith, is) ]),

@@ -1,11 +1,12 @@
 -- The hull of what is wanted, from the last node back.
+use Rattle.kb_geometry.specs.declared.stone.Cell.TheVariants as stone
 use Prim.Native.Nat.{min}
 use Rattle.std.proofs.Common.{◌≡◌, ℕ, ◌+◌, ◌<◌, ◌≤◌, ◌↔◌, Bool, false, List, length, get_or, drop, refl, sym, ◌∙◌, ap, arith}
 use Rattle.std.proofs.Math.Nat.{min-le_left, min-le_right}
 use Rattle.std.proofs.lemmas.List.{drop_all}
 use Rattle.std.specs.Prelude.{IsTrue}
 use Rattle.capture_index.specs.declared.run.Run.{Run}
-use Rattle.capture_index.specs.declared.stretch.Want.{Want}
+use Rattle.ready_images.specs.declared.want.Want.{Want}
 use Rattle.capture_index.specs.Hulls.{IsHullTo}
 use Rattle.capture_index.specs.Lists.{IsWantedBy}
 use Rattle.capture_index.specs.Runs.{AreToldBehind, cell_by}
@@ -31,9 +32,9 @@ module _ (runs : List Run) (want : Want) (count next : ℕ) (told : AreToldBehin
       let same = ap (is_wanted want) (told-step runs count next d lt told n under ∙ cell_by-first (get_or runs count d) (drop (count + 1) runs) n (omega (arith, first_is))) ∙ sym wanted_is in
       (λ w. sym same ∙ w, λ w. same ∙ w)
 
-  pub cells-before : length runs ≤ count → (n : ℕ) → 0 ≤ n → n < next → IsWantedBy want runs n ↔ IsTrue want.empty
-  cells-before all n le under =
-      let same = ap (is_wanted want) (told n under ∙ ap (λ (rs : List Run). cell_by rs n) (drop_all count runs all)) in
+  pub cells-before : (wanted : Bool) → wanted ≡ is_wanted want stone.Empty → length runs ≤ count → (n : ℕ) → 0 ≤ n → n < next → IsWantedBy want runs n ↔ IsTrue wanted
+  cells-before wanted wanted_is all n le under =
+      let same = ap (is_wanted want) (told n under ∙ ap (λ (rs : List Run). cell_by rs n) (drop_all count runs all)) ∙ sym wanted_is in
       (λ w. sym same ∙ w, λ w. same ∙ w)
 
   pub told-next : (d : Run) (first : ℕ) → count < length runs → first ≡ (get_or runs count d).first → AreToldBehind runs (count + 1) (min next first)

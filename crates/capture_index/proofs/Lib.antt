@@ -15,5 +15,5 @@ pub mod Told
 pub mod NodesFrom
 pub mod Apart
 pub mod NodesTold
-pub mod WantLists
+pub mod CellsWanted
 pub mod WantsOfPlacements

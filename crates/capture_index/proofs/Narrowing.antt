@@ -1,4 +1,5 @@
 -- Nodes that are narrowed and cut by one want after another.
+use Rattle.kb_geometry.specs.declared.stone.Cell.TheVariants as stone
 use Prim.Native.Nat.{min}
 use Rattle.std.proofs.Common.{◌≡◌, ℕ, ◌+◌, ◌-◌, ◌<◌, ◌≤◌, ◌↔◌, ◌⊎◌, Bool, true, false, List, [], ◌∷◌, ◌++◌, length, get_or, refl, sym, ◌∙◌, ap, subst, arith, inl, inr, below_more}
 use Rattle.std.proofs.Math.Nat.{min-le_left, min-le_right}
@@ -15,7 +16,7 @@ use Rattle.capture_index.specs.declared.by_words.Listed.{Listed}
 use Rattle.capture_index.specs.declared.packed_runs.PackedRuns.{PackedRuns}
 use Rattle.capture_index.specs.declared.run.Run.{Run}
 use Rattle.capture_index.specs.declared.stretch.Stretch.{Stretch}
-use Rattle.capture_index.specs.declared.stretch.Want.{Want}
+use Rattle.ready_images.specs.declared.want.Want.{Want}
 use Rattle.capture_index.specs.declared.time.PackedTime.{PackedTime}
 use Rattle.capture_index.specs.declared.time.Time.{Time}
 use Rattle.capture_index.specs.declared.time.Time.TheVariants as time
@@ -25,9 +26,10 @@ use Rattle.capture_index.specs.Lists.{IsWantedBy, one_run, runs_told, stone_run}
 use Rattle.capture_index.specs.Narrowing.{AreListed, IsLeftBy, IsLeftByLists, IsNarrowed, IsOnSide}
 use Rattle.capture_index.specs.Runs.{cell_by}
 use Rattle.capture_index.specs.Seen.{StaysTo}
-use Rattle.capture_index.specs.Stretches.{IsIn, IsWithin, is_wanted, no_want}
+use Rattle.capture_index.specs.Stretches.{IsIn, IsWithin, is_wanted}
+use Rattle.ready_images.specs.Wants.{no_want}
 use Rattle.capture_index.specs.Times.{HasStoneAt, IsColourTold, is_many, told_by}
-use Rattle.capture_index.specs.Wants.{IsOfEmpty, IsOfStone}
+use Rattle.capture_index.proofs.CellsWanted.{IsOfEmpty, IsOfStone}
 use Rattle.capture_index.proofs.Times.{empty-wanted, one-told, other-unwanted, run-before, run-from, stone-stays, stone-there, stone-unwanted, stone-wanted}
 
 -- the word of a point that was read
@@ -69,28 +71,28 @@ module _ (index : PackedRuns) (base : ℕ) (want : Want) (runs : List Run) (same
   wanted-met n met = ap (is_wanted want) (same n) ∙ met
 
 -- ---- the nodes at which a point's one run has a wanted cell
-pub wanted-side : (want : Want) (node : ℕ) (stone : Colour) (b : Bool) → b ≡ is_wanted want (stone_of stone) → (n : ℕ) → IsOnSide node want.empty b n ↔ IsWantedBy want (stone_run node stone ∷ []) n
-wanted-side want node stone b is n = elim (cases_lt n node) [
+pub wanted-side : (want : Want) (node : ℕ) (colour : Colour) (a b : Bool) → a ≡ is_wanted want stone.Empty → b ≡ is_wanted want (stone_of colour) → (n : ℕ) → IsOnSide node a b n ↔ IsWantedBy want (stone_run node colour ∷ []) n
+wanted-side want node colour a b empty is n = elim (cases_lt n node) [
   | inl before ↦
-      let same = ap (is_wanted want) (run-before node stone n before) in
+      let same = ap (is_wanted want) (run-before node colour n before) ∙ sym empty in
       (λ side. same ∙ side.0 before, λ w. (λ lt. sym same ∙ w, λ le. absurd (omega (arith, before, le))))
   | inr from ↦
-      let same = ap (is_wanted want) (run-from node stone n from) ∙ sym is in
+      let same = ap (is_wanted want) (run-from node colour n from) ∙ sym is in
       (λ side. same ∙ side.1 from, λ w. (λ lt. absurd (omega (arith, from, lt)), λ le. sym same ∙ w))
 ]
 
 -- a point that is empty throughout
-pub wanted-nowhere : (want : Want) (n : ℕ) → IsOnSide 0 want.empty want.empty n ↔ IsWantedBy want [] n
-wanted-nowhere want n = (λ side. side.1 (omega arith), λ w. (λ lt. w, λ le. w))
+pub wanted-nowhere : (want : Want) (a : Bool) → a ≡ is_wanted want stone.Empty → (n : ℕ) → IsOnSide 0 a a n ↔ IsWantedBy want [] n
+wanted-nowhere want a empty n = (λ side. sym empty ∙ side.1 (omega arith), λ w. (λ lt. empty ∙ w, λ le. empty ∙ w))
 
-pub side-first : (want : Want) (t : Time) (node : ℕ) (stone : Colour) (m : ℕ) (c : Cell) (b : Bool) → t ≡ time.First node stone → m ≡ node → c ≡ stone_of stone → b ≡ is_wanted want c → (n : ℕ) → IsOnSide m want.empty b n ↔ IsWantedBy want (one_run t) n
-side-first want t node stone m c b is same cell allowed n =
-    subst (λ (u : Time). IsOnSide m want.empty b n ↔ IsWantedBy want (one_run u) n) (sym is)
-    (subst (λ (j : ℕ). IsOnSide j want.empty b n ↔ IsWantedBy want (stone_run node stone ∷ []) n) (sym same)
-    (wanted-side want node stone b (allowed ∙ ap (is_wanted want) cell) n))
+pub side-first : (want : Want) (t : Time) (node : ℕ) (colour : Colour) (m : ℕ) (c : Cell) (a b : Bool) → t ≡ time.First node colour → m ≡ node → c ≡ stone_of colour → a ≡ is_wanted want stone.Empty → b ≡ is_wanted want c → (n : ℕ) → IsOnSide m a b n ↔ IsWantedBy want (one_run t) n
+side-first want t node colour m c a b is same cell empty allowed n =
+    subst (λ (u : Time). IsOnSide m a b n ↔ IsWantedBy want (one_run u) n) (sym is)
+    (subst (λ (j : ℕ). IsOnSide j a b n ↔ IsWantedBy want (stone_run node colour ∷ []) n) (sym same)
+    (wanted-side want node colour a b empty (allowed ∙ ap (is_wanted want) cell) n))
 
-pub side-none : (want : Want) (t : Time) → one_run t ≡ [] → (n : ℕ) → IsOnSide 0 want.empty want.empty n ↔ IsWantedBy want (one_run t) n
-side-none want t none n = subst (λ (rs : List Run). IsOnSide 0 want.empty want.empty n ↔ IsWantedBy want rs n) (sym none) (wanted-nowhere want n)
+pub side-none : (want : Want) (t : Time) (a : Bool) → a ≡ is_wanted want stone.Empty → one_run t ≡ [] → (n : ℕ) → IsOnSide 0 a a n ↔ IsWantedBy want (one_run t) n
+side-none want t a empty none n = subst (λ (rs : List Run). IsOnSide 0 a a n ↔ IsWantedBy want rs n) (sym none) (wanted-nowhere want a empty n)
 
 -- what is told of one kind of nodes, told of another one that is the same
 module _ (nodes : Stretch) (P Q : ℕ → Type 0) (same : (n : ℕ) → P n ↔ Q n) where
@@ -212,7 +214,7 @@ module _ (index : PackedRuns) (base : ℕ) (wants : List Want) where
         stone_cells : (n : ℕ) → cell_by (one_run (told_by time)) n ≡ packed_cell index stone_point n
         stone_cells = cells-few index stone_point (told_by time) (ap told_by is) few
 
-        pub stones-more : (later : PackedTime) → IsColourTold stone_want.white true (told_by time) → ((n : ℕ) → HasStoneAt (told_by later) n ↔ (HasStoneAt (told_by latest) n × HasStoneAt (told_by time) n)) → AreStones index base wants (i + 1) later listed
+        pub stones-more : (later : PackedTime) → IsColourTold (is_wanted stone_want stone.White) true (told_by time) → ((n : ℕ) → HasStoneAt (told_by later) n ↔ (HasStoneAt (told_by latest) n × HasStoneAt (told_by time) n)) → AreStones index base wants (i + 1) later listed
         stones-more later told both = record {
           kept = λ n in_range all. (both n).1 (so_far.kept n in_range all, stone-there stone_want of_stone (told_by time) n (wanted-met index base stone_want (one_run (told_by time)) stone_cells n (all i lt)));
           words = λ n at k lt_k few_k. elim (cases_lt k i) [
@@ -226,7 +228,7 @@ module _ (index : PackedRuns) (base : ℕ) (wants : List Want) where
         }
 
         -- the stone has the other colour
-        pub stones-none : IsColourTold stone_want.white false (told_by time) → (n : ℕ) → n < index.nodes → AreMet index base wants n → ⊥
+        pub stones-none : IsColourTold (is_wanted stone_want stone.White) false (told_by time) → (n : ℕ) → n < index.nodes → AreMet index base wants n → ⊥
         stones-none told n in_range all = other-unwanted stone_want of_stone (told_by time) told n (wanted-met index base stone_want (one_run (told_by time)) stone_cells n (all i lt))
 
   pub stones-end : (count last : ℕ) (latest : PackedTime) (listed : Listed) (from to : ℕ) → AreStones index base wants count latest listed → count ≡ last → to ≡ index.nodes → ((n : ℕ) → n < index.nodes → (from ≤ n) ↔ HasStoneAt (told_by latest) n) →

@@ -9,7 +9,7 @@ use Rattle.kb_geometry.specs.declared.stone.Colour.TheVariants as colour
 use Rattle.kb_geometry.specs.declared.stone.Cell.TheVariants as stone
 use Rattle.kb_geometry.specs.Capture.{stone_of}
 use Rattle.capture_index.specs.declared.run.Run.{Run}
-use Rattle.capture_index.specs.declared.stretch.Want.{Want}
+use Rattle.ready_images.specs.declared.want.Want.{Want}
 use Rattle.capture_index.specs.declared.time.PackedTime.{PackedTime}
 use Rattle.capture_index.specs.declared.time.Time.{Time}
 use Rattle.capture_index.specs.declared.time.Time.TheVariants as time
@@ -18,7 +18,7 @@ use Rattle.capture_index.specs.Lists.{IsWantedBy, one_run, runs_told, stone_run}
 use Rattle.capture_index.specs.Runs.{cell_by}
 use Rattle.capture_index.specs.Stretches.{is_wanted}
 use Rattle.capture_index.specs.Times.{HasStoneAt, IsColourTold, is_many, stone_by, told_by}
-use Rattle.capture_index.specs.Wants.{IsOfEmpty, IsOfStone}
+use Rattle.capture_index.proofs.CellsWanted.{IsOfEmpty, IsOfStone}
 
 not-le : (m n : ℕ) → n < m → nat_le m n ≡ false
 not-le m n lt = false_from_ne_true (nat_le m n) (λ t. absurd (omega (arith, lt, leb-true m n t)))
@@ -170,26 +170,26 @@ colour-told packed white test law = elim (cases_lt packed.word (2 * NEVER)) [
 -- ---- a point that is to have a stone of one colour
 module _ (want : Want) (of_stone : IsOfStone want) where
   abbrev asked : Colour
-  asked = if want.white then colour.White else colour.Black
+  asked = if is_wanted want stone.White then colour.White else colour.Black
 
-  colour-wanted : (stone : Colour) → stone ≡ asked → is_wanted want (stone_of stone) ≡ true
-  colour-wanted stone is = ap (λ (c : Colour). is_wanted want (stone_of c)) is ∙ elim (cases_Bool want.white) [
+  colour-wanted : (given : Colour) → given ≡ asked → is_wanted want (stone_of given) ≡ true
+  colour-wanted given is = ap (λ (c : Colour). is_wanted want (stone_of c)) is ∙ elim (cases_Bool (is_wanted want stone.White)) [
     | inl white ↦ ap (λ (b : Bool). is_wanted want (stone_of (if b then colour.White else colour.Black))) white ∙ white
     | inr black ↦ ap (λ (b : Bool). is_wanted want (stone_of (if b then colour.White else colour.Black))) black ∙ of_stone.1 ∙ ap not black
   ]
 
-  colour-unwanted : (stone : Colour) → ¬ (stone ≡ asked) → is_wanted want (stone_of stone) ≡ false
-  colour-unwanted colour.Black other = elim (cases_Bool want.white) [
+  colour-unwanted : (given : Colour) → ¬ (given ≡ asked) → is_wanted want (stone_of given) ≡ false
+  colour-unwanted colour.Black other = elim (cases_Bool (is_wanted want stone.White)) [
     | inl white ↦ of_stone.1 ∙ ap not white
     | inr black ↦ absurd (other (sym (ap (λ (b : Bool). if b then colour.White else colour.Black) black)))
   ]
-  colour-unwanted colour.White other = elim (cases_Bool want.white) [
+  colour-unwanted colour.White other = elim (cases_Bool (is_wanted want stone.White)) [
     | inl white ↦ absurd (other (sym (ap (λ (b : Bool). if b then colour.White else colour.Black) white)))
     | inr black ↦ black
   ]
 
   -- it has it from then on
-  pub stone-wanted : (t : Time) → IsColourTold want.white true t → (n : ℕ) → HasStoneAt t n → IsWantedBy want (one_run t) n
+  pub stone-wanted : (t : Time) → IsColourTold (is_wanted want stone.White) true t → (n : ℕ) → HasStoneAt t n → IsWantedBy want (one_run t) n
   stone-wanted (time.First node stone) told n at = ap (is_wanted want) (run-from node stone n at) ∙ colour-wanted stone (told.0 refl)
   stone-wanted (time.Many list) told n at = absurd at
   stone-wanted time.Never told n at = absurd at
@@ -204,7 +204,7 @@ module _ (want : Want) (of_stone : IsOfStone want) where
   stone-there time.Never n wanted = absurd (false≢true (sym of_stone.0 ∙ wanted))
 
   -- or never
-  pub other-unwanted : (t : Time) → IsColourTold want.white false t → (n : ℕ) → IsWantedBy want (one_run t) n → ⊥
+  pub other-unwanted : (t : Time) → IsColourTold (is_wanted want stone.White) false t → (n : ℕ) → IsWantedBy want (one_run t) n → ⊥
   other-unwanted (time.First node stone) told n wanted =
       let at = stone-there (time.First node stone) n wanted in
       false≢true (sym (ap (is_wanted want) (run-from node stone n at) ∙ colour-unwanted stone (λ e. false≢true (told.1 e))) ∙ wanted)

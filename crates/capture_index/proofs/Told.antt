@@ -13,7 +13,7 @@ use Rattle.capture_board.specs.Deltas.{Deltas, node_count, parent_of, position_a
 use Rattle.capture_board.proofs.DeltaPaths.{length-position_at}
 use Rattle.capture_index.specs.declared.packed_runs.PackedRuns.{PackedRuns}
 use Rattle.capture_index.specs.declared.stretch.Stretch.{Stretch}
-use Rattle.capture_index.specs.declared.stretch.Want.{Want}
+use Rattle.ready_images.specs.declared.want.Want.{Want}
 use Rattle.capture_index.specs.declared.time.PackedTime.{PackedTime}
 use Rattle.capture_index.specs.Begins.{BeginsFor, HasBegun}
 use Rattle.capture_index.specs.Branches.{parent_by}
@@ -22,7 +22,8 @@ use Rattle.capture_index.specs.Lists.{runs_of}
 use Rattle.capture_index.specs.NodePositions.{NodePositions, cell_in, count_in, parent_in, positions_of}
 use Rattle.capture_index.specs.Runs.{cell_by}
 use Rattle.capture_index.specs.Seen.{GoesOnTo, StaysTo, packed_position, seen_by}
-use Rattle.capture_index.specs.Stretches.{AreApart, AreWantedAt, BeginsIn, IsIn, IsOutside, is_wanted, no_want}
+use Rattle.capture_index.specs.Stretches.{AreApart, AreWantedAt, BeginsIn, IsIn, IsOutside, is_wanted}
+use Rattle.ready_images.specs.Wants.{no_want}
 use Rattle.capture_index.proofs.Branchings.{parents-told}
 
 range-same : {X : Type 0} (d : X) (f g : ℕ → X) (n : ℕ) → ((k : ℕ) → k < n → f k ≡ g k) → map f (range_with_len 0 n) ≡ map g (range_with_len 0 n)

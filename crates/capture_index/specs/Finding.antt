@@ -6,12 +6,13 @@ use Rattle.kb_geometry.specs.Capture.{cell_at}
 use Rattle.capture_board.specs.Deltas.{AreDeltas, Deltas, node_count, position_at}
 use Rattle.capture_index.specs.declared.time.PackedTime.{PackedTime}
 use Rattle.capture_index.specs.declared.stretch.Stretch.{Stretch}
-use Rattle.capture_index.specs.declared.stretch.Want.{Want}
+use Rattle.ready_images.specs.declared.want.Want.{Want}
 use Rattle.capture_index.specs.declared.packed_runs.PackedRuns.{PackedRuns}
 use Rattle.capture_index.specs.Branches.{AreBranchesTo}
 use Rattle.capture_index.specs.Runs.{cell_by}
 use Rattle.capture_index.specs.Lists.{runs_of}
-use Rattle.capture_index.specs.Stretches.{IsIn, is_wanted, no_want}
+use Rattle.capture_index.specs.Stretches.{IsIn, is_wanted}
+use Rattle.ready_images.specs.Wants.{no_want}
 use Rattle.capture_index.specs.Times.{is_many, told_by}
 
 -- the word past the last point

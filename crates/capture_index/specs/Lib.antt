@@ -1,7 +1,6 @@
 -- Definitions that contracts of public functions rest on.
 pub mod NodePositions
 pub mod Stretches
-pub mod Wants
 -- Definitions of private functions.
 pub mod Begins
 pub mod Branches
@@ -14,5 +13,4 @@ pub mod Narrowing
 pub mod Packing
 pub mod Runs
 pub mod Seen
-pub mod StoredWants
 pub mod Times

@@ -7,7 +7,7 @@ use Rattle.capture_index.specs.declared.time.PackedTime.{PackedTime}
 use Rattle.capture_index.specs.declared.time.Time.{Time}
 use Rattle.capture_index.specs.declared.time.Time.TheVariants as time
 use Rattle.capture_index.specs.declared.stretch.Stretch.{Stretch}
-use Rattle.capture_index.specs.declared.stretch.Want.{Want}
+use Rattle.ready_images.specs.declared.want.Want.{Want}
 use Rattle.capture_index.specs.Runs.{cell_by}
 use Rattle.capture_index.specs.Stretches.{IsWithin, is_wanted}
 use Rattle.capture_index.specs.Times.{told_by}

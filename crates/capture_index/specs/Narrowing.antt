@@ -6,10 +6,11 @@ use Rattle.capture_index.specs.declared.by_words.Left.{Left}
 use Rattle.capture_index.specs.declared.by_words.Listed.{Listed}
 use Rattle.capture_index.specs.declared.packed_runs.PackedRuns.{PackedRuns}
 use Rattle.capture_index.specs.declared.stretch.Stretch.{Stretch}
-use Rattle.capture_index.specs.declared.stretch.Want.{Want}
+use Rattle.ready_images.specs.declared.want.Want.{Want}
 use Rattle.capture_index.specs.Finding.{AreMet, AreMetByWord, IsMet, is_listed}
 use Rattle.capture_index.specs.Hulls.{IsInHull}
-use Rattle.capture_index.specs.Stretches.{IsWithin, no_want}
+use Rattle.capture_index.specs.Stretches.{IsWithin}
+use Rattle.ready_images.specs.Wants.{no_want}
 
 -- the stretch's nodes are those of another one at which something is wanted
 abbrev pub IsNarrowed : Stretch → (ℕ → Type 0) → Stretch → Type 0

@@ -1,9 +1,12 @@
 -- Stretches of nodes, and the nodes at which the cells that are wanted stand.
-use Rattle.std.specs.Prelude.{◌≡◌, ℕ, ◌+◌, ◌<◌, ◌≤◌, Bool, IsTrue, false, List, Option, Some, None, length, slice_index_or}
+use Rattle.std.specs.Prelude.{◌≡◌, ℕ, ◌+◌, ◌<◌, ◌≤◌, Bool, IsTrue, false, true, List, Option, Some, None, length, slice_index_or}
 use Rattle.kb_geometry.specs.declared.stone.Cell.{Cell}
 use Rattle.kb_geometry.specs.declared.stone.Cell.TheVariants as stone
+use Rattle.pattern_images.specs.declared.cell.PatternCell.{PatternCell}
+use Rattle.pattern_images.specs.declared.cell.PatternCell.TheVariants as kind
 use Rattle.capture_index.specs.declared.stretch.Stretch.{Stretch}
-use Rattle.capture_index.specs.declared.stretch.Want.{Want}
+use Rattle.ready_images.specs.declared.want.Want.{Want}
+use Rattle.ready_images.specs.Wants.{no_want}
 use Rattle.capture_index.specs.NodePositions.{NodePositions, cell_in, parent_in}
 
 -- the node is in the stretch
@@ -26,15 +29,28 @@ pub record AreApart (lowest highest : ℕ) (stretches : List Stretch) : Type 0 w
   pub falling : (i j : ℕ) (d e : Stretch) → i < j → j < length stretches →
       (slice_index_or stretches j e).to ≤ (slice_index_or stretches i d).from
 
+-- the pattern's cell allows the cell
+abbrev pub is_allowed : PatternCell → Cell → Bool
+is_allowed kind.Empty stone.Empty = true
+is_allowed kind.Empty stone.Black = false
+is_allowed kind.Empty stone.White = false
+is_allowed kind.Black stone.Empty = false
+is_allowed kind.Black stone.Black = true
+is_allowed kind.Black stone.White = false
+is_allowed kind.White stone.Empty = false
+is_allowed kind.White stone.Black = false
+is_allowed kind.White stone.White = true
+is_allowed kind.NotWhite stone.Empty = true
+is_allowed kind.NotWhite stone.Black = true
+is_allowed kind.NotWhite stone.White = false
+is_allowed kind.NotBlack stone.Empty = true
+is_allowed kind.NotBlack stone.Black = false
+is_allowed kind.NotBlack stone.White = true
+is_allowed kind.Any c = true
+
 -- the cell is one of those that are wanted
 abbrev pub is_wanted : Want → Cell → Bool
-is_wanted want stone.Empty = want.empty
-is_wanted want stone.Black = want.black
-is_wanted want stone.White = want.white
-
--- a want of no cell
-abbrev pub no_want : Want
-no_want = record { offset = 0; empty = false; black = false; white = false }
+is_wanted want c = is_allowed want.cell c
 
 -- the want is met at a node, by the point so far behind base
 abbrev pub IsWantedAt : NodePositions → ℕ → Want → ℕ → Type 0

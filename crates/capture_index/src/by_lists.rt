@@ -17,7 +17,7 @@ ghost use Rattle.std.specs.Prelude.{
 ghost use Prim.Native.Nat.{min};
 ghost use Rattle.kb_geometry.specs.Board.{point_count};
 ghost use Rattle.capture_index.specs.declared.run.Run.{Run};
-ghost use Rattle.capture_index.specs.declared.stretch.Want.{Want};
+ghost use Rattle.ready_images.specs.declared.want.Want.{Want};
 ghost use Rattle.capture_index.specs.Finding.{AreMet};
 ghost use Rattle.capture_index.specs.Hulls.{IsHullTo, IsInHull, IsSmaller};
 ghost use Rattle.capture_index.specs.Lists.{IsWantedBy};
@@ -26,7 +26,9 @@ ghost use Rattle.capture_index.specs.Narrowing.{IsLeftBy, IsLeftByLists};
 use crate::by_words::Left;
 use crate::packed_runs::PackedRuns;
 use crate::run::Run;
-use crate::stretch::Want;
+use crate::wanted::is_wanted;
+use kb_geometry::Cell;
+use ready_images::Want;
 
 // The nodes from one up to before another, and whether some of them may not be wanted.
 #[derive(Clone, Copy, Debug)]
@@ -104,13 +106,13 @@ pub(crate) fn hull_of(runs: &[Run], want: Want, start: u32, end: u32) -> Hull
     let mut next = end;
     for run in runs {
         let first = u32::from(run.first);
-        hull = with_piece(hull, first, next, want.allows(run.cell));
+        hull = with_piece(hull, first, next, is_wanted(want, run.cell));
         next = next.min(first);
         if next <= start {
             return hull;
         }
     }
-    with_piece(hull, 0, next, want.empty)
+    with_piece(hull, 0, next, is_wanted(want, Cell::Empty))
 }
 
 // The hull of what is wanted from `to` on, with the nodes from `from` on up to there: all of them

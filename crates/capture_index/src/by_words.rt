@@ -12,16 +12,18 @@ ghost use Rattle.std.specs.Prelude.{
 };
 ghost use Prim.Native.Nat.{min};
 ghost use Rattle.kb_geometry.specs.Board.{point_count};
-ghost use Rattle.capture_index.specs.declared.stretch.Want.{Want};
+ghost use Rattle.ready_images.specs.declared.want.Want.{Want};
 ghost use Rattle.capture_index.specs.Finding.{AreMet, ArePointsFrom, time_at};
 ghost use Rattle.capture_index.specs.Lists.{IsWantedBy, one_run};
 ghost use Rattle.capture_index.specs.Narrowing.{IsLeftBy, IsNarrowed, IsOnSide};
 ghost use Rattle.capture_index.specs.Stretches.{IsWithin};
 
 use crate::packed_runs::PackedRuns;
-use crate::stretch::{Stretch, Want};
+use crate::stretch::Stretch;
 use crate::time::{PackedTime, Time, cell_of};
-use crate::wants::ClassWants;
+use crate::wanted::is_wanted;
+use kb_geometry::Cell;
+use ready_images::{ClassWants, Want};
 
 // What words leave.
 #[derive(Clone, Copy, Debug)]
@@ -131,7 +133,7 @@ impl PackedRuns {
                 listed = listed.with(k);
                 continue;
             }
-            if !time.has_colour(want.white) {
+            if !time.has_colour(is_wanted(want, Cell::White)) {
                 return None;
             }
             latest = latest.later_of(time);
@@ -226,17 +228,14 @@ fn with_time(nodes: Stretch, time: Time, want: Want) -> Option<Stretch>
     ensures none { IfNone result ((n : ℕ) → IsWithin n nodes →
         ¬ IsWantedBy want (one_run time) n) }
 {
+    let empty = is_wanted(want, Cell::Empty);
     match time {
         Time::First { node, stone } => {
-            with_change(
-                nodes,
-                u32::from(node),
-                want.empty,
-                want.allows(cell_of(stone)),
-            )
+            let filled = is_wanted(want, cell_of(stone));
+            with_change(nodes, u32::from(node), empty, filled)
         }
-        Time::Many { list: _ } => with_change(nodes, 0, want.empty, want.empty),
-        Time::Never => with_change(nodes, 0, want.empty, want.empty),
+        Time::Many { list: _ } => with_change(nodes, 0, empty, empty),
+        Time::Never => with_change(nodes, 0, empty, empty),
     }
 }
 

@@ -5,8 +5,10 @@ ghost use Rattle.capture_index.specs.Runs.{AreToldBehind, cell_by};
 ghost use Rattle.capture_index.specs.Stretches.{AreApart, IsIn, IsWithin, is_wanted};
 
 use crate::run::Run;
-use crate::stretch::{Stretch, Want};
-use kb_geometry::NoMemory;
+use crate::stretch::Stretch;
+use crate::wanted::is_wanted;
+use kb_geometry::{Cell, NoMemory};
+use ready_images::Want;
 use std::mem;
 
 // Keeps the nodes of the stretches at which a point with these runs has a cell that is wanted.
@@ -77,14 +79,14 @@ fn cut_one(
     for at in pass_later(runs, start, stretch.to)..runs.len() {
         let run = runs[at];
         let first = u32::from(run.first);
-        push_common(stretch, first, next, want.allows(run.cell), found)?;
+        push_common(stretch, first, next, is_wanted(want, run.cell), found)?;
         next = next.min(first);
         if next <= stretch.from {
             // The run may reach into the next stretches too.
             return Ok(at);
         }
     }
-    push_common(stretch, 0, next, want.empty, found)?;
+    push_common(stretch, 0, next, is_wanted(want, Cell::Empty), found)?;
     Ok(runs.len())
 }
 

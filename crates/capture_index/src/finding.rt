@@ -16,7 +16,7 @@ ghost use Rattle.std.specs.Prelude.{
   true,
 };
 ghost use mathlib.Core.List.{IsPrefix};
-ghost use Rattle.capture_index.specs.declared.stretch.Want.{Want};
+ghost use Rattle.ready_images.specs.declared.want.Want.{Want};
 ghost use Rattle.kb_geometry.specs.Board.{point_count};
 ghost use Rattle.capture_index.specs.Begins.{AreFalling, HasBegun};
 ghost use Rattle.capture_index.specs.Finding.{
@@ -36,10 +36,10 @@ use crate::by_lists::Hull;
 use crate::cutting::cut;
 use crate::packed_runs::PackedRuns;
 use crate::run::Run;
-use crate::stretch::{Stretch, Want};
+use crate::stretch::Stretch;
 use crate::time::{PackedTime, Time};
-use crate::wants::ClassWants;
 use kb_geometry::NoMemory;
+use ready_images::{ClassWants, Want};
 
 impl PackedRuns {
     // The nodes at which each wanted cell is there, as stretches. After `NoMemory` none is found.

@@ -1,7 +1,7 @@
 //! For each point of a game the runs of nodes, in order of the text, at which it has one cell.
 //!
-//! Stands on node_paths, kb_geometry, capture_board and pattern_images. A search asks runs in place
-//! of replaying the positions of a game.
+//! Stands on node_paths, kb_geometry, capture_board, pattern_images and ready_images. A search asks
+//! runs in place of replaying the positions of a game.
 #![tactic(auto)]
 
 mod begins;
@@ -21,12 +21,8 @@ mod run_index;
 mod stretch;
 mod time;
 mod wanted;
-mod wants;
 
-pub use laws::{
-    a_placement_holds_where_its_wants_are_met, nodes_where_the_parent_has_another_cell,
-};
+pub use laws::nodes_where_the_parent_has_another_cell;
 pub use nodes_where::NodesWhere;
 pub use run_index::RunIndex;
-pub use stretch::{Stretch, Want};
-pub use wants::{ClassWants, Wants};
+pub use stretch::Stretch;

@@ -19,7 +19,7 @@ ghost use Rattle.std.specs.Prelude.{
 };
 ghost use mathlib.Core.List.{IsPrefix};
 ghost use Rattle.capture_index.specs.declared.stretch.Stretch.{Stretch};
-ghost use Rattle.capture_index.specs.declared.stretch.Want.{Want};
+ghost use Rattle.ready_images.specs.declared.want.Want.{Want};
 ghost use Rattle.kb_geometry.specs.Board.{point_count};
 ghost use Rattle.capture_index.specs.NodePositions.{cell_in, count_in, parent_in, positions_of};
 ghost use Rattle.capture_index.specs.Seen.{GoesOnTo, StaysTo};
@@ -29,15 +29,15 @@ ghost use Rattle.capture_index.specs.Stretches.{
   BeginsIn,
   IsIn,
   IsUnchangedAt,
-  no_want,
 };
+ghost use Rattle.ready_images.specs.Wants.{no_want};
 
 use crate::branches::{next_branch, parent};
 use crate::packed_runs::PackedRuns;
-use crate::stretch::{Stretch, Want};
-use crate::wants::ClassWants;
+use crate::stretch::Stretch;
 use capture_board::NodeDeltas;
 use kb_geometry::{Cell, NoMemory, Shape};
+use ready_images::{ClassWants, Want};
 use std::alloc::Global;
 use std::marker::Model;
 

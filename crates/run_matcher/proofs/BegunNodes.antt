@@ -6,10 +6,10 @@ use Rattle.std.proofs.lemmas.List.FromFn.{length-map-range_with_len}
 use Rattle.capture_board.specs.Deltas.{AreDeltas, Deltas, node_count, position_at}
 use Rattle.node_paths.proofs.Ancestors.{parent-lt}
 use Rattle.capture_index.specs.declared.stretch.Stretch.{Stretch}
-use Rattle.capture_index.specs.declared.stretch.Want.{Want}
 use Rattle.capture_index.specs.NodePositions.{NodePositions, count_in, parent_in, positions_of}
 use Rattle.capture_index.specs.Stretches.{AreApart, AreWantedAt, BeginsIn, IsIn, IsOutside}
 use Rattle.capture_index.proofs.WantsOfPlacements.{parent_seen-at}
+use Rattle.ready_images.specs.declared.want.Want.{Want}
 use Rattle.run_matcher.specs.Begins.{BeginAt}
 
 pub count-seen : (deltas : Deltas) → count_in (positions_of deltas) ≡ node_count deltas

@@ -1,13 +1,16 @@
 -- Lists of keys, and what they stand for.
-use Rattle.std.proofs.Common.{◌≡◌, ◌↔◌, ◌⊎◌, ℕ, ◌+◌, ◌*◌, ◌/◌, ◌%◌, ◌<◌, ◌≤◌, inl, inr, List, [], ◌∷◌, ◌++◌, length, get_or, map, take, sym, ap, ◌∙◌, arith, subst, append_assoc}
+use Rattle.std.proofs.Common.{◌≡◌, ◌↔◌, ◌⊎◌, ℕ, ◌+◌, ◌*◌, ◌/◌, ◌%◌, ◌<◌, ◌≤◌, inl, inr, Bool, List, [], ◌∷◌, ◌++◌, length, get_or, map, take, sym, ap, ◌∙◌, arith, subst, append_assoc}
 use mathlib.Core.List.{IsPrefix}
-use Rattle.std.specs.Prelude.{Contains}
+use Rattle.std.specs.Prelude.{Contains, if◌then◌else◌}
+use Rattle.std.proofs.lemmas.Bool.{cases_lt, le-ltb, lt-ltb}
 use Rattle.std.proofs.lemmas.List.{append-nil, get_or-map, length-map, map-append, map_more, take_all}
 use Rattle.std.proofs.lemmas.List.Elements.{Contains-append_cases, Contains-append_left, Contains-append_right, Contains-get_or}
 use Rattle.line_matcher.specs.declared.occurrence.Occurrence.{Occurrence}
 use Rattle.run_matcher.specs.GoingOn.{occurrences_of}
-use Rattle.run_matcher.specs.Keys.{begun_list, begun_of, key_of, occurrence_number}
+use Rattle.run_matcher.specs.Keys.{begun_list, begun_of, end_number, holds_by, key_of, occurrence_number}
 use Rattle.run_matcher.specs.declared.begun.Begun.{Begun}
+use Rattle.run_matcher.specs.declared.begun.HoldsTo.{HoldsTo}
+use Rattle.run_matcher.specs.declared.begun.HoldsTo.TheVariants as holding
 
 -- ---- members of a list that is mapped
 module _ {X Y : Type 0} (f : X → Y) (default : X) where
@@ -25,7 +28,7 @@ abbrev the_occurrence : ℕ → ℕ → Occurrence
 the_occurrence node placement = record { node = node; placement = placement }
 
 abbrev the_begun : ℕ → ℕ → ℕ → Begun
-the_begun node placement known = record { occurrence = the_occurrence node placement; known = known }
+the_begun node placement known = record { occurrence = the_occurrence node placement; holds = holds_by known }
 
 same-begun : (n m i j a b : ℕ) → n ≡ m → i ≡ j → a ≡ b → the_begun n i a ≡ the_begun m j b
 same-begun n m i j a b e f g = ap (λ (k : ℕ). the_begun k i a) e ∙ ap (λ (k : ℕ). the_begun m k a) f ∙ ap (the_begun m j) g
@@ -46,6 +49,19 @@ module _ (placement known node : ℕ) (small : placement < 65536) (few : known �
   begun_of-key : begun_of (key_of placement known node) ≡ the_begun node placement known
   begun_of-key = same-begun _ _ _ _ _ _ (ap (λ (p : ℕ). p / 65536) number-of ∙ node-of) (ap (λ (p : ℕ). p % 65536) number-of ∙ placement-of) known-of
 
+-- ---- how far it is known to hold
+
+end-by : (number : ℕ) → end_number (holds_by number) ≡ number
+end-by number = elim (cases_lt 0 number) [
+  | inl some ↦ ap (λ (b : Bool). end_number (if b then holding.Known number else holding.Unknown)) (lt-ltb 0 number some)
+  | inr none ↦ ap (λ (b : Bool). end_number (if b then holding.Known number else holding.Unknown)) (le-ltb 0 number none) ∙ omega (arith, none)
+]
+
+-- what a number tells was told to it
+pub told-again : (holds : HoldsTo) (end : ℕ) → holds_by (end_number holds) ≡ holding.Known end → holds ≡ holding.Known end
+told-again (holding.Known given) end is = ap holding.Known (sym (end-by given) ∙ ap end_number is)
+told-again holding.Unknown end is = is
+
 -- ---- the occurrences of what begins
 
 abbrev occurrence : Begun → Occurrence
@@ -65,19 +81,19 @@ module _ (placement known : ℕ) (nodes old new : List ℕ) (small : placement <
   both : begun_list new ≡ begun_list old ++ more
   both = ap begun_list added ∙ map-append begun_of old (map (key_of placement known) nodes)
 
-  in_more : (b : Begun) → Contains more b → (b.occurrence.placement ≡ placement) × Contains nodes b.occurrence.node × (b.known ≡ known)
+  in_more : (b : Begun) → Contains more b → (b.occurrence.placement ≡ placement) × Contains nodes b.occurrence.node × (b.holds ≡ holds_by known)
   in_more b here =
       let (key, in_keys, is) = map-member begun_of 0 (map (key_of placement known) nodes) b here in
       let (node, in_nodes, e) = map-member (key_of placement known) 0 nodes key in_keys in
       let told : the_begun node placement known ≡ b = sym (begun_of-key placement known node small few) ∙ ap begun_of e ∙ is in
-      (sym (ap (λ (c : Begun). c.occurrence.placement) told), subst (Contains nodes) (ap (λ (c : Begun). c.occurrence.node) told) in_nodes, sym (ap (λ (c : Begun). c.known) told))
+      (sym (ap (λ (c : Begun). c.occurrence.placement) told), subst (Contains nodes) (ap (λ (c : Begun). c.occurrence.node) told) in_nodes, sym (ap (λ (c : Begun). c.holds) told))
 
   more-has : (node : ℕ) → Contains nodes node → Contains more (the_begun node placement known)
   more-has node in_nodes =
       subst (Contains more) (begun_of-key placement known node small few)
       (member-map begun_of 0 (map (key_of placement known) nodes) (key_of placement known node) (member-map (key_of placement known) 0 nodes node in_nodes))
 
-  pub begun-added : (b : Begun) → Contains (begun_list new) b → Contains (begun_list old) b ⊎ ((b.occurrence.placement ≡ placement) × Contains nodes b.occurrence.node × (b.known ≡ known))
+  pub begun-added : (b : Begun) → Contains (begun_list new) b → Contains (begun_list old) b ⊎ ((b.occurrence.placement ≡ placement) × Contains nodes b.occurrence.node × (b.holds ≡ holds_by known))
   begun-added b h = elim (Contains-append_cases (begun_list old) more b (subst (λ (bs : List Begun). Contains bs b) both h)) [
     | inl before ↦ inl before
     | inr here ↦ inr (in_more b here)

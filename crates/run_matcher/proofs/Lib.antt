@@ -1,5 +1,4 @@
 pub mod BegunNodes
-pub mod FewPlacements
 pub mod HoldingOn
 pub mod KeyLists
 pub mod OccurrencesOfOne

@@ -5,30 +5,27 @@ use Rattle.std.specs.Option.{option_map_or}
 use Rattle.std.proofs.lemmas.Bool.{and_from, and_parts, cases_lt, false≢true, false_from_ne_true}
 use Rattle.capture_board.specs.Deltas.{AreDeltas, Deltas, node_count, parent_of, position_at}
 use Rattle.node_paths.proofs.Ancestors.{parent-lt}
-use Rattle.pattern_images.specs.Grid.{Grid}
-use Rattle.pattern_images.specs.ImageList.{ImageList, IsPlacedOn, grid_at, placement_at}
+use Rattle.pattern_images.specs.ImageList.{IsPlacedOn, placement_at}
 use Rattle.pattern_images.specs.Placements.{Placement}
 use Rattle.line_matcher.specs.declared.occurrence.Occurrence.{Occurrence}
 use Rattle.line_matcher.specs.Occurrences.{HoldsAt, begins_at, holds_at, occurrences_in}
 use Rattle.line_matcher.proofs.HoldsLaw.{holds-decides}
 use Rattle.line_matcher.proofs.OccurrenceLaw.{occurrences-are}
-use Rattle.capture_index.specs.declared.stretch.Want.{Want}
+use Rattle.ready_images.specs.Wants.{AreWantsOf, base_of}
+use Rattle.ready_images.specs.declared.want.Want.{Want}
 use Rattle.capture_index.specs.NodePositions.{NodePositions, count_in, positions_of}
 use Rattle.capture_index.specs.Stretches.{AreApart, AreWantedAt, BeginsIn, IsIn}
 use Rattle.capture_index.specs.declared.stretch.Stretch.{Stretch}
-use Rattle.capture_index.specs.Wants.{AreWantsOf, ClassesOn, base_of}
 use Rattle.capture_index.proofs.WantsOfPlacements.{parent_seen-at, wanted-holds}
-use Rattle.run_matcher.specs.Begins.{BeginAt, IsKnownIn}
+use Rattle.run_matcher.specs.Begins.{BeginAt, IsKnownIn, StaysIn}
 use Rattle.run_matcher.specs.GoingOn.{GoesOnToHold, occurrences_of}
-use Rattle.run_matcher.specs.Keys.{begun_list, key_of}
-use Rattle.run_matcher.specs.Matchers.{IsMatcherOf}
+use Rattle.run_matcher.specs.Keys.{begun_list, end_number, key_of}
 use Rattle.run_matcher.specs.PlacementOccurrences.{IsOccurrenceBelow, IsOccurrenceOf}
-use Rattle.run_matcher.specs.SoughtPlacements.{IsSought}
 use Rattle.run_matcher.specs.declared.begun.Begun.{Begun}
-use Rattle.run_matcher.specs.declared.sought.Sought.{Sought}
+use Rattle.run_matcher.specs.declared.begun.HoldsTo.{HoldsTo}
 use Rattle.run_matcher.proofs.BegunNodes.{AreParentsThere, begun, count-seen, parents-there}
-use Rattle.run_matcher.proofs.HoldingOn.{met-holds}
-use Rattle.run_matcher.proofs.KeyLists.{begun-added, keys-added}
+use Rattle.run_matcher.proofs.HoldingOn.{IsSought, met-holds}
+use Rattle.run_matcher.proofs.KeyLists.{begun-added, keys-added, told-again}
 
 -- ---- what the test of a placement tells
 module _ (deltas : Deltas) (placement : Placement) where
@@ -92,10 +89,10 @@ module _ (deltas : Deltas) (are : AreDeltas deltas) (placement : Placement) (pla
 -- ---- what is gathered
 
 -- the keys of what begins in stretches
-module _ (seen' : NodePositions) (stretches : List Stretch) (i known : ℕ) (nodes old new : List ℕ) (before : List Begun) (small : i < 65536) (few : known ≤ 65536) (begun : (x : ℕ) → Contains nodes x ↔ BeginsIn seen' stretches x) (added : new ≡ old ++ map (key_of i known) nodes) (shown : begun_list old ≡ before) where
+module _ (seen' : NodePositions) (stretches : List Stretch) (i : ℕ) (holds : HoldsTo) (nodes old new : List ℕ) (before : List Begun) (small : i < 65536) (few : end_number holds ≤ 65536) (begun : (x : ℕ) → Contains nodes x ↔ BeginsIn seen' stretches x) (added : new ≡ old ++ map (key_of i (end_number holds)) nodes) (shown : begun_list old ≡ before) where
   pub begins-added : (o : Occurrence) → Contains (occurrences_of (begun_list new)) o ↔ (Contains (occurrences_of before) o ⊎ ((o.placement ≡ i) × BeginsIn seen' stretches o.node))
   begins-added o =
-      let keys = keys-added i known nodes old new small few added o in (
+      let keys = keys-added i (end_number holds) nodes old new small few added o in (
         λ h. elim (keys.0 h) [
           | inl was ↦ inl (subst (λ (bs : List Begun). Contains (occurrences_of bs) o) shown was)
           | inr (e, node) ↦ inr (e, (begun o.node).0 node)
@@ -106,12 +103,12 @@ module _ (seen' : NodePositions) (stretches : List Stretch) (i known : ℕ) (nod
         ]),
       )
 
-  pub known-added : ((n k : ℕ) → IsIn stretches n → n ≤ k → k < known → IsIn stretches k) → (b : Begun) → Contains (begun_list new) b → Contains before b ⊎ IsKnownIn stretches i b
-  known-added inside b h = elim (begun-added i known nodes old new small few added b h) [
+  pub known-added : ((n : ℕ) → IsIn stretches n → StaysIn stretches n holds) → (b : Begun) → Contains (begun_list new) b → Contains before b ⊎ IsKnownIn stretches i b
+  known-added inside b h = elim (begun-added i (end_number holds) nodes old new small few added b h) [
     | inl was ↦ inl (subst (λ (bs : List Begun). Contains bs b) shown was)
     | inr (e, node, is) ↦
         let first = (begun b.occurrence.node).0 node in
-        inr (record { same = e; on = λ k from below. inside b.occurrence.node k first.inside from (omega (arith, below, is)) })
+        inr (record { same = e; on = λ end k known from below. inside b.occurrence.node first.inside end k (told-again holds end (sym is ∙ known)) from below })
   ]
 
 -- nothing begins where there is no stretch
@@ -125,17 +122,16 @@ none-begins seen' stretches i gathered empty o = (
 )
 
 -- one placement more, which holds in these stretches
-module _ (seen' : NodePositions) (sought : Sought) (stretches : List Stretch) (on : sought.images.now.shape ≡ seen'.shape) (is_sought : IsSought sought) (apart : AreApart 0 (count_in seen') stretches)
-    (held : (n : ℕ) → n < count_in seen' → IsIn stretches n ↔ AreWantedAt seen' sought.base sought.class.wants.now n) where
-  pub gathered-more : (before after : List Occurrence) → ((o : Occurrence) → Contains after o ↔ (Contains before o ⊎ ((o.placement ≡ sought.number) × BeginsIn seen' stretches o.node))) →
-      (deltas : Deltas) → AreDeltas deltas → seen' ≡ positions_of deltas → (o : Occurrence) → Contains after o ↔ (Contains before o ⊎ IsOccurrenceOf deltas sought.images.now.placements sought.number o)
+module _ (seen' : NodePositions) (placements : List Placement) (i base : ℕ) (wants : List Want) (stretches : List Stretch) (sought : IsSought seen'.shape (placement_at placements i) base wants) (apart : AreApart 0 (count_in seen') stretches)
+    (held : (n : ℕ) → n < count_in seen' → IsIn stretches n ↔ AreWantedAt seen' base wants n) where
+  pub gathered-more : (before after : List Occurrence) → ((o : Occurrence) → Contains after o ↔ (Contains before o ⊎ ((o.placement ≡ i) × BeginsIn seen' stretches o.node))) →
+      (deltas : Deltas) → AreDeltas deltas → seen' ≡ positions_of deltas → (o : Occurrence) → Contains after o ↔ (Contains before o ⊎ IsOccurrenceOf deltas placements i o)
   gathered-more before after added deltas are is o =
-      let placement = placement_at sought.images.now.placements sought.number in
-      let wants = sought.class.wants.now in
-      let same_shape : sought.images.now.shape ≡ deltas.shape = on ∙ ap (λ (s : NodePositions). s.shape) is in
-      let told = begins-wanted deltas are placement (subst (λ s. IsPlacedOn s placement) same_shape is_sought.placed) wants (subst (λ s. AreWantsOf s placement.grid wants) same_shape is_sought.wanted) o.node in
-      let here : sought.base ≡ base_of deltas.shape placement = is_sought.from ∙ ap (λ s. base_of s placement) same_shape in
-      let there = begun seen' stretches apart sought.base wants held (subst AreParentsThere (sym is) (parents-there deltas are)) o.node in
+      let placement = placement_at placements i in
+      let same_shape : seen'.shape ≡ deltas.shape = ap (λ (s : NodePositions). s.shape) is in
+      let told = begins-wanted deltas are placement (subst (λ s. IsPlacedOn s placement) same_shape sought.placed) wants (subst (λ s. AreWantsOf s placement.grid wants) same_shape sought.wanted) o.node in
+      let here : base ≡ base_of deltas.shape placement = sought.from ∙ ap (λ s. base_of s placement) same_shape in
+      let there = begun seen' stretches apart base wants held (subst AreParentsThere (sym is) (parents-there deltas are)) o.node in
       let at_base = subst (λ (b : ℕ). BeginsIn seen' stretches o.node ↔ BeginAt seen' b wants o.node) here there in
       let begins : BeginsIn seen' stretches o.node ↔ BeginAt (positions_of deltas) (base_of deltas.shape placement) wants o.node = subst (λ (s : NodePositions). BeginsIn seen' stretches o.node ↔ BeginAt s (base_of deltas.shape placement) wants o.node) is at_base in (
         λ h. elim ((added o).0 h) [
@@ -149,14 +145,14 @@ module _ (seen' : NodePositions) (sought : Sought) (stretches : List Stretch) (o
       )
 
   -- and as far as is known it goes on to hold
-  pub known-holds : (deltas : Deltas) → seen' ≡ positions_of deltas → (b : Begun) → IsKnownIn stretches sought.number b → GoesOnToHold deltas sought.images.now.placements b
-  known-holds deltas is b known k from below =
-      let inside = known.on k from below in
+  pub known-holds : (deltas : Deltas) → seen' ≡ positions_of deltas → (b : Begun) → IsKnownIn stretches i b → GoesOnToHold deltas placements b
+  known-holds deltas is b known end k told from below =
+      let inside = known.on end k told from below in
       let (j, d, lt, at) = inside in
       let each = apart.each j d lt in
       let k_in : k < count_in seen' = omega (arith, each.2, at.1) in
-      subst (λ (i : ℕ). HoldsAt deltas (placement_at sought.images.now.placements i) k) (sym known.same)
-      (met-holds seen' sought on is_sought deltas is k k_in ((held k k_in).0 inside))
+      subst (λ (number : ℕ). HoldsAt deltas (placement_at placements number) k) (sym known.same)
+      (met-holds seen' (placement_at placements i) base wants sought deltas is k k_in ((held k k_in).0 inside))
 
 -- all placements: what is gathered is what occurs
 pub gathered-all : (deltas : Deltas) (placements : List Placement) (o : Occurrence) → IsOccurrenceBelow deltas placements (length placements) o ↔ Contains (occurrences_in deltas placements) o
@@ -183,8 +179,3 @@ below-more deltas placements i o Now New before step = (
         inr (e, h.1, subst (λ (k : ℕ). begins_at deltas (placement_at placements k) o.node ≡ true) e h.2)
   ]),
 )
-
--- the wants of a placement are those of its class
-pub wants-are : (images : ImageList) (classes : ClassesOn) (bases : List ℕ) (class : ℕ) (grid : Grid) (wants : List Want) → IsMatcherOf images classes bases → grid_at images.grids class ≡ grid → AreWantsOf classes.shape (grid_at classes.grids class) wants → AreWantsOf images.shape grid wants
-wants-are images classes bases class grid wants made of_class are =
-    subst (λ (g : Grid). AreWantsOf images.shape g wants) of_class (subst (λ (c : ClassesOn). AreWantsOf c.shape (grid_at c.grids class) wants) made.classes are)

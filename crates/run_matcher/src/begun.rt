@@ -6,8 +6,16 @@ use line_matcher::Occurrence;
 pub struct Begun {
     /// The node and the number of the placement.
     pub occurrence: Occurrence,
-    /// The number of a node, or the number of nodes: the placement holds at each node from the
-    /// occurrence's on up to before it, in order of the text. Where it isn't behind the occurrence's
-    /// node, it tells nothing.
-    pub known: u32,
+    /// How far it holds from there on.
+    pub holds: HoldsTo,
+}
+
+/// How far a placement that begins to hold is known to go on to hold.
+#[derive(Clone, Copy, Debug, PartialEq, Eq)]
+pub enum HoldsTo {
+    /// It holds at each node from its first one on up to before the node with this number, which may be
+    /// the number of nodes, in order of the text.
+    Known { end: u32 },
+    /// Nothing is known.
+    Unknown,
 }

@@ -23,15 +23,16 @@ ghost use Rattle.capture_index.specs.NodePositions.{count_in, positions_of};
 ghost use Rattle.capture_index.specs.declared.stretch.Stretch.{Stretch};
 ghost use Rattle.capture_index.specs.Stretches.{AreApart, BeginsIn, IsIn};
 ghost use Rattle.run_matcher.specs.GoingOn.{GoesOnToHold, occurrences_of};
-ghost use Rattle.run_matcher.specs.Begins.{IsKnownIn};
+ghost use Rattle.run_matcher.specs.Begins.{IsKnownIn, StaysIn};
+ghost use Rattle.run_matcher.specs.Keys.{end_number};
 ghost use Rattle.run_matcher.specs.declared.begun.Begun.{Begun};
 ghost use Rattle.run_matcher.specs.PlacementOccurrences.{IsOccurrenceOf};
-ghost use Rattle.run_matcher.specs.SoughtPlacements.{IsSought};
 
 use crate::keys::{begun_once, push_keys};
-use crate::{Begun, Buffers, Sought};
+use crate::{Begun, Buffers, HoldsTo};
 use capture_index::{RunIndex, Stretch};
 use kb_geometry::NoMemory;
+use ready_images::Prepared;
 use std::alloc::Global;
 use std::marker::Model;
 
@@ -89,30 +90,29 @@ impl Gathered {
     pub fn add(
         &mut self,
         runs: &RunIndex,
-        sought: &Sought,
+        placement: &Prepared,
         buffers: &mut Buffers,
     ) -> Result<(), NoMemory>
-        requires shape { sought.now.images.now.shape ≡ runs.now.shape }
-        requires sought { IsSought sought.now }
+        requires { placement.now.ready.now.images.shape ≡ runs.now.shape }
         ensures occurrences { OnOk result ((deltas : Deltas) → AreDeltas deltas →
             runs.now ≡ positions_of deltas → (o : Occurrence) →
             Contains (occurrences_of self.new) o ↔ (Contains (occurrences_of self.old) o
-            ⊎ IsOccurrenceOf deltas sought.now.images.now.placements sought.now.number o)) }
+            ⊎ IsOccurrenceOf deltas placement.now.ready.now.images.placements placement.now.number o)) }
         ensures go_on { OnOk result ((deltas : Deltas) → AreDeltas deltas →
             runs.now ≡ positions_of deltas → (b : Begun) → Contains self.new b →
-            Contains self.old b ⊎ GoesOnToHold deltas sought.now.images.now.placements b) }
+            Contains self.old b ⊎ GoesOnToHold deltas placement.now.ready.now.images.placements b) }
         ensures kept { IsPrefix self.old self.new }
     {
         runs.find(
-            sought.base,
-            sought.class,
+            placement.base(),
+            placement.wants(),
             &mut buffers.found,
             &mut buffers.spare,
         )?;
         if buffers.found.is_empty() {
             return Ok(());
         }
-        self.add_begins(runs, &buffers.found, sought.number, &mut buffers.nodes)?;
+        self.add_begins(runs, &buffers.found, placement.number, &mut buffers.nodes)?;
         Ok(())
     }
 
@@ -155,15 +155,15 @@ impl Gathered {
     }
 }
 
-// The end of the stretch, where there is one alone: each node from one of its nodes on up to before
-// the end is in it. Else 0, which tells nothing.
-fn known_end(stretches: &[Stretch]) -> u32
+// How far a placement holds that holds in these stretches: to the end of the stretch, where there is
+// one alone.
+fn known_end(stretches: &[Stretch]) -> HoldsTo
     requires { All (λ (s : Stretch). s.to ≤ 65536) stretches.now }
-    ensures few { result ≤ 65536 }
-    ensures inside { (n k : ℕ) → IsIn stretches.now n → n ≤ k → k < result → IsIn stretches.now k }
+    ensures few { end_number result ≤ 65536 }
+    ensures inside { (n : ℕ) → IsIn stretches.now n → StaysIn stretches.now n result }
 {
     match stretches {
-        [one] => one.to,
-        _ => 0,
+        [one] => HoldsTo::Known { end: one.to },
+        _ => HoldsTo::Unknown,
     }
 }

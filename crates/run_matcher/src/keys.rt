@@ -21,9 +21,9 @@ ghost use Rattle.std.specs.Ordering.{nat_cmp};
 ghost use mathlib.Core.List.{IsPrefix};
 ghost use Rattle.line_matcher.specs.Occurrences.{StandsBefore};
 ghost use Rattle.run_matcher.specs.GoingOn.{occurrences_of};
-ghost use Rattle.run_matcher.specs.Keys.{begun_of, key_of};
+ghost use Rattle.run_matcher.specs.Keys.{begun_of, end_number, holds_by, key_of};
 
-use crate::Begun;
+use crate::{Begun, HoldsTo};
 use kb_geometry::NoMemory;
 use line_matcher::Occurrence;
 use std::alloc::Global;
@@ -31,36 +31,37 @@ use std::alloc::Global;
 // Numbers of placements are below this.
 const ROOM: u64 = 65_536;
 
-// Numbers of nodes up to before which placements hold are below this.
+// Numbers that tell how far placements hold are below this.
 const KNOWN_ROOM: u64 = 131_072;
 
 // Adds the keys of a placement that begins to hold at these nodes, and is known to go on to hold.
 pub(crate) fn push_keys(
     nodes: &[u32],
     placement: u32,
-    known: u32,
+    holds: HoldsTo,
     keys: &mut Vec<u64>,
 ) -> Result<(), NoMemory>
     requires nodes { All (λ n. n < 65536) nodes.now }
     requires placement { placement < 65536 }
-    requires known { known ≤ 65536 }
+    requires known { end_number holds ≤ 65536 }
     ensures added { OnOk result (keys.new.items ≡ keys.old.items
-        ++ map (key_of placement known) nodes.now) }
+        ++ map (key_of placement (end_number holds)) nodes.now) }
     ensures kept { IsPrefix keys.old.items keys.new.items }
 {
     for node in nodes {
-        keys.push(key(*node, placement, known))?;
+        keys.push(key(*node, placement, holds))?;
     }
     Ok(())
 }
 
 // The key of a placement that begins to hold at a node.
-fn key(node: u32, placement: u32, known: u32) -> u64
+fn key(node: u32, placement: u32, holds: HoldsTo) -> u64
     requires node { node < 65536 }
     requires placement { placement < 65536 }
-    requires known { known ≤ 65536 }
-    ensures { result ≡ key_of placement known node }
+    requires known { end_number holds ≤ 65536 }
+    ensures { result ≡ key_of placement (end_number holds) node }
 {
+    let known = end_number(holds);
     (u64::from(node) * ROOM + u64::from(placement)) * KNOWN_ROOM + u64::from(known)
 }
 
@@ -96,6 +97,27 @@ fn begun(key: u64) -> Begun
             node: (number / ROOM) as u32,
             placement: (number % ROOM) as u32,
         },
-        known: (key % KNOWN_ROOM) as u32,
+        holds: holds_by((key % KNOWN_ROOM) as u32),
+    }
+}
+
+// The number that tells how far a placement is known to hold: the end, or 0 where nothing is known.
+fn end_number(holds: HoldsTo) -> u32
+    ensures { result ≡ end_number holds }
+{
+    match holds {
+        HoldsTo::Known { end } => end,
+        HoldsTo::Unknown => 0,
+    }
+}
+
+// What such a number tells.
+fn holds_by(number: u32) -> HoldsTo
+    ensures { result ≡ holds_by number }
+{
+    if number > 0 {
+        HoldsTo::Known { end: number }
+    } else {
+        HoldsTo::Unknown
     }
 }

@@ -5,10 +5,11 @@ ghost use Rattle.line_matcher.specs.Occurrences.{occurrences_in};
 ghost use Rattle.capture_index.specs.NodePositions.{positions_of};
 ghost use Rattle.run_matcher.specs.GoingOn.{occurrences_of};
 
-use crate::{Begun, Buffers, Gathered, RunMatcher};
+use crate::{Begun, Buffers, Gathered};
 use capture_index::RunIndex;
 use kb_geometry::NoMemory;
 use line_matcher::Occurrence;
+use ready_images::ReadyImages;
 use std::alloc::Global;
 
 /// The nodes of a game and the numbers of the placements that begin to hold there, by node and at
@@ -18,17 +19,17 @@ use std::alloc::Global;
 pub fn match_runs(
     alloc: Global,
     runs: &RunIndex,
-    matcher: &RunMatcher,
+    ready: &ReadyImages,
 ) -> Result<Vec<Occurrence>, NoMemory>
-    requires { matcher.now.images.now.shape ≡ runs.now.shape }
+    requires { ready.now.images.shape ≡ runs.now.shape }
     ensures { IfOk result (λ found. (deltas : Deltas) → AreDeltas deltas →
         runs.now ≡ positions_of deltas →
-        found.items ≡ occurrences_in deltas matcher.now.images.now.placements) }
+        found.items ≡ occurrences_in deltas ready.now.images.placements) }
 {
     let mut gathered = Gathered::new(alloc);
     let mut buffers = Buffers::new(alloc);
-    for placement in 0..matcher.len() {
-        gathered.add(runs, &matcher.sought(placement), &mut buffers)?;
+    for number in 0..ready.images().len() {
+        gathered.add(runs, &ready.placement(number as u32), &mut buffers)?;
     }
     let begun = gathered.sorted(alloc)?;
     Ok(occurrences(alloc, &begun)?)

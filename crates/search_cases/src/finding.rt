@@ -10,6 +10,7 @@ use crate::walks::{
 use case_files::CaseError;
 use game_tree::GameTree;
 use pattern_images::{Found, Images, Query, images};
+use ready_images::ReadyImages;
 use segment_store::FinishedGame;
 use std::alloc::Global;
 use std::marker::Brand;
@@ -50,7 +51,8 @@ pub(crate) fn everywhere(
     };
     compare_walks::<Brand>(alloc, expected, Blank::new(1), out)?;
     compare_at_candidates::<Brand>(alloc, expected, Blank::new(1), out)?;
-    compare_runs(alloc, expected, out)
+    let ready = ReadyImages::new(alloc, images)?;
+    compare_runs(alloc, game, &ready, &found, out)
 }
 
 // Appends what was found: how many, the numbers of the placements, or their places.

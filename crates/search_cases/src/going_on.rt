@@ -7,7 +7,8 @@ use crate::texts::{end_list, put, put_number, separate};
 use capture_index::RunIndex;
 use case_files::CaseError;
 use pattern_images::images;
-use run_matcher::{Begun, Buffers, Gathered, RunMatcher};
+use ready_images::ReadyImages;
+use run_matcher::{Begun, Buffers, Gathered, HoldsTo, holds_to};
 use segment_store::FinishedGame;
 use std::alloc::Global;
 
@@ -23,27 +24,27 @@ pub(crate) fn answer(
     let runs = game.runs();
     let images = images(alloc, &query, runs.shape())?;
     let held = Held::of(alloc, game.deltas(), &images)?;
-    let matcher = RunMatcher::new(alloc, &images)?;
-    if images.len() != 1 {
+    let ready = ReadyImages::new(alloc, images)?;
+    if ready.images().len() != 1 {
         return Err(CaseError::Bad("not one placement"));
     }
-    put_held(runs, &matcher, &held, out)?;
+    put_held(runs, &ready, &held, out)?;
     put(out, "; begins ")?;
     let mut gathered = Gathered::new(alloc);
     // Twice, since each occurrence is listed once.
-    gathered.add(runs, &matcher.sought(0), &mut Buffers::new(alloc))?;
-    gathered.add(runs, &matcher.sought(0), &mut Buffers::new(alloc))?;
+    gathered.add(runs, &ready.placement(0), &mut Buffers::new(alloc))?;
+    gathered.add(runs, &ready.placement(0), &mut Buffers::new(alloc))?;
     put_begun(out, &gathered.sorted(alloc)?)
 }
 
 fn put_held(
     runs: &RunIndex,
-    matcher: &RunMatcher,
+    ready: &ReadyImages,
     held: &Held,
     out: &mut Vec<u8>,
 ) -> Result<(), CaseError>
-    requires shape { matcher.now.images.now.shape ≡ runs.now.shape }
-    requires placement { 0 < length matcher.now.images.now.placements }
+    requires shape { ready.now.images.shape ≡ runs.now.shape }
+    requires placement { 0 < length ready.now.images.placements }
 {
     let start = out.len();
     for node in 0..runs.node_count() {
@@ -51,7 +52,7 @@ fn put_held(
             separate(out, start, " ")?;
             put_number(out, node)?;
             put(out, "..")?;
-            put_number(out, matcher.sought(0).holds_to(runs, node))?;
+            put_number(out, holds_to(runs, &ready.placement(0), node))?;
         }
     }
     end_list(out, start)
@@ -59,11 +60,19 @@ fn put_held(
 
 fn put_begun(out: &mut Vec<u8>, begun: &[Begun]) -> Result<(), CaseError> {
     let start = out.len();
-    for Begun { occurrence, known } in begun {
+    for Begun { occurrence, holds } in begun {
         separate(out, start, " ")?;
         put_number(out, occurrence.node)?;
         put(out, "..")?;
-        put_number(out, *known)?;
+        put_number(out, end_of(*holds))?;
     }
     end_list(out, start)
+}
+
+// 0 where nothing is known.
+fn end_of(holds: HoldsTo) -> u32 {
+    match holds {
+        HoldsTo::Known { end } => end,
+        HoldsTo::Unknown => 0,
+    }
 }

@@ -6,8 +6,10 @@ use crate::asked::{number_or, value_of};
 use crate::texts::{
     cell_of, end_list, number_of, point_number, put, put_number, put_numbers, separate, sign_of,
 };
-use capture_index::{ClassWants, RunIndex, Stretch, Want};
+use capture_index::{RunIndex, Stretch};
 use case_files::CaseError;
+use pattern_images::PatternCell;
+use ready_images::{ClassWants, Want};
 use std::alloc::Global;
 
 /// `cells`: of a point, at all nodes or at those that are told behind it.
@@ -64,12 +66,16 @@ fn want_of(runs: &RunIndex, base: u16, word: &str) -> Result<Want, CaseError> {
     let offset = number
         .checked_sub(base)
         .ok_or(CaseError::Bad("a point before the base"))?;
-    Ok(Want {
-        offset,
-        empty: cells.contains("."),
-        black: cells.contains("X"),
-        white: cells.contains("O"),
-    })
+    let cell = match cells {
+        "." => PatternCell::Empty,
+        "X" => PatternCell::Black,
+        "O" => PatternCell::White,
+        ".X" => PatternCell::NotWhite,
+        ".O" => PatternCell::NotBlack,
+        ".XO" => PatternCell::Any,
+        _ => return Err(CaseError::Bad("no cell of a pattern")),
+    };
+    Ok(Want { offset, cell })
 }
 
 // The point behind which the wanted ones stand: `base=POINT`, else the first one.

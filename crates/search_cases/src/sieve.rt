@@ -3,13 +3,12 @@ use crate::asked::{query_of, value_of};
 use crate::texts::{end_list, is_same, put, put_number, put_numbers, put_point, separate};
 use crate::versions::version_of_one;
 use candidate_sieve::{
-    AskedPoints, Candidate, PlacementRows, add_candidates, candidates_under, node_candidates,
-    passes,
+    AskedPoints, Candidate, add_candidates, candidates_under, node_candidates, passes,
 };
-use capture_index::{Want, Wants};
 use case_files::CaseError;
 use final_index::Planes;
-use pattern_images::{Images, Query, images};
+use pattern_images::{Images, PatternCell, Query, images};
+use ready_images::{ReadyImages, Want};
 use search_engine::kept;
 use segment_store::{FinishedGame, Segment};
 use std::alloc::Global;
@@ -41,7 +40,8 @@ pub(crate) fn kept_games(
 fn is_kept(alloc: Global, query: &Query, game: &FinishedGame) -> Result<bool, CaseError> {
     let shape = game.tree().shape();
     let images = images(alloc, query, shape)?;
-    Ok(query.is_for(shape) && passes(game.ever(), game.corners(), shape, &images))
+    let ready = ReadyImages::new(alloc, images)?;
+    Ok(query.is_for(shape) && passes(game.ever(), game.corners(), shape, &ready))
 }
 
 /// `nodes`: at which a placement may begin to hold.
@@ -105,10 +105,10 @@ fn put_candidates(
     out: &mut Vec<u8>,
     start: usize,
 ) -> Result<(), CaseError> {
-    let images = images(alloc, query, planes.shape())?;
-    for (placement, games) in candidates_in(alloc, planes, &images, games)? {
+    let ready = ReadyImages::new(alloc, images(alloc, query, planes.shape())?)?;
+    for (placement, games) in candidates_in(alloc, planes, &ready, games)? {
         separate(out, start, ", ")?;
-        put_candidate(out, &images, placement as usize, games)?;
+        put_candidate(out, ready.images(), placement as usize, games)?;
     }
     Ok(())
 }
@@ -117,25 +117,20 @@ fn put_candidates(
 fn candidates_in(
     alloc: Global,
     planes: &Planes,
-    images: &Images,
+    ready: &ReadyImages,
     games: u64,
 ) -> Result<Vec<(u32, u64)>, CaseError> {
-    let rows = PlacementRows::of(alloc, images)?;
-    let wants = Wants::of(alloc, images)?;
     let mut found = Vec::new(alloc);
-    if !is_same(images.shape(), planes.shape()) {
+    if !is_same(ready.images().shape(), planes.shape()) {
         return Err(CaseError::Bad("images of another board"));
     }
-    add_candidates(
-        planes,
-        &rows,
-        &wants,
-        games,
-        &mut Vec::new(alloc),
-        &mut found,
-    )?;
+    add_candidates(planes, ready, games, &mut Vec::new(alloc), &mut found)?;
     let mut sorted = Vec::new(alloc);
-    for Candidate { placement, games } in &found {
+    for Candidate {
+        placement,
+        games,
+        ..
+    } in &found {
         sorted.push((*placement, *games))?;
     }
     sorted.sort_unstable();
@@ -181,13 +176,13 @@ pub(crate) fn wants(
 ) -> Result<(), CaseError> {
     let query = query_of(alloc, asked)?;
     let images = images(alloc, &query, game.tree().shape())?;
-    let wants = Wants::of(alloc, &images)?;
-    for class in 0..images.class_count() {
+    let ready = ReadyImages::new(alloc, images)?;
+    for class in 0..ready.images().class_count() {
         if class > 0 {
             put(out, " and ")?;
         }
         let start = out.len();
-        for want in wants.of_class(class).wants {
+        for want in ready.class_wants(class).wants {
             separate(out, start, ", ")?;
             put_want(out, *want)?;
         }
@@ -199,7 +194,15 @@ pub(crate) fn wants(
 fn put_want(out: &mut Vec<u8>, want: Want) -> Result<(), CaseError> {
     put_number(out, u32::from(want.offset))?;
     put(out, " ")?;
-    put(out, if want.empty { "." } else { "" })?;
-    put(out, if want.black { "X" } else { "" })?;
-    put(out, if want.white { "O" } else { "" })
+    put(
+        out,
+        match want.cell {
+            PatternCell::Empty => ".",
+            PatternCell::Black => "X",
+            PatternCell::White => "O",
+            PatternCell::NotWhite => ".X",
+            PatternCell::NotBlack => ".O",
+            PatternCell::Any => "*",
+        },
+    )
 }

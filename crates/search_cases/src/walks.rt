@@ -11,7 +11,8 @@ use case_files::CaseError;
 use info_filter::Filter;
 use line_matcher::{Matcher, Occurrence, match_along, match_at, match_game, match_with};
 use pattern_images::{Found, Hit, Images, Query};
-use run_matcher::{Buffers, Gathered, RunMatcher, match_runs};
+use ready_images::ReadyImages;
+use run_matcher::{Buffers, Gathered, match_runs};
 use search_engine::search_segment;
 use segment_store::{FinishedGame, Segment};
 use std::alloc::Global;
@@ -180,22 +181,19 @@ fn ascend(nodes: &[u32]) -> bool
 /// Compares what the runs of the points tell.
 pub(crate) fn compare_runs(
     alloc: Global,
-    expected: Expected<'_>,
+    game: &FinishedGame,
+    ready: &ReadyImages,
+    found: &[Found],
     out: &mut Vec<u8>,
 ) -> Result<(), CaseError> {
-    let Expected {
-        game,
-        images,
-        found,
-    } = expected;
+    let images = ready.images();
     let runs = game.runs();
     if !is_same(images.shape(), runs.shape()) {
         return Err(OTHER_BOARD);
     }
-    let matcher = RunMatcher::new(alloc, images)?;
-    let by_runs = match_runs(alloc, runs, &matcher)?;
+    let by_runs = match_runs(alloc, runs, ready)?;
     compare("match_runs", found, &placed(alloc, images, &by_runs)?, out)?;
-    let gathered = gathered_of(alloc, runs, &matcher)?;
+    let gathered = gathered_of(alloc, runs, ready)?;
     compare("Gathered", found, &placed(alloc, images, &gathered)?, out)
 }
 
@@ -203,14 +201,14 @@ pub(crate) fn compare_runs(
 fn gathered_of(
     alloc: Global,
     runs: &RunIndex,
-    matcher: &RunMatcher,
+    ready: &ReadyImages,
 ) -> Result<Vec<Occurrence>, CaseError>
-    requires { matcher.now.images.now.shape ≡ runs.now.shape }
+    requires { ready.now.images.shape ≡ runs.now.shape }
 {
     let mut gathered = Gathered::new(alloc);
     let mut buffers = Buffers::new(alloc);
-    for placement in (0..matcher.images.len()).rev() {
-        gathered.add(runs, &matcher.sought(placement), &mut buffers)?;
+    for placement in (0..ready.images().len()).rev() {
+        gathered.add(runs, &ready.placement(placement as u32), &mut buffers)?;
     }
     let mut occurrences = Vec::new(alloc);
     for begun in &gathered.sorted(alloc)? {

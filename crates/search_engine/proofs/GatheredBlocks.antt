@@ -1,7 +1,8 @@
 -- The occurrences in the games of a block, one shape of boards after another.
-use Rattle.std.proofs.Common.{◌≡◌, ℕ, inl, inr, ◌+◌, ◌<◌, ◌≤◌, List, [], ◌++◌, None, Some, Contains, get_or, length, map, sym, ap, ◌∙◌, subst, arith}
+use Rattle.std.proofs.Common.{◌≡◌, ℕ, inl, inr, ◌+◌, ◌<◌, ◌≤◌, List, [], ◌++◌, None, Some, Contains, get_or, length, map, refl, sym, ap, ◌∙◌, subst, arith}
 use Rattle.std.specs.Int.{bit_at}
 use Rattle.std.specs.List.{slice_get}
+use Rattle.std.specs.Prelude.{Any}
 use Rattle.std.proofs.lemmas.Bool.{cases_eq, cases_lt}
 use Rattle.std.proofs.lemmas.List.{get_or_default, get_or_past, get_or-map, length-map}
 use Rattle.std.proofs.lemmas.List.Elements.{All-contains, Contains-get_or}
@@ -21,33 +22,43 @@ use Rattle.line_matcher.specs.Occurrences.{occurrences_in}
 use Rattle.line_matcher.proofs.OccurrenceLaw.{occurrences-are}
 use Rattle.final_index.specs.Planes.{PlaneGames}
 use Rattle.run_matcher.specs.declared.begun.Begun.{Begun}
+use Rattle.ready_images.specs.Prepared.{IsPreparedAs}
 use Rattle.candidate_sieve.specs.declared.candidates.Candidate.{Candidate}
 use Rattle.candidate_sieve.specs.Candidates.{AreCandidates, AreCandidatesAdded, IsPossibleIn, MeetsCells}
 use Rattle.candidate_sieve.proofs.CellsTold.{holds-were}
 use Rattle.segment_store.specs.Planes.{ArePlanesOf, ArePlanesOn, IsGameOfPlanes}
 use Rattle.search_engine.specs.BlockCandidates.{AreAccepted, candidate_at, no_candidate}
 use Rattle.search_engine.specs.Gathering.{AreGathered, AreOnBoards, HaveOccurrences, IsOfCandidates, IsOnPlanes, IsOnShape, gathered_of}
-use Rattle.search_engine.proofs.FoundCandidates.{candidate_is}
 use Rattle.search_engine.proofs.GamesSearched.{some_there}
 use Rattle.search_engine.proofs.GatheredLists.{AreGathered-as, AreGathered-more, AreGathered-none}
 use Rattle.search_engine.proofs.Gathering.{begins-occurs, occurs-begins}
 use Rattle.search_engine.proofs.PossibleGames.{not_none, on_shape_where_there, possible_where_allowed}
 
 -- candidates that are added to none are all
-pub only_candidates : (p : PlaneGames) (among : ℕ) (sieved images : ImageList) (old new found : List Candidate) → sieved ≡ images → old ≡ [] → found ≡ new → AreCandidatesAdded p sieved.placements among old new → AreCandidates p images.placements among found
-only_candidates p among sieved images old new found same none read added =
+pub only_candidates : (p : PlaneGames) (among : ℕ) (images : ImageList) (old new found : List Candidate) → old ≡ [] → found ≡ new → AreCandidatesAdded p images among old new → AreCandidates p images among found
+only_candidates p among images old new found none read added =
     let is : found ≡ added.more = read ∙ added.added ∙ ap (λ (cs : List Candidate). cs ++ added.more) none in
-    subst (λ (i : ImageList). AreCandidates p i.placements among found) same (subst (λ (cs : List Candidate). AreCandidates p sieved.placements among cs) (sym is) added.are)
+    subst (λ (cs : List Candidate). AreCandidates p images among cs) (sym is) added.are
+
+-- a candidate that is contained is one of its game
+candidate_is : (found : List Candidate) (c : Candidate) (g : ℕ) → Contains found c → bit_at c.games g ≡ 1 → Any (λ (d : Candidate). (d.placement ≡ c.placement) × (bit_at d.games g ≡ 1)) found
+candidate_is found c g (k, lt, at) bit = (k, c, lt, at, (refl, bit))
 
 -- ---- the games on boards of one shape
 
-module _ (query : Query) (games : List Game) (few : length games ≤ 64) (among : ℕ) (p : PlaneGames) (on : ArePlanesOn games p) (placements : List Placement) (are : ArePlacements query p.shape placements) (found : List Candidate) (exact : AreCandidates p placements among found) where
+module _ (query : Query) (games : List Game) (few : length games ≤ 64) (among : ℕ) (p : PlaneGames) (on : ArePlanesOn games p) (images : ImageList) (are : ArePlacements query p.shape images.placements) (found : List Candidate) (exact : AreCandidates p images among found) where
+  abbrev placements : List Placement
+  placements = images.placements
+
   -- what the planes have for a game
   told : (g : ℕ) (game : Game) → slice_get games g ≡ Some game → IsGameOfPlanes p.shape game.tree (get_or p.games g None)
   told g game there = subst (λ (h : Game). IsGameOfPlanes p.shape h.tree (get_or p.games g None)) (get_or_from_slice_get games g game game there) (on.1 g game (slice_get_within games g game there))
 
-  pub in_list : (c : Candidate) → Contains found c → c.placement < length placements
-  in_list c there = All-contains (λ (d : Candidate). d.placement < length placements) found c exact.in_range there
+  pub prepared : (c : Candidate) → Contains found c → IsPreparedAs images c.placement c.base c.class
+  prepared c there = All-contains (λ (d : Candidate). IsPreparedAs images d.placement d.base d.class) found c exact.prepared there
+
+  in_list : (c : Candidate) → Contains found c → c.placement < length placements
+  in_list c there = (prepared c there).in_range
 
   -- the sets of a game meet the placement of a candidate that has a bit for it
   possible : (c : Candidate) (g : ℕ) → Contains found c → g < 64 → bit_at c.games g ≡ 1 → (bit_at among g ≡ 1) × IsPossibleIn p g (placement_at placements c.placement)

@@ -1,13 +1,12 @@
 mod AddedHits
 mod CutLists
 mod FoundHits
-mod FoundCandidates
 mod GameBits
 mod GameHits
 mod GamesSearched
 mod GatheredBlocks
 mod GatheredLists
-mod ImagesOnShapes
+mod ReadyOnShapes
 mod ItemLists
 mod NodesVisited
 mod HitsKept
@@ -27,7 +26,6 @@ mod JoinedPieces
 mod BlocksSearched
 mod SameShapes
 mod SeveralAnswers
-mod ShapeNumbers
 mod ShapesSought
 mod StepsTaken
 mod VersionGames

@@ -1,16 +1,16 @@
--- The sets of a block's games on boards of one shape: a placement is possible in a game exactly where each of its cells was allowed.
-use Rattle.std.proofs.Common.{◌≡◌, ◌<◌, Option, Some, None, refl, sym, subst, ◌∙◌}
+-- The sets of a block's games on boards of one shape: a placement is possible in a game where each of its cells was allowed.
+use Rattle.std.proofs.Common.{◌≡◌, Option, Some, None, refl, sym, subst, ◌∙◌}
 use Rattle.std.specs.Option.{IsSomeAnd}
 use Rattle.kb_geometry.specs.declared.shape.Shape.{Shape}
 use Rattle.game_tree.specs.Tree.{Tree}
-use Rattle.capture_board.specs.Deltas.{Deltas, node_count}
+use Rattle.capture_board.specs.Deltas.{Deltas}
 use Rattle.node_position.specs.Games.{AreNodeChanges}
 use Rattle.pattern_images.specs.ImageList.{IsPlacedOn}
 use Rattle.pattern_images.specs.Placements.{Placement}
 use Rattle.final_index.specs.declared.ever_sets.EverSets.{EverSets}
 use Rattle.candidate_sieve.specs.Candidates.{MeetsCells}
 use Rattle.candidate_sieve.specs.Kept.{WereAllowed}
-use Rattle.candidate_sieve.proofs.CellsTold.{meets-were, were-meets}
+use Rattle.candidate_sieve.proofs.CellsTold.{were-meets}
 use Rattle.segment_store.specs.Planes.{IsGameOfPlanes}
 
 -- of the sets of a block's games on boards of one shape, those of a game on such a board
@@ -21,12 +21,6 @@ possible_where_allowed shape tree (Some sets) is same changes of placement place
     let on : changes.shape ≡ shape = of.lead.same_shape ∙ same in
     subst (λ (s : Shape). MeetsCells s sets placement) on
     (were-meets changes sets (is.1 changes of) placement (subst (λ (s : Shape). IsPlacedOn s placement) (sym of.lead.same_shape) placed) were)
-
-pub allowed_where_possible : (shape : Shape) (tree : Tree) (o : Option EverSets) → IsGameOfPlanes shape tree o → (changes : Deltas) → AreNodeChanges tree changes → 0 < node_count changes → (placement : Placement) → IsSomeAnd o (λ sets. MeetsCells shape sets placement) → WereAllowed changes placement
-allowed_where_possible shape tree None not changes of some placement possible = absurd possible
-allowed_where_possible shape tree (Some sets) is changes of some placement possible =
-    let on : changes.shape ≡ shape = of.lead.same_shape ∙ is.0 in
-    meets-were changes sets (is.1 changes of) placement some (subst (λ (s : Shape). MeetsCells s sets placement) (sym on) possible)
 
 -- a game whose sets are there is on a board of the shape
 pub on_shape_where_there : (shape : Shape) (tree : Tree) (o : Option EverSets) → IsGameOfPlanes shape tree o → ¬ (o ≡ None) → tree.shape ≡ shape

@@ -2,7 +2,7 @@
 use Rattle.std.proofs.Common.{◌≡◌, ℕ, zero, suc, inl, inr, ◌+◌, ◌<◌, List, [], ◌∷◌, ◌++◌, drop, get_or, length, map, take, sym, ap, ◌∙◌, subst, arith}
 use Rattle.std.specs.Prelude.{Contains}
 use Rattle.std.proofs.lemmas.List.{get_or-map, length-map, map-append, take-append-drop, take_more}
-use Rattle.std.proofs.lemmas.List.Elements.{All-push, Contains-append_cases, Contains-append_left, Contains-append_right, Contains-push}
+use Rattle.std.proofs.lemmas.List.Elements.{Contains-append_cases, Contains-append_left, Contains-append_right, Contains-push}
 use Rattle.kb_geometry.specs.declared.shape.Shape.{Shape}
 use Rattle.node_position.specs.Games.{Game}
 use Rattle.pattern_images.specs.declared.query.Query.{Query}
@@ -19,12 +19,11 @@ shapes_in games = map (λ (g : Game). g.tree.shape) games
 module _ (query : Query) where
   -- no shape
   pub AreShapesAdded-none : (old : List Shape) → AreShapesAdded query [] old old
-  AreShapesAdded-none old = record { for_boards = λ all. all; kept = λ s there. there; added = λ s (k, below, is). absurd (omega (arith, below)) }
+  AreShapesAdded-none old = record { kept = λ s there. there; added = λ s (k, below, is). absurd (omega (arith, below)) }
 
   -- a shape on which the query doesn't look, or that is there
   pub AreShapesAdded-nothing : (shape : Shape) (old : List Shape) → (IsForBoard query shape → Contains old shape) → AreShapesAdded query (shape ∷ []) old old
   AreShapesAdded-nothing shape old covered = record {
-    for_boards = λ all. all;
     kept = λ s there. there;
     added = λ s in_one. let same : shape ≡ s = only s in_one in subst (λ (t : Shape). IsForBoard query t → Contains old t) same covered;
   }
@@ -34,9 +33,8 @@ module _ (query : Query) where
       only s (suc k, below, is) = absurd (omega (arith, below))
 
   -- a shape that isn't there yet
-  pub AreShapesAdded-one : (shape : Shape) (old new : List Shape) → IsForBoard query shape → new ≡ old ++ shape ∷ [] → AreShapesAdded query (shape ∷ []) old new
-  AreShapesAdded-one shape old new looks pushed = subst (λ ss. AreShapesAdded query (shape ∷ []) old ss) (sym pushed) (record {
-    for_boards = λ all. All-push (IsForBoard query) old shape all looks;
+  pub AreShapesAdded-one : (shape : Shape) (old new : List Shape) → new ≡ old ++ shape ∷ [] → AreShapesAdded query (shape ∷ []) old new
+  AreShapesAdded-one shape old new pushed = subst (λ ss. AreShapesAdded query (shape ∷ []) old ss) (sym pushed) (record {
     kept = λ s there. Contains-append_left old (shape ∷ []) s there;
     added = λ s in_one looks_there. subst (Contains (old ++ shape ∷ [])) (only s in_one) (Contains-push old shape);
   })
@@ -48,7 +46,6 @@ module _ (query : Query) where
   -- some shapes, and then more
   pub AreShapesAdded-both : (one other old mid new : List Shape) → AreShapesAdded query one old mid → AreShapesAdded query other mid new → AreShapesAdded query (one ++ other) old new
   AreShapesAdded-both one other old mid new first second = record {
-    for_boards = λ all. second.for_boards (first.for_boards all);
     kept = λ s there. second.kept s (first.kept s there);
     added = λ s there looks. elim (Contains-append_cases one other s there) [
       | inl before ↦ second.kept s (first.added s before looks)
@@ -64,7 +61,7 @@ module _ (query : Query) where
 
   -- the shapes of games are these
   pub AreShapesAdded-of_games : (games : List Game) (shapes old new : List Shape) → HaveShapes games shapes → AreShapesAdded query shapes old new → AreShapesAdded query (shapes_in games) old new
-  AreShapesAdded-of_games games shapes old new have are = record { for_boards = are.for_boards; kept = are.kept; added = λ s there looks. are.added s ((have s).1 there) looks }
+  AreShapesAdded-of_games games shapes old new have are = record { kept = are.kept; added = λ s there looks. are.added s ((have s).1 there) looks }
 
   -- the shapes of games, or of some more, are these
   pub AreShapesAdded-of_last : (skip : ℕ) (games : List Game) (shapes old new : List Shape) → HaveShapes games shapes → AreShapesAdded query shapes old new → AreShapesAdded query (shapes_in (drop skip games)) old new
@@ -72,7 +69,6 @@ module _ (query : Query) where
       let all = AreShapesAdded-of_games games shapes old new have are in
       let parts : shapes_in (take skip games) ++ shapes_in (drop skip games) ≡ shapes_in games = sym (map-append (λ (g : Game). g.tree.shape) (take skip games) (drop skip games)) ∙ ap shapes_in (take-append-drop skip games) in
       record {
-        for_boards = all.for_boards;
         kept = all.kept;
         added = λ s there. all.added s (subst (λ ss. Contains ss s) parts (Contains-append_right (shapes_in (take skip games)) (shapes_in (drop skip games)) s there));
       }

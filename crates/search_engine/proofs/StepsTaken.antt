@@ -69,6 +69,6 @@ module _ (query : Query) where
       subst (λ gs. AreStepsIn query gs old new) cut (AreStepsIn-front (games_of_items (take k items)) (games_of_items (drop k items)) old new one)
 
 -- those in the games that blocks have
-pub steps_of_items : (query : Query) (made sought : QueryOnShapes) (items read : List Item) (first : ℕ) (games : List Game) (old new : ℕ) → made ≡ sought → sought.query ≡ query → read ≡ items → AreItems first games items → AreStepsIn made.query (games_of_items read) old new → AreStepsIn query games old new
-steps_of_items query made sought items read first games old new same of is are steps =
-    subst (λ gs. AreStepsIn query gs old new) (ap games_of_items is ∙ are.has_games) (subst (λ (q : Query). AreStepsIn q (games_of_items read) old new) (ap (λ (m : QueryOnShapes). m.query) same ∙ of) steps)
+pub steps_of_items : (query : Query) (ready : QueryOnShapes) (items read : List Item) (first : ℕ) (games : List Game) (old new : ℕ) → ready.query ≡ query → read ≡ items → AreItems first games items → AreStepsIn ready.query (games_of_items read) old new → AreStepsIn query games old new
+steps_of_items query ready items read first games old new of is are steps =
+    subst (λ gs. AreStepsIn query gs old new) (ap games_of_items is ∙ are.has_games) (subst (λ (q : Query). AreStepsIn q (games_of_items read) old new) of steps)

@@ -25,7 +25,8 @@ use Rattle.pattern_images.proofs.Tellings.{Told, least_below, told_as, told_belo
 use Rattle.line_matcher.specs.Occurrences.{allows}
 use Rattle.line_matcher.proofs.HoldsLaw.{allows-decides}
 use Rattle.corner_index.specs.Corners.{HasCorners, point_in_frame}
-use Rattle.candidate_sieve.specs.Kept.{CoversCorner, HasCornerOf, IsExact, IsKept, IsKeptBy, LiesOn, WasAllowed, WereAllowed}
+use Rattle.ready_images.specs.Corners.{CoversCorner, IsExact, LiesOn}
+use Rattle.candidate_sieve.specs.Kept.{HasCornerOf, IsKept, IsKeptBy, WasAllowed, WereAllowed}
 use Rattle.search_engine.specs.KeptGames.{IsKeptGame}
 
 -- ---- what can be told

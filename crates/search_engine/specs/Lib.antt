@@ -13,5 +13,4 @@ pub mod ImagesMade
 pub mod Items
 pub mod Searching
 pub mod Several
-pub mod ShapePlaces
 pub mod StepBounds

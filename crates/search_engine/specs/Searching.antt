@@ -28,7 +28,6 @@ AreCovered query shapes games = All (λ (g : Game). IsCovered query shapes g.tre
 
 -- Shapes are added: those of these that aren't there yet and on which the query looks.
 pub record AreShapesAdded (query : Query) (shapes old new : List Shape) : Type 0 where
-  pub for_boards : All (IsForBoard query) old → All (IsForBoard query) new
   pub kept : (s : Shape) → Contains old s → Contains new s
   pub added : (s : Shape) → Contains shapes s → IsCovered query new s
 

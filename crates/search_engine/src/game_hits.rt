@@ -18,69 +18,129 @@ use game_tree::GameTree;
 use kb_geometry::NoMemory;
 use line_matcher::Occurrence;
 use pattern_images::{Hit, Query};
-use run_matcher::{Begun, RunMatcher};
+use ready_images::ReadyImages;
+use run_matcher::{Begun, HoldsTo, holds_to};
 use segment_store::FinishedGame;
 use std::sync::ledger::Ledger;
 
-// Adds the hits of what occurs in the game with this number, on whose board the query looks.
-pub(crate) fn add_hits_in<L: Ledger>(
-    query: &Query,
-    number: u32,
-    game: &FinishedGame,
-    matcher: &RunMatcher,
-    begun: &[Begun],
-    hits: &mut Vec<Hit>,
-    steps: &mut Steps<L>,
-) -> Result<(), NoMemory>
-    requires shape { matcher.now.images.now.shape ≡ game.now.tree.shape }
-    requires images { ArePlacements query.now game.now.tree.shape
-        matcher.now.images.now.placements }
-    requires occurrences { AreOccurrencesIn query.now game.now.tree (occurrences_of begun.now) }
-    requires go_on { GoOnIn query.now game.now.tree begun.now }
-    ensures hits { OnOk result (AreHitsAdded (AreHitsIn query.now number game.now.tree)
-        hits.old.items hits.new.items) }
-    ensures visited { OnOk result (AreVisited hits.old.items hits.new.items steps.old steps.new) }
-    ensures ticks { steps.new ≤ steps.old + node_count game.now.tree }
-    ensures grows { steps.old ≤ steps.new }
-{
-    let deltas = game.deltas();
-    add_hits(query, number, game, deltas, matcher, begun, hits, steps)
+// A game with its number, and a query whose images on the game's board are ready.
+#[derive(Clone, Copy, Debug)]
+pub(crate) struct SearchedGame<'a> {
+    pub(crate) number: u32,
+    pub(crate) game: &'a FinishedGame,
+    pub(crate) query: &'a Query,
+    pub(crate) ready: &'a ReadyImages,
 }
 
-// Adds the hits of what occurs in a game with these changes. The nodes at which something occurs are
-// visited in their order, and each is one step.
-fn add_hits<L: Ledger>(
-    query: &Query,
-    number: u32,
-    game: &FinishedGame,
-    deltas: &NodeDeltas,
-    matcher: &RunMatcher,
-    begun: &[Begun],
-    hits: &mut Vec<Hit>,
-    steps: &mut Steps<L>,
-) -> Result<(), NoMemory>
-    requires changes { AreNodeChanges game.now.tree deltas.now }
-    requires shape { matcher.now.images.now.shape ≡ game.now.tree.shape }
-    requires occurrences { occurrences_of begun.now ≡ occurrences_in deltas.now
-        matcher.now.images.now.placements }
-    requires go_on { (b : Begun) → Contains begun.now b →
-        GoesOnToHold deltas.now matcher.now.images.now.placements b }
-    ensures hits { OnOk result (AreHitsAdded
-        (AreHitsOf query.now number game.now.tree deltas.now
-        matcher.now.images.now.placements (occurrences_of begun.now))
-        hits.old.items hits.new.items) }
-    ensures visited { OnOk result (AreVisited hits.old.items hits.new.items steps.old steps.new) }
-    ensures ticks { steps.new ≤ steps.old + node_count game.now.tree }
-    ensures grows { steps.old ≤ steps.new }
-{
-    let mut visited = 0;
-    for one in begun {
-        visited = visit(one.occurrence.node, visited, steps);
-        if looks_at(query, game.tree(), one.occurrence.node) {
-            hits.push(hit_of(number, game, deltas, matcher, *one))?;
+impl<'a> SearchedGame<'a> {
+    // Adds the hits of what occurs in the game, on whose board the query looks.
+    pub(crate) fn add_hits_in<L: Ledger>(
+        &self,
+        begun: &[Begun],
+        hits: &mut Vec<Hit>,
+        steps: &mut Steps<L>,
+    ) -> Result<(), NoMemory>
+        requires shape { self.now.ready.now.images.shape ≡ self.now.game.now.tree.shape }
+        requires images { ArePlacements self.now.query.now self.now.game.now.tree.shape
+            self.now.ready.now.images.placements }
+        requires occurrences { AreOccurrencesIn self.now.query.now self.now.game.now.tree
+            (occurrences_of begun.now) }
+        requires go_on { GoOnIn self.now.query.now self.now.game.now.tree begun.now }
+        ensures hits { OnOk result (AreHitsAdded
+            (AreHitsIn self.now.query.now self.now.number self.now.game.now.tree)
+            hits.old.items hits.new.items) }
+        ensures visited { OnOk result
+            (AreVisited hits.old.items hits.new.items steps.old steps.new) }
+        ensures ticks { steps.new ≤ steps.old + node_count self.now.game.now.tree }
+        ensures grows { steps.old ≤ steps.new }
+    {
+        self.add_hits(self.game.deltas(), begun, hits, steps)
+    }
+
+    // Adds the hits of what occurs in the game, which has these changes. The nodes at which something
+    // occurs are visited in their order, and each is one step.
+    fn add_hits<L: Ledger>(
+        &self,
+        deltas: &NodeDeltas,
+        begun: &[Begun],
+        hits: &mut Vec<Hit>,
+        steps: &mut Steps<L>,
+    ) -> Result<(), NoMemory>
+        requires changes { AreNodeChanges self.now.game.now.tree deltas.now }
+        requires shape { self.now.ready.now.images.shape ≡ self.now.game.now.tree.shape }
+        requires occurrences { occurrences_of begun.now ≡ occurrences_in deltas.now
+            self.now.ready.now.images.placements }
+        requires go_on { (b : Begun) → Contains begun.now b →
+            GoesOnToHold deltas.now self.now.ready.now.images.placements b }
+        ensures hits { OnOk result (AreHitsAdded
+            (AreHitsOf self.now.query.now self.now.number self.now.game.now.tree deltas.now
+            self.now.ready.now.images.placements (occurrences_of begun.now))
+            hits.old.items hits.new.items) }
+        ensures visited { OnOk result
+            (AreVisited hits.old.items hits.new.items steps.old steps.new) }
+        ensures ticks { steps.new ≤ steps.old + node_count self.now.game.now.tree }
+        ensures grows { steps.old ≤ steps.new }
+    {
+        let mut visited = 0;
+        for one in begun {
+            visited = visit(one.occurrence.node, visited, steps);
+            if looks_at(self.query, self.game.tree(), one.occurrence.node) {
+                hits.push(self.hit_of(deltas, *one))?;
+            }
+        }
+        Ok(())
+    }
+
+    // The hit of what occurs in the game, which has these changes. `known_to` tells how far the
+    // placement goes on to hold, so the changes of the nodes before that needn't be asked.
+    fn hit_of(&self, deltas: &NodeDeltas, begun: Begun) -> Hit
+        requires changes { AreNodeChanges self.now.game.now.tree deltas.now }
+        requires shape { self.now.ready.now.images.shape ≡ self.now.game.now.tree.shape }
+        requires node { begun.occurrence.node < node_count self.now.game.now.tree }
+        requires placement { begun.occurrence.placement
+            < length self.now.ready.now.images.placements }
+        requires holds { HoldsAt deltas.now (placement_at self.now.ready.now.images.placements
+            begun.occurrence.placement) begun.occurrence.node }
+        requires go_on { GoesOnToHold deltas.now self.now.ready.now.images.placements begun }
+        ensures { IsHit self.now.number self.now.game.now.tree deltas.now
+            self.now.ready.now.images.placements begun.occurrence result }
+    {
+        let Occurrence { node, placement } = begun.occurrence;
+        let known = self.known_to(deltas, begun);
+        let placement = placement as usize;
+        let images = self.ready.images();
+        Hit {
+            game: self.number,
+            node,
+            place: images.place(placement),
+            moves: self.game.tree().move_number(node),
+            outcome: self.game.outcome(),
+            next: next_below(self.game.tree(), deltas, images, placement, node, known),
         }
     }
-    Ok(())
+
+    // The number of a node, or the number of nodes: up to before it the placement goes on to hold.
+    // Where nothing is known with the occurrence, the runs tell.
+    fn known_to(&self, deltas: &NodeDeltas, begun: Begun) -> u32
+        requires changes { AreNodeChanges self.now.game.now.tree deltas.now }
+        requires shape { self.now.ready.now.images.shape ≡ self.now.game.now.tree.shape }
+        requires node { begun.occurrence.node < node_count self.now.game.now.tree }
+        requires placement { begun.occurrence.placement
+            < length self.now.ready.now.images.placements }
+        requires holds { HoldsAt deltas.now (placement_at self.now.ready.now.images.placements
+            begun.occurrence.placement) begun.occurrence.node }
+        requires go_on { GoesOnToHold deltas.now self.now.ready.now.images.placements begun }
+        ensures { (k : ℕ) → begun.occurrence.node ≤ k → k < result → HoldsAt deltas.now
+            (placement_at self.now.ready.now.images.placements begun.occurrence.placement) k }
+    {
+        let Occurrence { node, placement } = begun.occurrence;
+        match begun.holds {
+            HoldsTo::Known { end } => end,
+            HoldsTo::Unknown => {
+                holds_to(self.game.runs(), &self.ready.placement(placement), node)
+            }
+        }
+    }
 }
 
 // Visits a node, which is one step, unless it or one behind it was visited. Those that were have
@@ -110,59 +170,4 @@ fn looks_at(query: &Query, tree: &GameTree, node: u32) -> bool
     }
     let moves = tree.move_number(node);
     query.from_move <= moves && moves <= query.to_move
-}
-
-// The hit of what occurs in the game with this number and these changes. `known_to` tells how far the
-// placement goes on to hold, so the changes of the nodes before that needn't be asked.
-fn hit_of(
-    number: u32,
-    game: &FinishedGame,
-    deltas: &NodeDeltas,
-    matcher: &RunMatcher,
-    begun: Begun,
-) -> Hit
-    requires changes { AreNodeChanges game.now.tree deltas.now }
-    requires shape { matcher.now.images.now.shape ≡ game.now.tree.shape }
-    requires node { begun.occurrence.node < node_count game.now.tree }
-    requires placement { begun.occurrence.placement < length matcher.now.images.now.placements }
-    requires holds { HoldsAt deltas.now (placement_at matcher.now.images.now.placements
-        begun.occurrence.placement) begun.occurrence.node }
-    requires go_on { GoesOnToHold deltas.now matcher.now.images.now.placements begun }
-    ensures { IsHit number game.now.tree deltas.now matcher.now.images.now.placements
-        begun.occurrence result }
-{
-    let Occurrence { node, placement } = begun.occurrence;
-    let known = known_to(game, deltas, matcher, begun);
-    let placement = placement as usize;
-    let images = matcher.images;
-    Hit {
-        game: number,
-        node,
-        place: images.place(placement),
-        moves: game.tree().move_number(node),
-        outcome: game.outcome(),
-        next: next_below(game.tree(), deltas, images, placement, node, known),
-    }
-}
-
-// The number of a node, or the number of nodes: up to before it the placement goes on to hold. Where
-// nothing is known with the occurrence, the runs tell.
-fn known_to(game: &FinishedGame, deltas: &NodeDeltas, matcher: &RunMatcher, begun: Begun) -> u32
-    requires changes { AreNodeChanges game.now.tree deltas.now }
-    requires shape { matcher.now.images.now.shape ≡ game.now.tree.shape }
-    requires node { begun.occurrence.node < node_count game.now.tree }
-    requires placement { begun.occurrence.placement < length matcher.now.images.now.placements }
-    requires holds { HoldsAt deltas.now (placement_at matcher.now.images.now.placements
-        begun.occurrence.placement) begun.occurrence.node }
-    requires go_on { GoesOnToHold deltas.now matcher.now.images.now.placements begun }
-    ensures { (k : ℕ) → begun.occurrence.node ≤ k → k < result → HoldsAt deltas.now
-        (placement_at matcher.now.images.now.placements begun.occurrence.placement) k }
-{
-    let Occurrence { node, placement } = begun.occurrence;
-    if begun.known > node {
-        return begun.known;
-    }
-    matcher
-        .sought(placement as usize)
-        .holds_to(game.runs(), node)
 }

@@ -15,7 +15,7 @@ ghost use Rattle.search_engine.specs.Searching.{AreCovered};
 
 use crate::item::Item;
 use crate::items::items_of_version;
-use crate::matchers::{Matchers, images_for};
+use crate::ready_query::ReadyQuery;
 use candidate_sieve::kept_games;
 use corner_index::CornerKeys;
 use final_index::Planes;
@@ -34,21 +34,20 @@ pub fn kept(alloc: Global, version: &Version<Segment>, query: &Query) -> Result<
     ensures { IfOk result (λ k. AreKept query.now (items_in version.now.parts) k) }
 {
     let items = items_of_version(alloc, version)?;
-    let images = images_for(alloc, query, &items)?;
-    let matchers = Matchers::of(alloc, &images)?;
-    kept_of_items(alloc, &matchers, &items)
+    let ready = ReadyQuery::of(alloc, query, &items)?;
+    kept_of_items(alloc, &ready, &items)
 }
 
 // How many games of blocks are kept. The games are numbered from 0.
-fn kept_of_items(alloc: Global, matchers: &Matchers, items: &[Item]) -> Result<u32, NoMemory>
+fn kept_of_items(alloc: Global, ready: &ReadyQuery, items: &[Item]) -> Result<u32, NoMemory>
     requires numbered { AreNumberedFrom 0 items.now }
-    requires covered { AreCovered matchers.now.query matchers.now.shapes (games_of_items items.now) }
-    ensures { IfOk result (λ k. AreKept matchers.now.query (games_of_items items.now) k) }
+    requires covered { AreCovered ready.now.query ready.now.shapes (games_of_items items.now) }
+    ensures { IfOk result (λ k. AreKept ready.now.query (games_of_items items.now) k) }
 {
     let mut room = Vec::new(alloc);
     let mut count = 0;
     for item in items {
-        let kept = kept_in_block(alloc, matchers, item.block, &mut room)?;
+        let kept = kept_in_block(alloc, ready, item.block, &mut room)?;
         count += (kept >> item.skip).count_ones();
     }
     Ok(count)
@@ -57,35 +56,35 @@ fn kept_of_items(alloc: Global, matchers: &Matchers, items: &[Item]) -> Result<u
 // The games of a block that are kept, a bit for each. The words are room for work.
 fn kept_in_block(
     alloc: Global,
-    matchers: &Matchers,
+    ready: &ReadyQuery,
     block: &Block,
     room: &mut Vec<u64>,
 ) -> Result<u64, NoMemory>
-    ensures { IfOk result (AreKeptInBlock matchers.now.query matchers.now.shapes block.now) }
+    ensures { IfOk result (AreKeptInBlock ready.now.query ready.now.shapes block.now) }
 {
     let corners = corners_of(alloc, block)?;
     let mut kept = 0;
     for planes in block.planes() {
-        kept |= kept_on_shape(matchers, planes, &corners, room)?;
+        kept |= kept_on_shape(ready, planes, &corners, room)?;
     }
     Ok(kept)
 }
 
-// Those on boards of one shape. Where there is no matcher for the shape, the query doesn't look there.
+// Those on boards of one shape. Where there are no images for the shape, the query doesn't look there.
 fn kept_on_shape(
-    matchers: &Matchers,
+    ready: &ReadyQuery,
     planes: &Planes,
     corners: &[&CornerKeys],
     room: &mut Vec<u64>,
 ) -> Result<u64, NoMemory>
     requires { length corners.now ≤ 64 }
-    ensures { IfOk result (AreKeptOn matchers.now.query matchers.now.shapes planes.now
+    ensures { IfOk result (AreKeptOn ready.now.query ready.now.shapes planes.now
         corners.now) }
 {
-    let Some(matcher) = matchers.find(planes.shape()) else {
+    let Some(on_shape) = ready.find(planes.shape()) else {
         return Ok(0);
     };
-    kept_games(planes, &matcher.rows, matcher.runs.wants(), corners, room)
+    kept_games(planes, on_shape, corners, room)
 }
 
 // The numbers of the corners of each game of a block, in their order.

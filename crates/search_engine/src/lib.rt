@@ -11,21 +11,17 @@
 mod accepted;
 mod answer;
 mod bits;
-mod block_candidates;
 mod block_occurrences;
 mod game_hits;
-mod game_occurrences;
 mod item;
 mod items;
 mod kept_games;
 mod laws;
-mod matchers;
 mod pieces;
+mod ready_query;
 mod search_items;
 mod searches;
 mod several;
-mod shape_list;
-mod shapes;
 mod version_games;
 mod work;
 

@@ -9,10 +9,8 @@ ghost use Rattle.search_engine.specs.Searching.{
 };
 
 use crate::item::Item;
-use crate::matchers::Matchers;
-use crate::search_items::{add_first_hits, add_items_hits};
+use crate::search_items::Searcher;
 use capture_board::Steps;
-use info_filter::Filter;
 use kb_geometry::{NoMemory, joined};
 use pattern_images::Hit;
 use std::alloc::Global;
@@ -33,45 +31,38 @@ struct FirstHits {
     blocks: usize,
 }
 
-// The hits of the games of blocks that a filter accepts. The games are numbered from 0. Blocks are
-// searched in the caller's thread until much is done; those that are left then are searched in pieces,
-// side by side. So a search that does little starts no thread, however many games there are.
+// The hits of the games of blocks. The games are numbered from 0. Blocks are searched in the caller's
+// thread until much is done; those that are left then are searched in pieces, side by side. So a
+// search that does little starts no thread, however many games there are.
 pub(crate) fn hits_of<R: Threads + Sync>(
     rt: &R,
-    alloc: Global,
-    matchers: &Matchers,
-    filter: &Filter,
+    searcher: &Searcher,
     items: &[Item],
 ) -> Result<Vec<Hit>, NoMemory>
     requires numbered { AreNumberedFrom 0 items.now }
-    requires covered { AreCovered matchers.now.query matchers.now.shapes
+    requires covered { AreCovered searcher.now.ready.now.query searcher.now.ready.now.shapes
         (games_of_items items.now) }
-    ensures { IfOk result (λ hits. AreHits matchers.now.query filter.now (games_of_items items.now)
-        hits.items) }
+    ensures { IfOk result (λ hits. AreHits searcher.now.ready.now.query searcher.now.filter.now
+        (games_of_items items.now) hits.items) }
 {
-    let first = first_hits(alloc, matchers, filter, items)?;
+    let first = first_hits(searcher, items)?;
     let left = &items[first.blocks..];
     if left.is_empty() {
         return Ok(first.hits);
     }
     let size = piece_size(left.len(), pieces_for(rt, first.blocks, left.len()));
-    hits_behind(rt, alloc, matchers, filter, left, size, first.hits)
+    hits_behind(rt, searcher, left, size, first.hits)
 }
 
 // The same where little is done, so that all blocks are searched in the caller's thread; else none.
-pub(crate) fn little_hits(
-    alloc: Global,
-    matchers: &Matchers,
-    filter: &Filter,
-    items: &[Item],
-) -> Result<Option<Vec<Hit>>, NoMemory>
+pub(crate) fn little_hits(searcher: &Searcher, items: &[Item]) -> Result<Option<Vec<Hit>>, NoMemory>
     requires numbered { AreNumberedFrom 0 items.now }
-    requires covered { AreCovered matchers.now.query matchers.now.shapes
+    requires covered { AreCovered searcher.now.ready.now.query searcher.now.ready.now.shapes
         (games_of_items items.now) }
-    ensures { IfOk result (λ found. IfSome found (λ hits.
-        AreHits matchers.now.query filter.now (games_of_items items.now) hits.items)) }
+    ensures { IfOk result (λ found. IfSome found (λ hits. AreHits searcher.now.ready.now.query
+        searcher.now.filter.now (games_of_items items.now) hits.items)) }
 {
-    let first = first_hits(alloc, matchers, filter, items)?;
+    let first = first_hits(searcher, items)?;
     if first.blocks < items.len() {
         return Ok(None);
     }
@@ -108,47 +99,41 @@ fn piece_size(items: usize, pieces: usize) -> usize
 // searched side by side.
 fn hits_behind<R: Threads + Sync>(
     rt: &R,
-    alloc: Global,
-    matchers: &Matchers,
-    filter: &Filter,
+    searcher: &Searcher,
     items: &[Item],
     size: usize,
     before: Vec<Hit>,
 ) -> Result<Vec<Hit>, NoMemory>
     requires { 0 < size }
-    ensures { IfOk result (λ hits. AreItemHitsAdded matchers.now.query filter.now
-        matchers.now.shapes items.now before.items hits.items) }
+    ensures { IfOk result (λ hits. AreItemHitsAdded searcher.now.ready.now.query
+        searcher.now.filter.now searcher.now.ready.now.shapes items.now
+        before.items hits.items) }
 {
+    let alloc = searcher.alloc;
     let mut pieces = thread::map_chunks(
         rt,
         alloc,
         items,
         size,
-        &|_, chunk| { piece_hits(alloc, matchers, filter, chunk) },
+        &|_, chunk| { piece_hits(searcher, chunk) },
     )?;
     pieces.insert(0, Ok(before))?;
     joined(alloc, pieces)
 }
 
 // The hits of the games of the first blocks. Nobody asks for the steps.
-fn first_hits(
-    alloc: Global,
-    matchers: &Matchers,
-    filter: &Filter,
-    items: &[Item],
-) -> Result<FirstHits, NoMemory>
+fn first_hits(searcher: &Searcher, items: &[Item]) -> Result<FirstHits, NoMemory>
     ensures most { IfOk result (λ first. first.blocks ≤ length items.now) }
-    ensures hits { IfOk result (λ first. AreFirstHitsAdded matchers.now.query filter.now
-        matchers.now.shapes items.now first.blocks [] first.hits.items) }
+    ensures hits { IfOk result (λ first. AreFirstHitsAdded searcher.now.ready.now.query
+        searcher.now.filter.now searcher.now.ready.now.shapes items.now
+        first.blocks [] first.hits.items) }
 {
-    counted_first_hits::<Brand>(alloc, matchers, filter, items, Blank::new(1))
+    counted_first_hits::<Brand>(searcher, items, Blank::new(1))
 }
 
 // The same, with steps that are counted in a ledger of their own.
 fn counted_first_hits<L: Ledger>(
-    alloc: Global,
-    matchers: &Matchers,
-    filter: &Filter,
+    searcher: &Searcher,
     items: &[Item],
     blank: Blank,
 ) -> Result<FirstHits, NoMemory>
@@ -156,44 +141,38 @@ fn counted_first_hits<L: Ledger>(
     requires parts { blank.parts ≡ L.parts }
     requires some { 0 < blank.parts }
     ensures most { IfOk result (λ first. first.blocks ≤ length items.now) }
-    ensures hits { IfOk result (λ first. AreFirstHitsAdded matchers.now.query filter.now
-        matchers.now.shapes items.now first.blocks [] first.hits.items) }
+    ensures hits { IfOk result (λ first. AreFirstHitsAdded searcher.now.ready.now.query
+        searcher.now.filter.now searcher.now.ready.now.shapes items.now
+        first.blocks [] first.hits.items) }
 {
     let mut steps = Steps::<L>::new(blank);
-    let mut hits = Vec::new(alloc);
-    let blocks = add_first_hits(alloc, matchers, filter, items, &mut hits, &mut steps)?;
+    let mut hits = Vec::new(searcher.alloc);
+    let blocks = searcher.add_first_hits(items, &mut hits, &mut steps)?;
     Ok(FirstHits { hits, blocks })
 }
 
 // The hits of the games of some blocks. Nobody asks for the steps.
-fn piece_hits(
-    alloc: Global,
-    matchers: &Matchers,
-    filter: &Filter,
-    items: &[Item],
-) -> Result<Vec<Hit>, NoMemory>
-    ensures { IfOk result (λ hits. AreItemHitsAdded matchers.now.query filter.now
-        matchers.now.shapes items.now [] hits.items) }
+fn piece_hits(searcher: &Searcher, items: &[Item]) -> Result<Vec<Hit>, NoMemory>
+    ensures { IfOk result (λ hits. AreItemHitsAdded searcher.now.ready.now.query
+        searcher.now.filter.now searcher.now.ready.now.shapes items.now [] hits.items) }
 {
-    counted_hits::<Brand>(alloc, matchers, filter, items, Blank::new(1))
+    counted_hits::<Brand>(searcher, items, Blank::new(1))
 }
 
 // The same, with steps that are counted in a ledger of their own.
 fn counted_hits<L: Ledger>(
-    alloc: Global,
-    matchers: &Matchers,
-    filter: &Filter,
+    searcher: &Searcher,
     items: &[Item],
     blank: Blank,
 ) -> Result<Vec<Hit>, NoMemory>
     requires name { blank.name ≡ L.name }
     requires parts { blank.parts ≡ L.parts }
     requires some { 0 < blank.parts }
-    ensures { IfOk result (λ hits. AreItemHitsAdded matchers.now.query filter.now
-        matchers.now.shapes items.now [] hits.items) }
+    ensures { IfOk result (λ hits. AreItemHitsAdded searcher.now.ready.now.query
+        searcher.now.filter.now searcher.now.ready.now.shapes items.now [] hits.items) }
 {
     let mut steps = Steps::<L>::new(blank);
-    let mut hits = Vec::new(alloc);
-    add_items_hits(alloc, matchers, filter, items, &mut hits, &mut steps)?;
+    let mut hits = Vec::new(searcher.alloc);
+    searcher.add_items_hits(items, &mut hits, &mut steps)?;
     Ok(hits)
 }

@@ -9,9 +9,9 @@ ghost use Rattle.segment_store.specs.Nodes.{nodes_of};
 
 use crate::answer::Answer;
 use crate::items::{items_of_part, items_of_version};
-use crate::matchers::{Matchers, images_for};
 use crate::pieces::hits_of;
-use crate::search_items::add_items_hits;
+use crate::ready_query::ReadyQuery;
+use crate::search_items::Searcher;
 use capture_board::Steps;
 use continuation_table::Table;
 use info_filter::Filter;
@@ -41,9 +41,13 @@ pub fn search<R: Threads + Sync>(
     ensures table { IfOk result (λ answer. IsTable answer.hits.items answer.table) }
 {
     let items = items_of_version(alloc, version)?;
-    let images = images_for(alloc, query, &items)?;
-    let matchers = Matchers::of(alloc, &images)?;
-    let hits = hits_of(rt, alloc, &matchers, filter, &items)?;
+    let ready = ReadyQuery::of(alloc, query, &items)?;
+    let searcher = Searcher {
+        alloc,
+        ready: &ready,
+        filter,
+    };
+    let hits = hits_of(rt, &searcher, &items)?;
     let table = Table::of(alloc, &hits)?;
     Ok(Answer { hits, table })
 }
@@ -100,9 +104,13 @@ pub fn search_from<L: Ledger>(
     ensures grows { steps.old ≤ steps.new }
 {
     let items = items_of_part(alloc, part, from, first)?;
-    let images = images_for(alloc, query, &items)?;
-    let matchers = Matchers::of(alloc, &images)?;
+    let ready = ReadyQuery::of(alloc, query, &items)?;
+    let searcher = Searcher {
+        alloc,
+        ready: &ready,
+        filter,
+    };
     let mut hits = Vec::new(alloc);
-    add_items_hits(alloc, &matchers, filter, &items, &mut hits, steps)?;
+    searcher.add_items_hits(&items, &mut hits, steps)?;
     Ok(hits)
 }

@@ -6,8 +6,9 @@ ghost use Rattle.search_engine.specs.Several.{AreAllAdded, AreMade};
 
 use crate::answer::Answer;
 use crate::items::items_of_version;
-use crate::matchers::{Matchers, images_for};
 use crate::pieces::little_hits;
+use crate::ready_query::ReadyQuery;
+use crate::search_items::Searcher;
 use crate::searches::search;
 use continuation_table::Table;
 use info_filter::Filter;
@@ -77,9 +78,13 @@ fn little_answer(alloc: Global, asked: &Asked) -> Result<Option<Answer>, NoMemor
     ensures { IfOk result (λ found. IfSome found (λ answer. IsAnswerOf asked.now answer)) }
 {
     let items = items_of_version(alloc, asked.version)?;
-    let images = images_for(alloc, asked.query, &items)?;
-    let matchers = Matchers::of(alloc, &images)?;
-    let Some(hits) = little_hits(alloc, &matchers, asked.filter, &items)? else {
+    let ready = ReadyQuery::of(alloc, asked.query, &items)?;
+    let searcher = Searcher {
+        alloc,
+        ready: &ready,
+        filter: asked.filter,
+    };
+    let Some(hits) = little_hits(&searcher, &items)? else {
         return Ok(None);
     };
     let table = Table::of(alloc, &hits)?;

@@ -13,8 +13,8 @@ loop-at-init c = record {
 pub loop-at-preserved : goal.loop-at-preserved
 loop-at-preserved c = record {
   from = c.if-next-stretch.false;
-  cut = IsCutTo-more c.args.runs.now c.args.want c.args.stretch c.args.found.now.items c.loop-at.at c.loop-at.next c.loop-at.found.items c.push_common.new.found.items _ c.from-first.result c.min-next.result c.allows.result
-      c.loop-at-test.true c.loop-at.invariant.cut c.in_ok-push_common.ensures.nodes c.from-first.ensures c.allows.ensures c.min-next.ensures;
+  cut = IsCutTo-more c.args.runs.now c.args.want c.args.stretch c.args.found.now.items c.loop-at.at c.loop-at.next c.loop-at.found.items c.push_common.new.found.items _ c.from-first.result c.min-next.result c.is_wanted.result
+      c.loop-at-test.true c.loop-at.invariant.cut c.in_ok-push_common.ensures.nodes c.from-first.ensures c.is_wanted.ensures c.min-next.ensures;
   apart = λ most within apart.
       IsApartTo-more c.args.stretch c.loop-at.next most c.loop-at.found.items c.push_common.new.found.items c.from-first.result (c.loop-at.invariant.apart most within apart)
       (λ low lowest. c.in_ok-push_common.ensures.apart low lowest most within) c.min-next.result c.min-next.ensures;
@@ -24,8 +24,8 @@ loop-at-preserved c = record {
 pub returns-then-next-stretch-clause-nodes : goal.returns-then-next-stretch-clause-nodes
 returns-then-next-stretch-clause-nodes c =
     IsCutTo-end c.args.runs.now c.args.want c.args.stretch c.args.found.now.items (c.loop-at.at + 1) c.min-next.result c.push_common.new.found.items c.if-next-stretch.true
-    (IsCutTo-more c.args.runs.now c.args.want c.args.stretch c.args.found.now.items c.loop-at.at c.loop-at.next c.loop-at.found.items c.push_common.new.found.items _ c.from-first.result c.min-next.result c.allows.result
-    c.loop-at-test.true c.loop-at.invariant.cut c.in_ok-push_common.ensures.nodes c.from-first.ensures c.allows.ensures c.min-next.ensures)
+    (IsCutTo-more c.args.runs.now c.args.want c.args.stretch c.args.found.now.items c.loop-at.at c.loop-at.next c.loop-at.found.items c.push_common.new.found.items _ c.from-first.result c.min-next.result c.is_wanted.result
+    c.loop-at-test.true c.loop-at.invariant.cut c.in_ok-push_common.ensures.nodes c.from-first.ensures c.is_wanted.ensures c.min-next.ensures)
 
 pub returns-then-next-stretch-clause-behind : goal.returns-then-next-stretch-clause-behind
 returns-then-next-stretch-clause-behind c = told-sooner c.args.runs.now c.loop-at.at c.args.stretch.from c.loop-at.next (omega (arith, c.loop-at.invariant.from)) c.loop-at.invariant.cut.rest
@@ -39,7 +39,7 @@ returns-then-next-stretch-clause-apart c most within apart =
 -- all runs
 pub returns-clause-nodes : goal.returns-clause-nodes
 returns-clause-nodes c =
-    IsCutTo-all c.args.runs.now c.args.want c.args.stretch c.args.found.now.items c.loop-at.next c.loop-at.found.items c.push_common-2.new.found.items c.loop-at.at
+    IsCutTo-all c.args.runs.now c.args.want c.args.stretch c.args.found.now.items c.loop-at.next c.loop-at.found.items c.push_common-2.new.found.items c.loop-at.at c.is_wanted-2.result c.is_wanted-2.ensures
     (omega arith) c.loop-at.invariant.cut c.in_ok-push_common-2.ensures.nodes
 
 pub returns-clause-behind : goal.returns-clause-behind

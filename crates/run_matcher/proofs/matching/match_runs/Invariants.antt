@@ -8,6 +8,6 @@ use Rattle.run_matcher.specs.PlacementOccurrences.{IsOccurrenceBelow}
 use Rattle.run_matcher.proofs.matching.match_runs.Given as goal
 
 -- the placements so far
-abbrev pub invariant-loop-placement : goal.invariant-loop-placement
-invariant-loop-placement l =
-    (deltas : Deltas) → AreDeltas deltas → l.runs ≡ positions_of deltas → (o : Occurrence) → Contains (occurrences_of l.gathered) o ↔ IsOccurrenceBelow deltas l.matcher.images.now.placements l.placement o
+abbrev pub invariant-loop-number : goal.invariant-loop-number
+invariant-loop-number l =
+    (deltas : Deltas) → AreDeltas deltas → l.runs ≡ positions_of deltas → (o : Occurrence) → Contains (occurrences_of l.gathered) o ↔ IsOccurrenceBelow deltas l.ready.images.placements l.number o

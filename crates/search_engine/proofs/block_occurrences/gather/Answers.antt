@@ -7,14 +7,14 @@ use Rattle.search_engine.proofs.block_occurrences.gather.Goals as goal
 
 pub loop-planes-init : goal.loop-planes-init
 loop-planes-init c = record {
-  gathered = on_planes-start c.args.matchers.now.query c.args.matchers.now.shapes c.args.block.now c.args.games c.planes-planes-items.result.now c.clear.new.self c.clear.ensures;
-  go_on = all-none c.args.matchers.now.query c.args.block.now c.clear.new.self c.clear.ensures;
+  gathered = on_planes-start c.args.ready.now.query c.args.ready.now.shapes c.args.block.now c.args.games c.planes-planes-items.result.now c.clear.new.self c.clear.ensures;
+  go_on = all-none c.args.ready.now.query c.args.block.now c.clear.new.self c.clear.ensures;
 }
 
 pub loop-planes-preserved : goal.loop-planes-preserved
 loop-planes-preserved c = record {
   gathered =
-      on_planes-more c.args.matchers.now.query c.args.matchers.now.shapes c.args.block.now c.args.games c.planes-planes-items.result.now c.loop-planes.planes-index c.planes-item.result c.loop-planes.gathered c.gather_on_shape.new.gathered c.loop-planes-test.true c.planes-item.is
+      on_planes-more c.args.ready.now.query c.args.ready.now.shapes c.args.block.now c.args.games c.planes-planes-items.result.now c.loop-planes.planes-index c.planes-item.result c.loop-planes.room.gathered c.gather_on_shape.new.room.gathered c.loop-planes-test.true c.planes-item.is
       c.loop-planes.invariant.gathered c.in_ok-gather_on_shape.ensures.gathered;
   go_on = c.in_ok-gather_on_shape.ensures.go_on c.loop-planes.invariant.go_on;
 }
@@ -26,4 +26,4 @@ gather_on_shape-requires c =
 
 pub returns-clause-gathered : goal.returns-clause-gathered
 returns-clause-gathered c = λ filter skip accepted.
-    on_planes-all c.args.matchers.now.query c.args.matchers.now.shapes c.args.block.now c.args.games c.planes-planes-items.result.now c.loop-planes.planes-index (omega (arith, c.loop-planes-test.false)) c.planes-planes-items.ensures filter skip c.loop-planes.gathered accepted c.loop-planes.invariant.gathered
+    on_planes-all c.args.ready.now.query c.args.ready.now.shapes c.args.block.now c.args.games c.planes-planes-items.result.now c.loop-planes.planes-index (omega (arith, c.loop-planes-test.false)) c.planes-planes-items.ensures filter skip c.loop-planes.room.gathered accepted c.loop-planes.invariant.gathered

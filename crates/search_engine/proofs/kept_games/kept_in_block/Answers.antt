@@ -6,12 +6,12 @@ use Rattle.search_engine.specs.KeptBlocks.{AreCornersOf}
 use Rattle.search_engine.proofs.kept_games.kept_in_block.Goals as goal
 
 pub loop-planes-init : goal.loop-planes-init
-loop-planes-init c = kept-start c.args.matchers.now.query c.args.matchers.now.shapes c.args.block.now c.planes-planes-items.result.now
+loop-planes-init c = kept-start c.args.ready.now.query c.args.ready.now.shapes c.args.block.now c.planes-planes-items.result.now
 
 pub loop-planes-preserved : goal.loop-planes-preserved
 loop-planes-preserved c =
-    let query = c.args.matchers.now.query in
-    let shapes = c.args.matchers.now.shapes in
+    let query = c.args.ready.now.query in
+    let shapes = c.args.ready.now.shapes in
     let planes = c.planes-planes-items.result.now in
     let k = c.loop-planes.planes-index in
     let p : PlaneGames = c.planes-item.result in
@@ -24,5 +24,5 @@ kept_on_shape-requires c = omega (arith, ap length c.deref.ensures.value, c.in_o
 
 pub returns : goal.returns
 returns c =
-    kept-in_block c.args.matchers.now.query c.args.matchers.now.shapes c.args.block.now c.in_ok-corners.corners.items c.in_ok-corners.ensures c.planes-planes-items.result.now c.loop-planes.planes-index c.loop-planes.kept
+    kept-in_block c.args.ready.now.query c.args.ready.now.shapes c.args.block.now c.in_ok-corners.corners.items c.in_ok-corners.ensures c.planes-planes-items.result.now c.loop-planes.planes-index c.loop-planes.kept
     (omega (arith, c.loop-planes-test.false)) c.planes-planes-items.ensures c.loop-planes.invariant c.loop-planes.auto.kept-fits.fits

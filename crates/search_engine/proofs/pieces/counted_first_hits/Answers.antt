@@ -4,4 +4,4 @@ use Rattle.search_engine.proofs.pieces.counted_first_hits.Goals as goal
 
 pub returns-clause-hits : goal.returns-clause-hits
 returns-clause-hits g c =
-    subst (λ old. AreFirstHitsAdded c.args.matchers.now.query c.args.filter.now c.args.matchers.now.shapes c.args.items.now c.in_ok-blocks.blocks old c.add_first_hits.new.hits.items) c.new-hits.ensures.items c.in_ok-blocks.ensures.hits
+    subst (λ old. AreFirstHitsAdded c.args.searcher.now.ready.now.query c.args.searcher.now.filter.now c.args.searcher.now.ready.now.shapes c.args.items.now c.in_ok-blocks.blocks old c.add_first_hits.new.hits.items) c.new-hits.ensures.items c.in_ok-blocks.ensures.hits

@@ -7,9 +7,9 @@ use Rattle.search_engine.proofs.pieces.hits_behind.Goals as goal
 
 pub returns : goal.returns
 returns g c =
-    let query = c.args.matchers.now.query in
-    let filter = c.args.filter.now in
-    let shapes = c.args.matchers.now.shapes in
+    let query = c.args.searcher.now.ready.now.query in
+    let filter = c.args.searcher.now.filter.now in
+    let shapes = c.args.searcher.now.ready.now.shapes in
     let items = c.args.items.now in
     let pieces = c.in_ok-pieces.pieces.items in
     let size = c.args.size in

@@ -13,14 +13,14 @@ returns-then-is_empty g c =
     let items = c.args.items.now in
     let left : take (length items - first.blocks) (drop first.blocks items) ≡ drop first.blocks items = take_all (length items - first.blocks) (drop first.blocks items) (omega (arith, length-drop first.blocks items)) in
     let none : length (take (length items - first.blocks) (drop first.blocks items)) ≡ 0 = eqb-true _ 0 (sym c.if-is_empty.ensures) in
-    hits_of_first c.args.matchers.now.query c.args.filter.now c.args.matchers.now.shapes items first.blocks 0 first.hits.items
+    hits_of_first c.args.searcher.now.ready.now.query c.args.searcher.now.filter.now c.args.searcher.now.ready.now.shapes items first.blocks 0 first.hits.items
     (omega (arith, none, ap (λ (is : List Item). length is) left, length-drop first.blocks items)) c.in_ok-first.ensures.hits c.requires.numbered c.requires.covered
 
 pub returns : goal.returns
 returns g c =
-    let query = c.args.matchers.now.query in
-    let filter = c.args.filter.now in
-    let shapes = c.args.matchers.now.shapes in
+    let query = c.args.searcher.now.ready.now.query in
+    let filter = c.args.searcher.now.filter.now in
+    let shapes = c.args.searcher.now.ready.now.shapes in
     let items = c.args.items.now in
     let first = c.in_ok-first.first in
     let left : take (length items - first.blocks) (drop first.blocks items) ≡ drop first.blocks items = take_all (length items - first.blocks) (drop first.blocks items) (omega (arith, length-drop first.blocks items)) in

@@ -1,7 +1,8 @@
 use Rattle.std.proofs.Common.{subst, arith, below_more}
 use Rattle.std.proofs.lemmas.List.{get_or_default}
-use Rattle.capture_index.specs.declared.stretch.Want.{Want}
-use Rattle.capture_index.specs.Stretches.{IsUnchangedAt, no_want}
+use Rattle.ready_images.specs.declared.want.Want.{Want}
+use Rattle.capture_index.specs.Stretches.{IsUnchangedAt}
+use Rattle.ready_images.specs.Wants.{no_want}
 use Rattle.capture_index.proofs.run_index.RunIndex.unchanged_to.Goals as goal
 
 pub loop-want-preserved : goal.loop-want-preserved

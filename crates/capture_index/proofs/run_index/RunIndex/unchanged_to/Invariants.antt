@@ -1,6 +1,7 @@
 use Rattle.std.proofs.Common.{ℕ, ◌<◌, ◌≤◌, slice_index_or}
 use Rattle.capture_index.specs.NodePositions.{count_in}
-use Rattle.capture_index.specs.Stretches.{IsUnchangedAt, no_want}
+use Rattle.capture_index.specs.Stretches.{IsUnchangedAt}
+use Rattle.ready_images.specs.Wants.{no_want}
 use Rattle.capture_index.proofs.run_index.RunIndex.unchanged_to.Given as goal
 
 -- the wants so far

@@ -2,7 +2,7 @@
 use Rattle.std.proofs.Common.{◌∙◌, ◌++◌, ◌<◌, ℕ, List, ap, map, arith, subst, sym}
 use Rattle.std.specs.Prelude.{All}
 use Rattle.capture_index.specs.Stretches.{BeginsIn}
-use Rattle.run_matcher.specs.Keys.{key_of}
+use Rattle.run_matcher.specs.Keys.{end_number, key_of}
 use Rattle.run_matcher.proofs.BegunNodes.{begun-few, only-added}
 use Rattle.run_matcher.proofs.KeyLists.{begun-kept}
 use Rattle.run_matcher.proofs.OccurrencesOfOne.{begins-added, known-added}
@@ -23,14 +23,14 @@ returns-clause-occurrences c =
     let nodes = c.push_begins.new.nodes.items in
     let begun = only-added c.clear.new.self.items nodes (BeginsIn c.args.runs.now c.args.stretches.now) c.clear.ensures.items c.in_ok-push_begins.ensures.begun in
     begins-added c.args.runs.now c.args.stretches.now c.args.placement c.known_end.result nodes c.self.inside.keys.items c.push_keys.new.keys.items c.args.self.now c.requires.placement c.known_end.ensures.few begun
-    (c.in_ok-push_keys.ensures.added ∙ ap (λ (ns : List ℕ). c.self.inside.keys.items ++ map (key_of c.args.placement c.known_end.result) ns) c.deref.ensures.value) c.self.view_is
+    (c.in_ok-push_keys.ensures.added ∙ ap (λ (ns : List ℕ). c.self.inside.keys.items ++ map (key_of c.args.placement (end_number c.known_end.result)) ns) c.deref.ensures.value) c.self.view_is
 
 pub returns-clause-go_on : goal.returns-clause-go_on
 returns-clause-go_on c =
     let nodes = c.push_begins.new.nodes.items in
     let begun = only-added c.clear.new.self.items nodes (BeginsIn c.args.runs.now c.args.stretches.now) c.clear.ensures.items c.in_ok-push_begins.ensures.begun in
     known-added c.args.runs.now c.args.stretches.now c.args.placement c.known_end.result nodes c.self.inside.keys.items c.push_keys.new.keys.items c.args.self.now c.requires.placement c.known_end.ensures.few begun
-    (c.in_ok-push_keys.ensures.added ∙ ap (λ (ns : List ℕ). c.self.inside.keys.items ++ map (key_of c.args.placement c.known_end.result) ns) c.deref.ensures.value) c.self.view_is c.known_end.ensures.inside
+    (c.in_ok-push_keys.ensures.added ∙ ap (λ (ns : List ℕ). c.self.inside.keys.items ++ map (key_of c.args.placement (end_number c.known_end.result)) ns) c.deref.ensures.value) c.self.view_is c.known_end.ensures.inside
 
 pub returns-in_err-push_keys-clause-kept : goal.returns-in_err-push_keys-clause-kept
 returns-in_err-push_keys-clause-kept c = begun-kept c.self.inside.keys.items c.push_keys.new.keys.items c.args.self.now c.self.view_is c.in_err-push_keys.ensures.kept

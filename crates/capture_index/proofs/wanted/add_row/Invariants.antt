@@ -1,8 +1,0 @@
-use Rattle.std.proofs.Common.{◌+◌, ◌*◌}
-use Rattle.kb_geometry.specs.Board.{cols_of}
-use Rattle.capture_index.specs.StoredWants.{ArePartedOn, grid_with}
-use Rattle.capture_index.proofs.wanted.add_row.Given as goal
-
--- the cells so far
-abbrev pub invariant-loop-x : goal.invariant-loop-x
-invariant-loop-x l = ArePartedOn l.fn.shape (grid_with l.fn.size l.cells) (l.y * cols_of l.fn.size) (l.y * cols_of l.fn.size + l.x) l.fn.wants.items l.fn.others l.wants.items l.others

@@ -1,8 +1,0 @@
-use Rattle.std.proofs.Common.{◌*◌}
-use Rattle.kb_geometry.specs.Board.{cols_of}
-use Rattle.capture_index.specs.StoredWants.{AreParted, grid_with}
-use Rattle.capture_index.proofs.wanted.add_wants.Given as goal
-
--- the rows so far
-abbrev pub invariant-loop-y : goal.invariant-loop-y
-invariant-loop-y l = AreParted l.images.shape (grid_with l.size l.cells) (l.y * cols_of l.size) l.initial.wants.items l.wants.items l.others

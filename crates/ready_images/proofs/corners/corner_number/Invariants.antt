@@ -1,0 +1,7 @@
+use Rattle.pattern_images.specs.ImageList.{placement_at}
+use Rattle.ready_images.specs.StoredCorners.{IsNumberTo}
+use Rattle.ready_images.proofs.corners.corner_number.Given as goal
+
+-- the places so far
+abbrev pub invariant-loop-place : goal.invariant-loop-place
+invariant-loop-place l = IsNumberTo l.images.shape (placement_at l.images.placements l.i) l.corner l.place l.number
