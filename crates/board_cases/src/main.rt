@@ -15,6 +15,7 @@ mod corners;
 mod ever;
 mod games;
 mod nodes;
+mod order;
 mod patterns;
 mod placements;
 mod planes;
@@ -35,6 +36,7 @@ impl Kinds for BoardKinds {
             "changes" => nodes::changes(alloc, case, out),
             "ever" => ever::ever(alloc, case, out),
             "planes" => planes::planes(alloc, case, out),
+            "order" => order::order(alloc, case, out),
             "corners" => corners::corners(alloc, case, out),
             "games" => corners::games(alloc, case, out),
             _ => answer_line(alloc, case, out),

@@ -62,7 +62,7 @@ fn first_others(shape: Shape, games: &[NodeDeltas]) -> usize {
 }
 
 // Whether the board of a game has this shape.
-fn is_on(deltas: &NodeDeltas, shape: Shape) -> bool
+pub(crate) fn is_on(deltas: &NodeDeltas, shape: Shape) -> bool
     ensures { IsTrue result ↔ (deltas.now.shape ≡ shape) }
 {
     deltas.shape() == shape

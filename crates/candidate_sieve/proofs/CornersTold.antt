@@ -1,7 +1,7 @@
 -- The number of a corner that a placement covers is that of the positions with the placement's cells there.
 use Prim.Native.Nat.{zero}
 use Rattle.std.proofs.Common.{◌≡◌, ℕ, suc, ◌+◌, ◌*◌, ◌/◌, ◌%◌, ◌^◌, ◌<◌, ◌≤◌, ◌↔◌, List, length, refl, sym, ◌∙◌, ap, subst, arith}
-use Rattle.std.specs.Prelude.{Contains, slice_index_or}
+use Rattle.std.specs.Prelude.{Bool, Contains, IsTrue, slice_index_or}
 use Rattle.std.proofs.lemmas.List.{get_or_default}
 use Rattle.kb_geometry.specs.declared.shape.Shape.{Shape}
 use Rattle.kb_geometry.specs.declared.stone.Cell.{Cell}
@@ -23,7 +23,7 @@ use Rattle.corner_index.proofs.Sums.{digits_same, sum_below-same}
 use Rattle.ready_images.specs.Corners.{AreCornersOf, CoversCorner, HasCorners, IsCornerNumber, IsExact, LiesOn, cell_over, frame_cell, number_to}
 use Rattle.ready_images.specs.Corners.{digit_of as digit_on}
 use Rattle.ready_images.proofs.CornerCells.{frame-place, lies-cell, number_to-more, number_to-none, told-covers}
-use Rattle.candidate_sieve.specs.Kept.{HadCorners, HasCornerOf}
+use Rattle.candidate_sieve.specs.Kept.{HadCorners, HadIfCovered, HasCornerOf}
 
 -- ---- one cell
 
@@ -154,6 +154,10 @@ module _ (deltas : Deltas) (placement : Placement) (placed : IsPlacedOn deltas.s
         (had.1.0, had.1.1, number-has deltas.shape placement corner placed number is (position_at deltas had.1.0) had.1.2),
     λ h. (are corner is.in_range number).1 (is.sides, (h.0, h.1, has-number deltas.shape placement corner placed number is (position_at deltas h.0) h.2)),
   )
+
+  -- so for a test of its numbers
+  pub number-told : (told : Bool) → IsTrue told ↔ Contains (keys_of keys corner) number → IsTrue told ↔ HadIfCovered deltas placement corner
+  number-told told has = (λ t sides covers. number-had.0 (has.0 t), λ had. has.1 (number-had.1 (had is.sides is.covers)))
 
 -- ---- all corners that a placement covers
 module _ (deltas : Deltas) (images : ImageList) (i : ℕ) (same : deltas.shape ≡ images.shape) (placed : IsPlacedOn images.shape (placement_at images.placements i)) (covered : List CornerNumber) (of : AreCornersOf images i covered) (keys : List (List ℕ)) (are : AreNumbersOfGame deltas keys) where

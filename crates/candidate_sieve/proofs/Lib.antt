@@ -2,6 +2,7 @@ pub mod CornersTold
 pub mod CellsTold
 pub mod KeptPlacements
 pub mod NotedPoints
+pub mod OrderTold
 pub mod BegunLists
 pub mod GamesTold
 pub mod CandidateLists

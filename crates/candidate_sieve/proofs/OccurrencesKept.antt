@@ -17,9 +17,9 @@ use Rattle.pattern_images.specs.Placements.{Placement}
 use Rattle.capture_index.specs.NodePositions.{HadAnother, parent_in, positions_of}
 use Rattle.capture_index.proofs.NodesTold.{nodes-told}
 use Rattle.capture_index.proofs.WantsOfPlacements.{cell_seen-at, parent_seen-at}
-use Rattle.line_matcher.specs.declared.occurrence.Occurrence.{Occurrence}
-use Rattle.line_matcher.specs.Occurrences.{Occurs, allows}
-use Rattle.line_matcher.proofs.HoldsLaw.{allows-decides}
+use Rattle.pattern_occurrences.specs.declared.occurrence.Occurrence.{Occurrence}
+use Rattle.pattern_occurrences.specs.Occurrences.{Occurs, allows}
+use Rattle.pattern_occurrences.proofs.HoldsLaw.{allows-decides}
 use Rattle.candidate_sieve.specs.Kept.{IsKept, IsKeptBy}
 use Rattle.candidate_sieve.specs.NodeCandidates.{IsNodeCandidate}
 use Rattle.candidate_sieve.proofs.KeptPlacements.{kept-by}

@@ -1,8 +1,9 @@
 -- The games of the placements of a row, by its words.
-use Rattle.std.proofs.Common.{◌≡◌, ◌↔◌, ℕ, ◌+◌, ◌-◌, ◌<◌, ◌≤◌, List, [], ◌∷◌, Option, None, drop, length, slice_index, slice_index_or, ap, ◌∙◌, subst, arith}
+use Rattle.std.proofs.Common.{◌≡◌, ◌↔◌, ℕ, ◌+◌, ◌-◌, ◌<◌, ◌≤◌, List, [], ◌∷◌, Option, None, Some, drop, length, slice_index, slice_index_or, ap, sym, ◌∙◌, subst, arith}
+use Rattle.std.specs.Borrow.{Bor}
 use Rattle.std.specs.Int.{bit_at}
 use Rattle.std.specs.Option.{IsSome}
-use Rattle.std.specs.Prelude.{slice_range}
+use Rattle.std.specs.Prelude.{All, IfSome, slice_range}
 use Rattle.std.proofs.lemmas.List.{get_or-drop, get_or-take, length-drop, length-take-le}
 use Rattle.kb_geometry.specs.declared.shape.Shape.{Shape}
 use Rattle.pattern_images.specs.Grid.{Grid}
@@ -10,16 +11,21 @@ use Rattle.pattern_images.specs.ImageList.{AreImages, ImageList, IsPlacedOn, gri
 use Rattle.pattern_images.specs.Placements.{Placement}
 use Rattle.ready_images.specs.declared.row.Row.{Row}
 use Rattle.ready_images.specs.declared.want.Want.{Want}
+use Rattle.ready_images.specs.declared.pair.Pair.{Pair}
+use Rattle.ready_images.specs.Pairs.{IsPairIn}
 use Rattle.ready_images.specs.Prepared.{IsPreparedAs}
 use Rattle.ready_images.specs.Rows.{IsRowIn}
 use Rattle.ready_images.specs.Wants.{AreWantsOf, base_of}
 use Rattle.final_index.specs.Planes.{PlaneGames}
 use Rattle.candidate_sieve.specs.declared.candidates.Candidate.{Candidate}
 use Rattle.final_index.specs.declared.ever_sets.EverSets.{EverSets}
-use Rattle.candidate_sieve.specs.BlockGames.{AreAddedFor, HaveEach, IsAddedFor, AreRowCandidatesAdded}
+use Rattle.final_index.specs.Order.{MayHaveStood, OrderGames}
+use Rattle.candidate_sieve.specs.declared.order.RowOrder.{RowOrder}
+use Rattle.candidate_sieve.specs.BlockGames.{AreAddedFor, AreRowAdded, HaveEach, IsAddedFor, IsSieved}
 use Rattle.candidate_sieve.specs.BlockGames.AreAddedFor.{nothing, one_more}
 use Rattle.candidate_sieve.specs.Candidates.{IsPossibleIn}
-use Rattle.candidate_sieve.proofs.CandidateLists.{AreAddedTo, added-row}
+use Rattle.candidate_sieve.specs.Ordered.{HadInOrder, IsCutInOrder, MayStand, no_pair}
+use Rattle.candidate_sieve.proofs.CandidateLists.{AreAddedTo, IsTold, added-row}
 use Rattle.candidate_sieve.proofs.GamesTold.{possible-told}
 
 -- ---- the part of a list from a place on
@@ -59,25 +65,47 @@ module _ (images : ImageList) (are-images : AreImages images) (planes : PlaneGam
   row-told there words present have k g lt few =
       possible-told planes (here k) (placed k lt) wants (wants-of k lt) (row.base + k) (at-base k lt) there (slice_index words k) present (have k lt) g few
 
-  -- the candidates of the row are added
-  pub row-added : (there : ℕ) → ((g : ℕ) → g < 64 → bit_at there g ≡ 1 → IsSome (slice_index_or planes.games g None)) →
-      ((j k : ℕ) → j < length numbers → k < length numbers → slice_index numbers j ≡ slice_index numbers k → j ≡ k) →
-      (old now next : List Candidate) → AreAddedTo planes images there numbers row.start old now →
-      AreRowCandidatesAdded planes.games row wants there (slice_range numbers row.start (row.start + row.count)) now next →
-      AreAddedTo planes images there numbers (row.start + row.count) old next
-  row-added there present once old now next so_far added =
-      let part : List ℕ = slice_range numbers row.start (row.start + row.count) in
-      let all : length part ≡ row.count = sliced-length numbers row.start row.count is.within in
-      added-row planes images there numbers old once row.start now so_far row part added.words row.count next is.within (sliced-number numbers row.start row.count)
-      (row-told there added.words present (λ k lt. added.have k (omega (arith, all, lt)))) own (subst (λ (n : ℕ). AreAddedFor row part added.words now n next) all added.added)
+  -- what the order of stones asks of the row
+  module _ (order : RowOrder) (at : order.base ≡ row.base) (pairs : All (IsPairIn images.shape (grid_at images.grids row.class)) order.pairs.now) where
+    -- a placement of the row that stands in order does so by each of the pairs
+    in-order : (k : ℕ) → k < row.count → (o : Option (Bor OrderGames)) (g : ℕ) → MayStand o g images.shape (here k) → IfSome o (λ (b : Bor OrderGames). HadInOrder b.now (row.base + k) order.pairs.now (length order.pairs.now) g)
+    in-order k lt None g stands = tt
+    in-order k lt (Some b) g stands = λ i less.
+        let pair : Pair = slice_index_or order.pairs.now i no_pair in
+        let own-pair : IsPairIn images.shape (here k).grid pair = subst (λ (grid : Grid). IsPairIn images.shape grid pair) (is.classes k lt).cells (pairs i no_pair less) in
+        subst (λ (n : ℕ). MayHaveStood b.now g (n + pair.stone) (n + pair.empty)) (sym (is.bases k lt)) (stands pair own-pair)
+
+    -- the games of a placement's word are those that may have it
+    sieved-told : (there : ℕ) → ((g : ℕ) → g < 64 → bit_at there g ≡ 1 → IsSome (slice_index_or planes.games g None)) → (k word : ℕ) → k < row.count → IsSieved planes.games wants there order (row.base + k) word →
+        (g : ℕ) → g < 64 → IsTold planes order.order images there (slice_index numbers (row.start + k)) g (bit_at word g ≡ 1)
+    sieved-told there present k word lt sieved g few =
+        let told = possible-told planes (here k) (placed k lt) wants (wants-of k lt) (row.base + k) (at-base k lt) there sieved.had present sieved.have g few in
+        record {
+          sound = λ e. told.0 (sieved.cut.part g e);
+          complete = λ met stands. sieved.cut.kept g few (told.1 met) (in-order k lt order.order g stands);
+        }
+
+    -- the candidates of the row are added
+    pub row-added : (there : ℕ) → ((g : ℕ) → g < 64 → bit_at there g ≡ 1 → IsSome (slice_index_or planes.games g None)) →
+        ((j k : ℕ) → j < length numbers → k < length numbers → slice_index numbers j ≡ slice_index numbers k → j ≡ k) →
+        (old now next : List Candidate) → AreAddedTo planes order.order images there numbers row.start old now →
+        AreRowAdded planes.games row wants there order (slice_range numbers row.start (row.start + row.count)) now next →
+        AreAddedTo planes order.order images there numbers (row.start + row.count) old next
+    row-added there present once old now next so_far added =
+        let part : List ℕ = slice_range numbers row.start (row.start + row.count) in
+        let all : length part ≡ row.count = sliced-length numbers row.start row.count is.within in
+        added-row planes order.order images there numbers old once row.start now so_far row part added.words row.count next is.within (sliced-number numbers row.start row.count)
+        (λ k g lt few. sieved-told there present k (slice_index added.words k) lt (added.sieved k (omega (arith, all, lt))) g few) own (subst (λ (n : ℕ). AreAddedFor row part added.words now n next) all added.added)
 
 -- ---- a row of one placement
 
-pub one-added : (games : List (Option EverSets)) (row : Row) (wants : List Want) (there : ℕ) (numbers : List ℕ) (word : ℕ) (old new : List Candidate) → length numbers ≡ 1 → HaveEach games row.base wants there (length wants) word → IsAddedFor row 0 (slice_index numbers 0) word old new → AreRowCandidatesAdded games row wants there numbers old new
-one-added games row wants there numbers word old new one have added = record {
+pub one-added : (games : List (Option EverSets)) (row : Row) (wants : List Want) (there : ℕ) (order : RowOrder) (numbers : List ℕ) (had word : ℕ) (old new : List Candidate) → length numbers ≡ 1 → HaveEach games row.base wants there (length wants) had →
+    IsCutInOrder order.order row.base order.pairs.now (length order.pairs.now) had word → IsAddedFor row 0 (slice_index numbers 0) word old new → AreRowAdded games row wants there order numbers old new
+one-added games row wants there order numbers had word old new one have cut added = record {
   words = word ∷ [];
-  have = λ k lt.
+  sieved = λ k lt.
       let first : 0 ≡ k = omega (arith, lt, one) in
-      subst (λ (i : ℕ). HaveEach games (row.base + i) wants there (length wants) (slice_index (word ∷ []) i)) first (subst (λ (b : ℕ). HaveEach games b wants there (length wants) word) (omega arith) have);
+      let at : row.base ≡ row.base + 0 = omega arith in
+      subst (λ (i : ℕ). IsSieved games wants there order (row.base + i) (slice_index (word ∷ []) i)) first (subst (λ (b : ℕ). IsSieved games wants there order b word) at (record { had = had; have = have; cut = cut }));
   added = subst (λ (n : ℕ). AreAddedFor row numbers (word ∷ []) old n new) (omega (arith, one)) (one_more 0 old new nothing added);
 }

@@ -13,6 +13,8 @@ use Rattle.final_index.specs.declared.ever_sets.EverSets.{EverSets}
 use Rattle.final_index.specs.Planes.{HadThere, PlaneGames}
 use Rattle.candidate_sieve.specs.declared.candidates.Candidate.{Candidate}
 use Rattle.candidate_sieve.specs.declared.candidates.RowSieve.{RowSieve}
+use Rattle.candidate_sieve.specs.declared.order.RowOrder.{RowOrder}
+use Rattle.candidate_sieve.specs.Ordered.{IsCutInOrder}
 
 -- game g had a cell on the point that the want allows, if the want asks anything
 abbrev pub HadWanted : List (Option EverSets) → ℕ → Want → ℕ → Type 0
@@ -67,11 +69,24 @@ pub data AreAddedFor (row : Row) (numbers words : List ℕ)
       IsAddedFor row k (slice_index numbers k) (slice_index words k) now next →
       AreAddedFor row numbers words old (k + 1) next
 
+-- The word has those of some games that had the wants behind a base, but perhaps not those of them that
+-- can't have it by the order of stones.
+pub record IsSieved (games : List (Option EverSets)) (wants : List Want) (among : ℕ)
+    (order : RowOrder) (base word : ℕ) : Type 0 where
+  pub had : ℕ
+  pub have : HaveEach games base wants among (length wants) had
+  pub cut : IsCutInOrder order.order base order.pairs.now (length order.pairs.now) had word
+
 -- The list has gained the candidates of a row of placements: the word of each has those of some
--- games that had its wants, behind the base for the first, behind the next point for the next.
-pub record AreRowCandidatesAdded (games : List (Option EverSets)) (row : Row) (wants : List Want)
-    (among : ℕ) (numbers : List ℕ) (old new : List Candidate) : Type 0 where
+-- games that may have it, behind the base for the first, behind the next point for the next.
+pub record AreRowAdded (games : List (Option EverSets)) (row : Row) (wants : List Want) (among : ℕ)
+    (order : RowOrder) (numbers : List ℕ) (old new : List Candidate) : Type 0 where
   pub words : List ℕ
-  pub have : (k : ℕ) → k < length numbers →
-      HaveEach games (row.base + k) wants among (length wants) (slice_index words k)
+  pub sieved : (k : ℕ) → k < length numbers →
+      IsSieved games wants among order (row.base + k) (slice_index words k)
   pub added : AreAddedFor row numbers words old (length numbers) new
+
+-- so for the row of a sieve
+abbrev pub AreRowCandidatesAdded : RowSieve → RowOrder → ℕ → List Candidate → List Candidate → Type 0
+AreRowCandidatesAdded sieve order among old new = AreRowAdded sieve.planes.now.games sieve.row.now
+    sieve.wants.now among order sieve.numbers.now old new

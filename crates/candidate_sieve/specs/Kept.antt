@@ -28,13 +28,17 @@ HasCornerOf deltas placement corner n =
     Allows (cell_in placement.grid dx dy)
     (cell_at (position_at deltas n) (number_under deltas.shape placement dx dy))
 
--- at some node each corner that the placement covers had its cells, perhaps at another one for each
--- corner; a board with a side below 6 has no corner
-abbrev pub HadCorners : Deltas → Placement → Type 0
-HadCorners deltas placement =
-    (corner : ℕ) → corner < 4 → HasCorners deltas.shape →
-    CoversCorner deltas.shape placement corner →
+-- at some node the corner had the placement's cells, if the board has it and the placement covers it; a
+-- board with a side below 6 has no corner
+abbrev pub HadIfCovered : Deltas → Placement → ℕ → Type 0
+HadIfCovered deltas placement corner =
+    HasCorners deltas.shape → CoversCorner deltas.shape placement corner →
     (n : ℕ) × (n < node_count deltas) × HasCornerOf deltas placement corner n
+
+-- at some node each corner that the placement covers had its cells, perhaps at another one for each
+-- corner
+abbrev pub HadCorners : Deltas → Placement → Type 0
+HadCorners deltas placement = (corner : ℕ) → corner < 4 → HadIfCovered deltas placement corner
 
 -- The placement meets both rules in the game.
 pub record IsKeptBy (deltas : Deltas) (placement : Placement) : Type 0 where

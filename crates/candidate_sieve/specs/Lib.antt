@@ -2,6 +2,7 @@
 pub mod Candidates
 pub mod Kept
 pub mod NodeCandidates
+pub mod Ordered
 -- Definitions of private functions.
 pub mod BlockGames
 pub mod Noting

@@ -7,7 +7,7 @@ ghost use Rattle.std.specs.Prelude.{
   ◌↔◌,
   ◌⊎◌,
   ℕ,
-  All,
+  IfSome,
   IsTrue,
   OnErr,
   OnOk,
@@ -28,8 +28,10 @@ ghost use Rattle.candidate_sieve.specs.BlockGames.{
   IsSieve,
 };
 ghost use Rattle.candidate_sieve.specs.Candidates.{AreCandidatesAdded};
+ghost use Rattle.candidate_sieve.specs.Ordered.{ArePairsBelow};
 
-use final_index::Planes;
+use crate::order::RowOrder;
+use final_index::{OrderPlanes, Planes};
 use kb_geometry::{Cell, NoMemory};
 use pattern_images::PatternCell;
 use ready_images::{ReadyImages, Row, Want};
@@ -45,6 +47,15 @@ pub struct Candidate {
     pub class: u8,
     /// A bit for each game of the block that may have it.
     pub games: u64,
+}
+
+/// What is kept of the games of a block on boards of one shape, by which placements are sieved.
+#[derive(Clone, Copy, Debug)]
+pub struct BlockPlanes<'a> {
+    /// Which cells each point had.
+    pub planes: &'a Planes,
+    /// Where stones stood beside empty points, if the block has it.
+    pub order: Option<&'a OrderPlanes>,
 }
 
 // A row of placements, to be sieved in the games of a block: its first placement stands behind the
@@ -63,21 +74,24 @@ pub(crate) struct RowSieve<'a> {
 
 /// Adds, for each placement that some of these games of the block may have, those that may have it:
 /// the games on boards of the shape of which each cell of the placement but wildcards was allowed at
-/// some node. `games` has a bit for each game of the block, by its number. The candidates come class
-/// by class. `room` is written over. The only error is `NoMemory`. After it the list begins with what
-/// was in it before.
+/// some node, and of which no stone beside a cell that must be empty is known to have stood at no node
+/// at which the point under that cell was empty. `games` has a bit for each game of the block, by its
+/// number. The candidates come class by class. `room` is written over. The only error is `NoMemory`.
+/// After it the list begins with what was in it before.
 pub fn add_candidates(
-    planes: &Planes,
+    block: &BlockPlanes,
     ready: &ReadyImages,
     games: u64,
     room: &mut Vec<u64>,
     found: &mut Vec<Candidate>,
 ) -> Result<(), NoMemory>
-    requires { ready.now.images.shape ≡ planes.now.shape }
-    ensures ok { OnOk result (AreCandidatesAdded planes.now ready.now.images games
-        found.old.items found.new.items) }
+    requires shape { ready.now.images.shape ≡ block.now.planes.now.shape }
+    requires order { IfSome block.now.order (λ o. o.now.shape ≡ ready.now.images.shape) }
+    ensures ok { OnOk result (AreCandidatesAdded block.now.planes.now block.now.order
+        ready.now.images games found.old.items found.new.items) }
     ensures refused { OnErr result (IsPrefix found.old.items found.new.items) }
 {
+    let planes = block.planes;
     let among = games & planes.present();
     let ever_empty = planes.ever_empty();
     for row in ready.rows() {
@@ -88,7 +102,12 @@ pub fn add_candidates(
             numbers: ready.numbers_of(row),
             wants: ready.wants_of(row),
         };
-        sieve_row(&sieve, among, room, found)?;
+        let order = RowOrder {
+            order: block.order,
+            base: row.base,
+            pairs: ready.pairs_of(row),
+        };
+        sieve_row(&sieve, &order, among, room, found)?;
     }
     Ok(())
 }
@@ -97,20 +116,26 @@ pub fn add_candidates(
 // one placement, whose word needs no room.
 fn sieve_row(
     sieve: &RowSieve,
+    order: &RowOrder,
     among: u64,
     room: &mut Vec<u64>,
     found: &mut Vec<Candidate>,
 ) -> Result<(), NoMemory>
-    requires { IsSieve sieve.now }
-    ensures ok { OnOk result (AreRowCandidatesAdded sieve.now.planes.now.games sieve.now.row.now
-        sieve.now.wants.now among sieve.now.numbers.now found.old.items found.new.items) }
+    requires sieve { IsSieve sieve.now }
+    requires base { order.now.base ≡ sieve.now.row.now.base }
+    requires on_board { IfSome order.now.order (λ o. ArePairsBelow (point_count o.now.shape)
+        order.now.base order.now.pairs.now (length sieve.now.numbers.now)) }
+    ensures ok { OnOk result (AreRowCandidatesAdded sieve.now order.now among found.old.items
+        found.new.items) }
     ensures refused { OnErr result (IsPrefix found.old.items found.new.items) }
 {
     if let [number] = sieve.numbers {
-        add_games(sieve.row, 0, *number, sieve.games_at(among), found)?;
+        let games = order.games_at(sieve.games_at(among));
+        add_games(sieve.row, 0, *number, games, found)?;
         return Ok(());
     }
     sieve.fill_room(among, room)?;
+    order.keep(room);
     add_row(sieve.row, sieve.numbers, room, found)?;
     Ok(())
 }
@@ -244,7 +269,7 @@ fn are_settled(want: Want, ever_empty: u64, words: &[u64]) -> bool
 }
 
 // All games that are in some of the words. Each word is looked at, so the loop has no branch.
-fn joined(words: &[u64]) -> u64
+pub(crate) fn joined(words: &[u64]) -> u64
     ensures { (k g : ℕ) → k < length words.now →
         bit_at (slice_index words.now k) g ≡ 1 → bit_at result g ≡ 1 }
 {

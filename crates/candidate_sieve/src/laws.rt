@@ -6,12 +6,15 @@ ghost use Rattle.pattern_images.specs.ImageList.{IsPlacedOn};
 ghost use Rattle.pattern_images.specs.Placements.{Placement};
 ghost use Rattle.final_index.specs.declared.ever_sets.EverSets.{EverSets};
 ghost use Rattle.final_index.specs.Ever.{AreSetsOf};
+ghost use Rattle.final_index.specs.Order.{HasOrderOf, OrderGames};
 ghost use Rattle.capture_index.specs.NodePositions.{positions_of};
-ghost use Rattle.line_matcher.specs.declared.occurrence.Occurrence.{Occurrence};
-ghost use Rattle.line_matcher.specs.Occurrences.{Occurs, occurrences_at_nodes, occurrences_in};
+ghost use Rattle.pattern_occurrences.specs.declared.occurrence.Occurrence.{Occurrence};
+ghost use Rattle.pattern_occurrences.specs.Occurrences.{Occurs, occurrences_at_nodes};
+ghost use Rattle.pattern_occurrences.specs.Occurrences.{occurrences_in};
 ghost use Rattle.candidate_sieve.specs.Candidates.{MeetsCells};
 ghost use Rattle.candidate_sieve.specs.Kept.{HadCorners, IsKept, IsKeptBy};
 ghost use Rattle.candidate_sieve.specs.NodeCandidates.{IsNodeCandidate};
+ghost use Rattle.candidate_sieve.specs.Ordered.{StandsInOrder};
 
 /// A law: a placement that holds at a node of a game meets both rules in it, so a game with an
 /// occurrence is kept.
@@ -37,6 +40,15 @@ pub fn a_placement_that_holds_meets_the_sets()
         AreSetsOf deltas sets → IsPlacedOn deltas.shape placement → n < node_count deltas →
         Holds deltas.shape (position_at deltas n) placement →
         MeetsCells deltas.shape sets placement }
+{}
+
+/// A law: a placement that holds at a node of a game of a block stands in the order that the block has
+/// of the game's stones.
+pub fn a_placement_that_holds_stands_in_order()
+    ensures { (deltas : Deltas) (order : OrderGames) (placement : Placement) (g n : ℕ) →
+        deltas.shape ≡ order.shape → HasOrderOf deltas order g → IsPlacedOn deltas.shape placement →
+        n < node_count deltas → Holds deltas.shape (position_at deltas n) placement →
+        StandsInOrder order g deltas.shape placement }
 {}
 
 /// A law: each node with an occurrence is a node candidate.

@@ -1,8 +1,8 @@
 //! Which games of a base, and which nodes of a game, a search for a pattern need look at.
 //!
-//! Stands on kb_geometry, kb_bits, node_paths, capture_board, pattern_images, final_index,
-//! capture_index, corner_index, line_matcher and ready_images. The layer above uses that no game and no node with
-//! an occurrence is left out.
+//! Stands on kb_geometry, kb_bits, node_paths, capture_board, pattern_images, ready_images,
+//! pattern_occurrences, final_index, capture_index and corner_index. The layer above uses that no
+//! game with an occurrence is left out.
 #![tactic(auto)]
 
 mod asked;
@@ -13,16 +13,17 @@ mod corners;
 mod kept_words;
 mod laws;
 mod nodes;
+mod order;
 mod sieve;
 
 pub use asked::AskedPoints;
-pub use candidates::{Candidate, add_candidates};
+pub use candidates::{BlockPlanes, Candidate, add_candidates};
 pub use corners::meets_corners;
 pub use kept_words::kept_games;
 pub use laws::{
     a_game_with_an_occurrence_is_kept, a_placement_is_kept_by_its_cells_and_corners,
-    a_placement_that_holds_meets_the_sets, an_occurrence_is_at_a_node_candidate,
-    the_node_candidates_have_all_occurrences,
+    a_placement_that_holds_meets_the_sets, a_placement_that_holds_stands_in_order,
+    an_occurrence_is_at_a_node_candidate, the_node_candidates_have_all_occurrences,
 };
 pub use nodes::{candidates_under, node_candidates};
 pub use sieve::passes;

@@ -11,22 +11,21 @@ use crate::corners::meets_corners;
 use corner_index::CornerKeys;
 use final_index::EverSets;
 use kb_geometry::Shape;
-use ready_images::ReadyImages;
+use pattern_images::Images;
 
 /// Whether a game is kept for a search, by its sets and the numbers of its corners: whether for
 /// some placement each cell was allowed at some node, and each corner that it covers with empty,
 /// black and white cells alone had these cells at some node. Nothing is allocated.
 ///
 /// A game that isn't kept has no occurrence. One that is kept may have none either.
-pub fn passes(ever: &EverSets, corners: &CornerKeys, shape: Shape, ready: &ReadyImages) -> bool
-    requires { ready.now.images.shape ≡ shape }
+pub fn passes(ever: &EverSets, corners: &CornerKeys, shape: Shape, images: &Images) -> bool
+    requires { images.now.shape ≡ shape }
     ensures { (deltas : Deltas) → 0 < node_count deltas → deltas.shape ≡ shape →
         AreSetsOf deltas ever.now → AreNumbersOfGame deltas corners.now →
-        IsTrue result ↔ IsKept deltas ready.now.images.placements }
+        IsTrue result ↔ IsKept deltas images.now.placements }
 {
-    let images = ready.images();
     for i in 0..images.len() {
-        if keeps(ever, corners, ready, i as u32) {
+        if keeps(ever, corners, images, i) {
             return true;
         }
     }
@@ -34,12 +33,12 @@ pub fn passes(ever: &EverSets, corners: &CornerKeys, shape: Shape, ready: &Ready
 }
 
 // Whether a placement meets both rules in a game.
-fn keeps(ever: &EverSets, corners: &CornerKeys, ready: &ReadyImages, i: u32) -> bool
-    requires placement { i < length ready.now.images.placements }
-    requires placed { IsPlacedOn ready.now.images.shape (placement_at ready.now.images.placements i) }
-    ensures { (deltas : Deltas) → 0 < node_count deltas → deltas.shape ≡ ready.now.images.shape →
+fn keeps(ever: &EverSets, corners: &CornerKeys, images: &Images, i: usize) -> bool
+    requires placement { i < length images.now.placements }
+    requires placed { IsPlacedOn images.now.shape (placement_at images.now.placements i) }
+    ensures { (deltas : Deltas) → 0 < node_count deltas → deltas.shape ≡ images.now.shape →
         AreSetsOf deltas ever.now → AreNumbersOfGame deltas corners.now →
-        IsTrue result ↔ IsKeptBy deltas (placement_at ready.now.images.placements i) }
+        IsTrue result ↔ IsKeptBy deltas (placement_at images.now.placements i) }
 {
-    meets_cells(ever, ready.images(), i as usize) && meets_corners(corners, ready.corners_of(i))
+    meets_cells(ever, images, i) && meets_corners(corners, images, i)
 }

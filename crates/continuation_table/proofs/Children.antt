@@ -12,7 +12,7 @@ use Rattle.capture_board.proofs.DeltaPaths.{length-position_where, position_at-s
 use Rattle.pattern_images.specs.Holds.{Holds}
 use Rattle.pattern_images.specs.ImageList.{IsPlacedOn}
 use Rattle.pattern_images.specs.Placements.{Placement}
-use Rattle.line_matcher.specs.Occurrences.{HoldsAt}
+use Rattle.pattern_occurrences.specs.Occurrences.{HoldsAt}
 use Rattle.continuation_table.specs.Descending.{AreAllowed}
 use Rattle.continuation_table.proofs.Losses.{holds-allowed}
 

@@ -14,7 +14,7 @@ use Rattle.game_tree.proofs.Paths.{move_number-parent}
 use Rattle.capture_board.specs.Deltas.{Deltas}
 use Rattle.pattern_images.specs.declared.hit.Next.{Next}
 use Rattle.pattern_images.specs.Placements.{Placement}
-use Rattle.line_matcher.specs.Occurrences.{HoldsAt}
+use Rattle.pattern_occurrences.specs.Occurrences.{HoldsAt}
 use Rattle.continuation_table.specs.Continuation.{HasMoveInside, IsContinuation, IsMoveInside, IsTurnedBack, below, own_colour}
 use Rattle.continuation_table.specs.Descending.{IsWayDown}
 

@@ -11,7 +11,7 @@ use Rattle.game_tree.specs.Tree.{Tree, first_child_of, node_at}
 use Rattle.capture_board.specs.Deltas.{Deltas}
 use Rattle.pattern_images.specs.declared.hit.Next.{Next}
 use Rattle.pattern_images.specs.Placements.{Covers, Placement}
-use Rattle.line_matcher.specs.Occurrences.{HoldsAt}
+use Rattle.pattern_occurrences.specs.Occurrences.{HoldsAt}
 
 -- the node that many first children below a node
 abbrev pub below : Tree → ℕ → ℕ → Option ℕ

@@ -11,7 +11,7 @@ use Rattle.pattern_images.specs.declared.hit.Place.{Place}
 use Rattle.pattern_images.specs.Grid.{cell_in}
 use Rattle.pattern_images.specs.Holds.{Allows}
 use Rattle.pattern_images.specs.Placements.{Covers, Placement}
-use Rattle.line_matcher.specs.Occurrences.{HoldsAt}
+use Rattle.pattern_occurrences.specs.Occurrences.{HoldsAt}
 use Rattle.continuation_table.specs.Continuation.{HasMoveInside, below}
 
 -- the placement allows this cell of the board at the point: its own cell there does, or the point

@@ -7,7 +7,7 @@ ghost use Rattle.pattern_images.specs.Grid.{cell_in};
 ghost use Rattle.pattern_images.specs.Holds.{Allows};
 ghost use Rattle.pattern_images.specs.ImageList.{IsPlaceOf, IsPlacedOn, placement_at};
 ghost use Rattle.pattern_images.specs.Placements.{Placement};
-ghost use Rattle.line_matcher.specs.Occurrences.{HoldsAt};
+ghost use Rattle.pattern_occurrences.specs.Occurrences.{HoldsAt};
 ghost use Rattle.continuation_table.specs.Descending.{
   AllowsAt,
   AllowsChange,

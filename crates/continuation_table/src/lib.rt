@@ -2,8 +2,8 @@
 //!
 //! Stands on the trees of games, the changes of their nodes and the images of a query. In `specs/`
 //! are the definitions for the continuation of a placement at a node, and for the table of a list of
-//! hits. The layer above uses that [`next_of`] gives the continuation, and that [`Table::of`] gives
-//! the table.
+//! hits. The layer above uses that [`next_below`] gives the continuation, as [`next_of`] does for the
+//! library's callers, and that [`Table::of`] gives the table.
 #![tactic(auto)]
 
 mod changes;

@@ -4,7 +4,7 @@ ghost use Rattle.capture_board.specs.Deltas.{node_count};
 ghost use Rattle.pattern_images.specs.Grid.{cell_in};
 ghost use Rattle.pattern_images.specs.Holds.{Allows, number_under};
 ghost use Rattle.pattern_images.specs.ImageList.{IsPlaceOf, placement_at};
-ghost use Rattle.line_matcher.specs.Occurrences.{HoldsAt};
+ghost use Rattle.pattern_occurrences.specs.Occurrences.{HoldsAt};
 ghost use Rattle.continuation_table.specs.Places.{AreBeforePlace, IsPlaceBefore};
 ghost use Rattle.continuation_table.specs.Rebuilding.{known_cell};
 

@@ -20,7 +20,7 @@ ghost use Rattle.node_position.specs.Games.{AreNodeChanges};
 ghost use Rattle.pattern_images.specs.declared.hit.Next.{Next};
 ghost use Rattle.pattern_images.specs.ImageList.{IsPlaceOf, placement_at};
 ghost use Rattle.pattern_images.specs.Placements.{Covers, Placement};
-ghost use Rattle.line_matcher.specs.Occurrences.{HoldsAt};
+ghost use Rattle.pattern_occurrences.specs.Occurrences.{HoldsAt};
 ghost use Rattle.continuation_table.specs.Descending.{IsWayDown};
 ghost use Rattle.continuation_table.specs.Continuation.{
   HasMoveInside,

@@ -59,22 +59,22 @@ module _ (deltas : Deltas) (are : AreDeltas deltas) where
   within_most n lt changes is = All-weaker (λ (c : Change). c.point < point_count deltas.shape) (λ (c : Change). c.point < MAX_POINTS) (λ c h. omega (arith, point_count-le-most deltas.shape)) changes (on_board n lt changes is)
 
   module _ (n : ℕ) (lt : n < node_count deltas) (p : ℕ) (stone : Cell) where
-    node-made : MakesCell (changes_of deltas n) p stone → (p < point_count deltas.shape) × (cell_at (position_at deltas n) p ≡ stone)
+    pub node-made : MakesCell (changes_of deltas n) p stone → (p < point_count deltas.shape) × (cell_at (position_at deltas n) p ≡ stone)
     node-made m = (
       omega (arith, made-on_board (above n) (changes_of deltas n) (are.changes n lt) p stone m, length-position_where deltas (parent_of deltas n)),
       ap (λ q. cell_at q p) (position_at-step deltas are n) ∙ cell-made (above n) (changes_of deltas n) (are.changes n lt) p stone m,
     )
 
-    node-cases : cell_at (position_at deltas n) p ≡ stone → MakesCell (changes_of deltas n) p stone ⊎ (All (λ (c : Change). c.point ≢ p) (changes_of deltas n) × (cell_at (above n) p ≡ stone))
+    pub node-cases : cell_at (position_at deltas n) p ≡ stone → MakesCell (changes_of deltas n) p stone ⊎ (All (λ (c : Change). c.point ≢ p) (changes_of deltas n) × (cell_at (above n) p ≡ stone))
     node-cases e = cell-cases (above n) (changes_of deltas n) (are.changes n lt) p stone (sym (ap (λ q. cell_at q p) (position_at-step deltas are n)) ∙ e)
 
   -- the first node has no parent
-  root-cell : (o : Option ℕ) → MayHaveParent (parent_of deltas) 0 o → (p : ℕ) → p < point_count deltas.shape → cell_at (position_where deltas o) p ≡ cell.Empty
+  pub root-cell : (o : Option ℕ) → MayHaveParent (parent_of deltas) 0 o → (p : ℕ) → p < point_count deltas.shape → cell_at (position_where deltas o) p ≡ cell.Empty
   root-cell None may p h = get_or-replicate (point_count deltas.shape) p cell.Empty cell.Empty h
   root-cell (Some m) may p h = absurd (omega (arith, may.0))
 
   -- what stands at the parent of another node stood at an earlier node
-  parent-cell : (n : ℕ) (o : Option ℕ) → 0 < n → MayHaveParent (parent_of deltas) n o → (p : ℕ) (stone : Cell) → cell_at (position_where deltas o) p ≡ stone → (m : ℕ) × (m < n) × (cell_at (position_at deltas m) p ≡ stone)
+  pub parent-cell : (n : ℕ) (o : Option ℕ) → 0 < n → MayHaveParent (parent_of deltas) n o → (p : ℕ) (stone : Cell) → cell_at (position_where deltas o) p ≡ stone → (m : ℕ) × (m < n) × (cell_at (position_at deltas m) p ≡ stone)
   parent-cell n None pos may p stone e = absurd (omega (arith, may))
   parent-cell n (Some m) pos may p stone e = (m, may.0, e)
 

@@ -5,3 +5,5 @@ pub mod JoinedBits
 pub mod NotedBits
 pub mod PresentGames
 pub mod KeptBits
+pub mod NotedSpans
+pub mod OrderedBits

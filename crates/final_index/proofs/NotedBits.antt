@@ -64,7 +64,7 @@ module _ (P Q : ℕ → Type 0) (g : ℕ) (before words : List ℕ) (so_far : Ha
   gained k i bit here =
       ap (λ (w : ℕ). bit_at w i) (word-same words at word within k here) ∙ ap (λ (j : ℕ). bit_at word j) bit ∙ bit_at_set_same w64 (slice_index words at) g narrow
 
-  HaveGained-more : HaveGained Q g before (set words at word)
+  pub HaveGained-more : HaveGained Q g before (set words at word)
   HaveGained-more = record {
     room = length-set words at word ∙ so_far.room;
     bits = λ k i. (

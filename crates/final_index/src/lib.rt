@@ -7,7 +7,10 @@
 #![tactic(auto)]
 
 mod ever_sets;
+mod order_planes;
 mod planes;
+mod spans;
 
 pub use ever_sets::EverSets;
+pub use order_planes::OrderPlanes;
 pub use planes::Planes;

@@ -291,7 +291,7 @@ fn note_window(words: &mut [u64], first: usize, bits: u64, game: usize)
 
 // Cuts each word with a word of a plane: the first with the one at this place, the next with the one
 // behind it, and so on.
-fn cut(words: &mut [u64], plane: &[u64], from: usize)
+pub(crate) fn cut(words: &mut [u64], plane: &[u64], from: usize)
     requires { from + length words.old ≤ length plane.now }
     ensures count { length words.new ≡ length words.old }
     ensures each { (k : ℕ) → k < length words.old → slice_index words.new k
@@ -329,7 +329,12 @@ fn common(word: u64, plane: &[u64]) -> u64
 }
 
 // The words of two lists joined, one by one.
-fn joined_words(alloc: Global, a: &[u64], b: &[u64], by: usize) -> Result<Vec<u64>, NoMemory>
+pub(crate) fn joined_words(
+    alloc: Global,
+    a: &[u64],
+    b: &[u64],
+    by: usize,
+) -> Result<Vec<u64>, NoMemory>
     requires same { length a.now ≡ length b.now }
     requires most { by ≤ 64 }
     requires room { (k i : ℕ) → bit_at (slice_index b.now k) i ≡ 1 → i + by < 64 }

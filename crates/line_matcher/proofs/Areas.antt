@@ -9,7 +9,7 @@ use Rattle.kb_geometry.specs.Board.{cols_of, rows_of, point_count, IsInside, IsO
 use Rattle.kb_geometry.specs.Symmetry.{point_of}
 use Rattle.pattern_images.specs.ImageList.{ImageList, IsPlacedOn, no_grid, placement_at}
 use Rattle.pattern_images.specs.Placements.{Placement}
-use Rattle.line_matcher.specs.declared.occurrence.Occurrence.{Occurrence}
+use Rattle.pattern_occurrences.specs.declared.occurrence.Occurrence.{Occurrence}
 use Rattle.line_matcher.specs.declared.visit.Visit.{Visit}
 use Rattle.line_matcher.specs.Begins.{AreStarts, holds_anew, corner_of, seen}
 use Rattle.line_matcher.specs.Visits.{IsFoundAt, IsNear}

@@ -7,26 +7,21 @@ use Rattle.std.specs.List.{flat_map, list_any, range_with_len}
 use Rattle.std.specs.List.Sorted.{IsStrictlyIncreasing}
 use Rattle.std.proofs.lemmas.Bool.{cases_lt, false_from_ne_true}
 use Rattle.std.proofs.lemmas.List.{append-nil, flat_map_more, get_or_default}
-use Rattle.std.proofs.lemmas.List.Elements.{All-head, All-tail, All-filter, All-weaker, filter-append}
+use Rattle.std.proofs.lemmas.List.Elements.{All-head, All-tail, All-filter, filter-append}
 use Rattle.std.proofs.lemmas.List.Kept.{AllPairs-from_increasing}
 use Rattle.std.proofs.lemmas.Map.Views.{Contains-from_any, list_any-from_Contains, exact_unsigned_eq}
 use Rattle.capture_board.specs.Deltas.{Deltas}
 use Rattle.pattern_images.specs.Placements.{Placement}
-use Rattle.line_matcher.specs.declared.occurrence.Occurrence.{Occurrence}
+use Rattle.pattern_occurrences.specs.declared.occurrence.Occurrence.{Occurrence}
+use Rattle.pattern_occurrences.specs.Occurrences.{is_at_one_of, occurrences_at, occurrences_at_nodes, occurrences_in}
+use Rattle.pattern_occurrences.proofs.GivenNodes.{filter-all}
+use Rattle.pattern_occurrences.proofs.OccurrenceLaw.{at_node, placements_are_there}
 use Rattle.line_matcher.specs.Nodes.{IsFoundAmong, IsFoundAtNode}
-use Rattle.line_matcher.specs.Occurrences.{Occurs, is_at_one_of, occurrences_at, occurrences_at_nodes, occurrences_in}
 use Rattle.line_matcher.proofs.FoundLists.{range_more}
-use Rattle.line_matcher.proofs.OccurrenceLaw.{all_occur, at_node, placements_are_there}
 
--- ---- a test that all pass, and one that none passes
+-- ---- a test that none passes
 module _ {X : Type 0} (p : X → Bool) where
-  pub filter-all : (xs : List X) → All (λ x. p x ≡ true) xs → filter p xs ≡ xs
-  filter-all [] all = refl
-  filter-all (x ∷ xs) all =
-      ap (λ (b : Bool). cond b (x ∷ filter p xs) (filter p xs)) (All-head (λ y. p y ≡ true) x xs all)
-      ∙ ap (λ (ys : List X). x ∷ ys) (filter-all xs (All-tail (λ y. p y ≡ true) x xs all))
-
-  pub filter-none : (xs : List X) → All (λ x. p x ≡ false) xs → filter p xs ≡ []
+  filter-none : (xs : List X) → All (λ x. p x ≡ false) xs → filter p xs ≡ []
   filter-none [] none = refl
   filter-none (x ∷ xs) none =
       ap (λ (b : Bool). cond b (x ∷ filter p xs) (filter p xs)) (All-head (λ y. p y ≡ false) x xs none)
@@ -34,13 +29,6 @@ module _ {X : Type 0} (p : X → Bool) where
 
 -- ---- the occurrences at the given nodes
 module _ (deltas : Deltas) (placements : List Placement) (given : List ℕ) where
-  -- where each node with an occurrence is given, nothing is left out
-  pub all_at_nodes : ((o : Occurrence) → Occurs deltas placements o → Contains given o.node) → occurrences_at_nodes deltas placements given ≡ occurrences_in deltas placements
-  all_at_nodes each =
-      filter-all (is_at_one_of given) (occurrences_in deltas placements)
-      (All-weaker (Occurs deltas placements) (λ (o : Occurrence). is_at_one_of given o ≡ true)
-      (λ o is. list_any-from_Contains nat_eq_equiv o.node given (each o is)) (occurrences_in deltas placements) (all_occur deltas placements))
-
   -- each placement is there
   pub placements_at_nodes : All (λ (o : Occurrence). o.placement < length placements) (occurrences_at_nodes deltas placements given)
   placements_at_nodes = All-filter (is_at_one_of given) (λ (o : Occurrence). o.placement < length placements) (occurrences_in deltas placements) (placements_are_there deltas placements)

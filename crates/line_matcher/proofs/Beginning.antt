@@ -18,12 +18,12 @@ use Rattle.pattern_images.specs.Grid.{Grid, cell_in}
 use Rattle.pattern_images.specs.Holds.{number_under}
 use Rattle.pattern_images.specs.ImageList.{IsPlacedOn, grid_at}
 use Rattle.pattern_images.specs.Placements.{Placement}
+use Rattle.pattern_occurrences.specs.Occurrences.{holds}
+use Rattle.pattern_occurrences.proofs.HoldsLaw.{holds-decides}
 use Rattle.line_matcher.specs.declared.mask.RowMask.{RowMask}
 use Rattle.line_matcher.specs.Begins.{corner_of, touches}
 use Rattle.line_matcher.specs.GridRows.{AreGridRows}
 use Rattle.line_matcher.specs.Masks.{AreRowsOf, FitsRow, IsRowTo, IsRowWord, TouchesAt, asks, care_of, no_mask}
-use Rattle.line_matcher.specs.Occurrences.{holds}
-use Rattle.line_matcher.proofs.HoldsLaw.{holds-decides}
 use Rattle.line_matcher.proofs.Ranges.{any_below}
 use Rattle.line_matcher.proofs.RowFits.{HasCell, holds-rows_fit, narrow_grid, number_under-is, rows_fit-holds}
 

@@ -26,6 +26,9 @@ use Rattle.pattern_images.specs.Grid.{Grid, cell_in}
 use Rattle.pattern_images.specs.Holds.{Allows, Holds, number_under}
 use Rattle.pattern_images.specs.ImageList.{AreImages, ImageList, IsPlacedOn, grid_at, no_grid, placement_at}
 use Rattle.pattern_images.specs.Placements.{Placement}
+use Rattle.pattern_occurrences.specs.declared.occurrence.Occurrence.{Occurrence}
+use Rattle.pattern_occurrences.specs.Occurrences.{begins_at, holds, holds_at, occurrences_at}
+use Rattle.pattern_occurrences.proofs.HoldsLaw.{holds-decides}
 use Rattle.line_matcher.specs.declared.changed.Concerned.{Concerned}
 use Rattle.line_matcher.specs.declared.matcher.Size.{Size}
 use Rattle.line_matcher.specs.Areas.{HoldsChanges, IsReach}
@@ -34,11 +37,8 @@ use Rattle.line_matcher.specs.Concerned.{AreConcerned, ArePointsWith}
 use Rattle.line_matcher.specs.Masks.{asks, asks_black, asks_white}
 use Rattle.line_matcher.specs.Matchers.{AreMost}
 use Rattle.line_matcher.specs.Nodes.{IsFoundAtRoot, IsFoundByChanges, IsFoundAtNode, IsFoundTo}
-use Rattle.line_matcher.specs.declared.occurrence.Occurrence.{Occurrence}
-use Rattle.line_matcher.specs.Occurrences.{begins_at, holds, holds_at, occurrences_at}
 use Rattle.line_matcher.proofs.Beginning.{Touched, touches-decides}
 use Rattle.line_matcher.proofs.FoundLists.{IsAdded-skip, occurrences_below-agree, range_more}
-use Rattle.line_matcher.proofs.HoldsLaw.{holds-decides}
 
 -- a cell that asks of black allows no two cells of which one is black
 no_black : (c : PatternCell) (s t : Cell) → asks_black c ≡ true → Allows c s → Allows c t → s ≢ t →

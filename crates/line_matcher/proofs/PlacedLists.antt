@@ -4,8 +4,8 @@ use Rattle.std.proofs.lemmas.Bool.{cases_lt}
 use Rattle.std.proofs.lemmas.List.{length_push, get_or_append_left, get_or_push}
 use Rattle.pattern_images.specs.declared.hit.Found.{Found}
 use Rattle.pattern_images.specs.Placements.{Placement}
-use Rattle.line_matcher.specs.declared.occurrence.Occurrence.{Occurrence}
-use Rattle.line_matcher.specs.Occurrences.{AreFound, IsOccurrence}
+use Rattle.pattern_occurrences.specs.declared.occurrence.Occurrence.{Occurrence}
+use Rattle.line_matcher.specs.FoundOccurrences.{AreFound, IsOccurrence}
 
 -- what was found is the first so many of the occurrences
 pub record AreFoundTo (placements : List Placement) (occurrences : List Occurrence) (n : ℕ) (found : List Found) : Type 0 where

@@ -13,10 +13,10 @@ use Rattle.pattern_images.specs.Grid.{cell_in}
 use Rattle.pattern_images.specs.Holds.{number_under}
 use Rattle.pattern_images.specs.ImageList.{placement_at}
 use Rattle.pattern_images.specs.Placements.{Placement}
+use Rattle.pattern_occurrences.specs.declared.occurrence.Occurrence.{Occurrence}
+use Rattle.pattern_occurrences.specs.Occurrences.{holds}
 use Rattle.line_matcher.specs.declared.changed.Concerned.{Concerned}
 use Rattle.line_matcher.specs.Masks.{asks}
-use Rattle.line_matcher.specs.declared.occurrence.Occurrence.{Occurrence}
-use Rattle.line_matcher.specs.Occurrences.{holds}
 
 -- what a node's changes concern, as the functions hand it on
 abbrev pub seen : Option (Bor Concerned) → Option Concerned

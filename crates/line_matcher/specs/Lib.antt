@@ -1,5 +1,5 @@
 -- Definitions that contracts of public functions rest on.
-pub mod Occurrences
+pub mod FoundOccurrences
 -- Definitions of private functions.
 pub mod Areas
 pub mod Begins

@@ -6,11 +6,11 @@ use Rattle.kb_geometry.specs.Capture.{Position}
 use Rattle.capture_board.specs.Deltas.{Deltas}
 use Rattle.pattern_images.specs.ImageList.{ImageList}
 use Rattle.pattern_images.specs.Placements.{Placement}
+use Rattle.pattern_occurrences.specs.declared.occurrence.Occurrence.{Occurrence}
+use Rattle.pattern_occurrences.specs.Occurrences.{is_at_one_of, occurrences_at}
 use Rattle.line_matcher.specs.declared.changed.Concerned.{Concerned}
 use Rattle.line_matcher.specs.Concerned.{AreConcerned}
 use Rattle.line_matcher.specs.Begins.{AreOccurrencesAdded, holds_anew}
-use Rattle.line_matcher.specs.declared.occurrence.Occurrence.{Occurrence}
-use Rattle.line_matcher.specs.Occurrences.{is_at_one_of, occurrences_at}
 
 -- What was found grows by all that holds in the position.
 abbrev pub IsFoundAtRoot : ImageList → Position → ℕ → List Occurrence → List Occurrence → Type 0

@@ -4,7 +4,7 @@ use Rattle.kb_geometry.specs.declared.shape.Rect.{Rect}
 use Rattle.kb_geometry.specs.Board.{IsInside}
 use Rattle.kb_geometry.specs.Symmetry.{point_of}
 use Rattle.pattern_images.specs.ImageList.{ImageList, placement_at}
-use Rattle.line_matcher.specs.declared.occurrence.Occurrence.{Occurrence}
+use Rattle.pattern_occurrences.specs.declared.occurrence.Occurrence.{Occurrence}
 use Rattle.line_matcher.specs.declared.visit.Visit.{Visit}
 use Rattle.line_matcher.specs.Begins.{AreOccurrencesAdded, holds_anew, seen}
 

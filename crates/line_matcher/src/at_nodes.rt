@@ -3,17 +3,18 @@ ghost use Rattle.std.specs.Prelude.{◌≡◌, ◌+◌, ◌≤◌, IfOk, OnOk};
 ghost use Rattle.std.specs.List.Sorted.{IsStrictlyIncreasing};
 ghost use Rattle.capture_board.specs.Deltas.{node_count};
 ghost use Rattle.capture_board.specs.Walking.{node_before, StandsIn};
-ghost use Rattle.line_matcher.specs.declared.occurrence.Occurrence.{Occurrence};
+ghost use Rattle.pattern_occurrences.specs.declared.occurrence.Occurrence.{Occurrence};
+ghost use Rattle.pattern_occurrences.specs.Occurrences.{occurrences_at_nodes};
 ghost use Rattle.line_matcher.specs.Nodes.{IsFoundAmong};
-ghost use Rattle.line_matcher.specs.Occurrences.{AreFound, occurrences_at_nodes};
+ghost use Rattle.line_matcher.specs.FoundOccurrences.{AreFound};
 
-use crate::Occurrence;
 use crate::changed::Concerned;
 use crate::matcher::Matcher;
 use crate::walk::{add_node, with_places};
 use capture_board::{NodeDeltas, Steps, Walker};
 use kb_geometry::NoMemory;
 use pattern_images::{Found, Images};
+use pattern_occurrences::Occurrence;
 use std::alloc::Global;
 use std::sync::ledger::Ledger;
 

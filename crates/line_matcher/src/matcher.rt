@@ -2,14 +2,13 @@
 ghost use Rattle.std.specs.Prelude.{◌≡◌, ◌+◌, ◌*◌, ◌≤◌, ◌<◌, ℕ, length, slice_index, IfOk, OnOk};
 ghost use Rattle.kb_geometry.specs.Board.{IsOrderedRectOnBoard, cols_of, point_count, rows_of};
 ghost use Rattle.pattern_images.specs.ImageList.{AreImages, IsPlacedOn, placement_at};
+ghost use Rattle.pattern_occurrences.specs.Occurrences.{holds};
 ghost use Rattle.line_matcher.specs.Areas.{IsReach};
 ghost use Rattle.line_matcher.specs.Begins.{holds_anew, corner_of, may_begin, seen, touches};
 ghost use Rattle.line_matcher.specs.Masks.{AreRowsOf, asks};
 ghost use Rattle.line_matcher.specs.Matchers.{AreMost, IsMatcherOf};
-ghost use Rattle.line_matcher.specs.Occurrences.{holds};
 ghost use Rattle.line_matcher.specs.Visits.{IsFoundAt, IsNear};
 
-use crate::Occurrence;
 use crate::changed::{Concerned, reach};
 use crate::grid_rows::GridRows;
 use crate::mask::{RowMask, rows_fit, rows_touch};
@@ -19,6 +18,7 @@ use capture_board::Walker;
 use kb_bits::BitBoard;
 use kb_geometry::{Cell, Colour, NoMemory, Point, Rect, Shape};
 use pattern_images::Images;
+use pattern_occurrences::Occurrence;
 use std::alloc::Global;
 
 /// The images of a query, made ready to be looked for in many games on boards of their shape.

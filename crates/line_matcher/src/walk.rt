@@ -4,18 +4,19 @@ ghost use Rattle.kb_geometry.specs.declared.stone.Change.{Change};
 ghost use Rattle.kb_geometry.specs.Board.{point_count};
 ghost use Rattle.capture_board.specs.Deltas.{node_count};
 ghost use Rattle.capture_board.specs.Walking.{StandsIn};
+ghost use Rattle.pattern_occurrences.specs.declared.occurrence.Occurrence.{Occurrence};
+ghost use Rattle.pattern_occurrences.specs.Occurrences.{occurrences_in};
 ghost use Rattle.line_matcher.specs.Concerned.{AreConcerned, no_points};
 ghost use Rattle.line_matcher.specs.Nodes.{IsFoundAtRoot, IsFoundByChanges, IsFoundAtNode, IsFoundTo};
-ghost use Rattle.line_matcher.specs.declared.occurrence.Occurrence.{Occurrence};
-ghost use Rattle.line_matcher.specs.Occurrences.{AreFound, occurrences_in};
+ghost use Rattle.line_matcher.specs.FoundOccurrences.{AreFound};
 
-use crate::Occurrence;
 use crate::changed::{Concerned, bounds, whole};
 use crate::matcher::Matcher;
 use crate::visit::Visit;
 use capture_board::{NodeDeltas, Steps, Walker};
 use kb_geometry::{Change, NoMemory};
 use pattern_images::{Found, Images};
+use pattern_occurrences::Occurrence;
 use std::alloc::Global;
 use std::sync::ledger::Ledger;
 

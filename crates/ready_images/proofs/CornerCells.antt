@@ -173,13 +173,19 @@ power_grows k (suc more) =
     let grown : 3 ^ k ≤ 3 ^ suc (k + more) = omega (arith, before, next) in
     subst (λ n. 3 ^ k ≤ 3 ^ n) on grown
 
-pub power_fits : (n k : ℕ) → n ≡ k → k < 36 → 3 ^ n < 18446744073709551616
-power_fits n k e lt =
+-- the next power
+pub power_next : (w k : ℕ) → w ≡ 3 ^ k → w * 3 ≡ 3 ^ (k + 1)
+power_next w k is =
+    let next : 3 ^ suc k ≡ 3 ^ k * 3 = pow-suc 3 k in
+    let here : 3 ^ suc k ≡ 3 ^ (k + 1) = ap (λ (n : ℕ). 3 ^ n) (omega arith) in
+    omega (arith, is, next, here)
+
+pub power_fits : (w k : ℕ) → w ≡ 3 ^ k → k < 36 → w * 3 < 18446744073709551616
+power_fits w k is lt =
     let last : k + (35 - k) ≡ 35 = omega (arith, lt) in
     let weight : 3 ^ k ≤ 3 ^ 35 = subst (λ (m : ℕ). 3 ^ k ≤ 3 ^ m) last (power_grows k (35 - k)) in
-    let same : 3 ^ n ≡ 3 ^ k = ap (λ (i : ℕ). 3 ^ i) e in
     let top : 3 ^ 35 ≡ 50031545098999707 = refl in
-    omega (arith, weight, same, top)
+    omega (arith, weight, is, top)
 
 -- the cell over a place, by what is at hand
 pub over_place : (placement : Placement) (p : Point) (corner n k : ℕ) (shape s : Shape) → p ≡ frame_point n s k → n ≡ corner → s ≡ shape → cell_over placement p ≡ frame_cell shape placement corner k
@@ -206,11 +212,11 @@ module _ (shape : Shape) (placement : Placement) (corner : ℕ) where
   pub IsNumberTo-start : IsNumberTo shape placement corner 0 0
   IsNumberTo-start = record { exact = λ k lt. absurd (omega (arith, lt)); is = sym number_to-none }
 
-  module _ (count number : ℕ) (so_far : IsNumberTo shape placement corner count number) (pattern : PatternCell) (over : pattern ≡ frame_cell shape placement corner count) (d w from : ℕ) (digit : d ≡ digit_of pattern) (weight : w ≡ 3 ^ from) (place : from ≡ count) where
+  module _ (count number : ℕ) (so_far : IsNumberTo shape placement corner count number) (pattern : PatternCell) (over : pattern ≡ frame_cell shape placement corner count) (d w : ℕ) (digit : d ≡ digit_of pattern) (weight : w ≡ 3 ^ count) where
     more : number_to shape placement corner (suc count) ≡ number + d * w
     more =
         let product : d * w ≡ digit_of (frame_cell shape placement corner count) * 3 ^ count =
-        ap (λ (x : ℕ). x * w) (digit ∙ ap digit_of over) ∙ ap (λ (y : ℕ). digit_of (frame_cell shape placement corner count) * y) (weight ∙ ap (λ (i : ℕ). 3 ^ i) place) in
+        ap (λ (x : ℕ). x * w) (digit ∙ ap digit_of over) ∙ ap (λ (y : ℕ). digit_of (frame_cell shape placement corner count) * y) weight in
         omega (arith, number_to-more count, product, so_far.is)
 
     pub IsNumberTo-more : IsExact pattern → IsNumberTo shape placement corner (count + 1) (number + d * w)

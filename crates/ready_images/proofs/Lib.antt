@@ -2,6 +2,7 @@ pub mod ClassLists
 pub mod CornerCells
 pub mod CornerLists
 pub mod FewPlacements
+pub mod PairLists
 pub mod PlacementLists
 pub mod RowWants
 pub mod WantLists

@@ -2,16 +2,20 @@
 use Rattle.std.proofs.Common.{◌≡◌, ℕ, ◌+◌, ◌-◌, ◌<◌, ◌≤◌, List, length, slice_index, sym, ap, ◌∙◌, subst, arith}
 use Rattle.std.specs.Prelude.{All, slice_index_or, slice_range}
 use Rattle.kb_geometry.specs.Board.{point_count}
+use Rattle.pattern_images.specs.declared.cell.PatternCell.{PatternCell}
+use Rattle.pattern_images.specs.declared.cell.PatternCell.TheVariants as kind
 use Rattle.pattern_images.specs.Grid.{Grid}
 use Rattle.pattern_images.specs.ImageList.{AreImages, ImageList, grid_at, no_placement, placement_at}
 use Rattle.pattern_images.specs.Placements.{Placement}
+use Rattle.ready_images.specs.declared.pair.Pair.{Pair}
 use Rattle.ready_images.specs.declared.row.Row.{Row}
 use Rattle.ready_images.specs.declared.want.Want.{Want}
 use Rattle.ready_images.specs.declared.want_lists.ClassRange.{ClassRange}
+use Rattle.ready_images.specs.Pairs.{IsPairBelow, IsPairIn}
 use Rattle.ready_images.specs.Rows.{IsRowIn}
 use Rattle.ready_images.specs.StoredWants.{HaveWantsTo, wants_in}
-use Rattle.ready_images.specs.Wants.{AreWantsOf}
-use Rattle.ready_images.proofs.WantsOfPlacements.{base-on_board, wants-on_board}
+use Rattle.ready_images.specs.Wants.{AreWantsOf, IsWantIn}
+use Rattle.ready_images.proofs.WantsOfPlacements.{base-on_board, number_under-base, number_under-on_board, wants-on_board}
 
 -- ---- a class
 
@@ -43,3 +47,17 @@ module _ (images : ImageList) (are : AreImages images) (numbers : List ℕ) (in_
   row-base-small k lt =
       let seat : row.start + k < length numbers = omega (arith, is.within, lt) in
       omega (arith, is.bases k lt, base-on_board images.shape (here k) (are.placed (slice_index numbers (row.start + k)) no_placement (in_range (row.start + k) seat)))
+
+  -- so for the pairs of its class
+  offset-on_board : (offset : ℕ) (cell : PatternCell) → IsWantIn images.shape (grid_at images.grids row.class) (record { offset = offset; cell = cell }) → row.base + offset + row.count ≤ point_count images.shape
+  offset-on_board offset cell want =
+      let last : row.count - 1 < row.count = omega (arith, is.some) in
+      let seat : row.start + (row.count - 1) < length numbers = omega (arith, is.within, is.some) in
+      let placed = are.placed (slice_index numbers (row.start + (row.count - 1))) no_placement (in_range (row.start + (row.count - 1)) seat) in
+      let (dx, dy, in_cols, in_rows, (at, same)) = subst (λ (g : Grid). IsWantIn images.shape g (record { offset = offset; cell = cell })) (is.classes (row.count - 1) last).cells want in
+      omega (arith, number_under-on_board images.shape (here (row.count - 1)) placed dx dy in_cols in_rows, number_under-base images.shape (here (row.count - 1)) placed dx dy, at, is.bases (row.count - 1) last, is.some)
+
+  pub pairs-on_board : (pairs : List Pair) → All (IsPairIn images.shape (grid_at images.grids row.class)) pairs → All (IsPairBelow (point_count images.shape) row.base row.count) pairs
+  pairs-on_board pairs of k d lt =
+      let ((cell, rank, stone), empty) = of k d lt in
+      (offset-on_board (slice_index_or pairs k d).stone cell stone, offset-on_board (slice_index_or pairs k d).empty kind.Empty empty)

@@ -1,5 +1,6 @@
 -- Definitions that contracts of public functions rest on.
 pub mod Corners
+pub mod Pairs
 pub mod Prepared
 pub mod Ready
 pub mod Rows

@@ -148,6 +148,23 @@ fn reaches_side(from: u8, count: u8, side: u8) -> bool
     from + count == side
 }
 
+/// The number that a corner of the board has where it has the cells of a placement, if the placement
+/// covers it with empty, black and white cells alone. On a board with a side below 6 there is no
+/// corner.
+pub fn number_of_corner(images: &Images, i: usize, corner: u8) -> Option<u64>
+    requires placement { i < length images.now.placements }
+    requires corner { corner < 4 }
+    ensures some { IfSome result
+        (IsCornerNumber images.now.shape (placement_at images.now.placements i) corner) }
+    ensures none { IsNone result → HasCorners images.now.shape →
+        ¬ CoversCorner images.now.shape (placement_at images.now.placements i) corner }
+{
+    if !has_corners(images.shape()) {
+        return None;
+    }
+    corner_number(images, i, corner)
+}
+
 // The number that a corner has where it has the cells of a placement, if the placement covers it with
 // empty, black and white cells alone.
 fn corner_number(images: &Images, i: usize, corner: u8) -> Option<u64>
@@ -162,12 +179,14 @@ fn corner_number(images: &Images, i: usize, corner: u8) -> Option<u64>
     let _count = images.len();
     let symmetry = Symmetry::new(corner)?;
     let mut number = 0;
+    let mut power = 1;
     for place in 0..PLACES {
         let at = point_on(symmetry, images.shape(), place);
         let Some(digit) = digit(cell_over(images, i, at)) else {
             return None;
         };
-        number += digit * 3u64.pow(u32::from(place));
+        number += digit * power;
+        power *= 3;
     }
     Some(number)
 }

@@ -9,6 +9,8 @@ mod class_wants;
 mod corner_number;
 mod corners;
 mod laws;
+mod pair;
+mod pairs;
 mod prepared;
 mod ranks;
 mod ready_images;
@@ -20,7 +22,9 @@ mod wanted;
 
 pub use class_wants::ClassWants;
 pub use corner_number::CornerNumber;
+pub use corners::number_of_corner;
 pub use laws::a_placement_holds_where_its_wants_are_met;
+pub use pair::Pair;
 pub use prepared::Prepared;
 pub use ready_images::ReadyImages;
 pub use row::Row;

@@ -14,6 +14,7 @@ ghost use Rattle.kb_geometry.specs.Board.{point_count};
 ghost use Rattle.pattern_images.specs.ImageList.{AreImages, grid_at};
 ghost use Rattle.ready_images.specs.declared.want.Want.{Want};
 ghost use Rattle.ready_images.specs.Corners.{AreCornersOf};
+ghost use Rattle.ready_images.specs.Pairs.{IsPairBelow, IsPairIn};
 ghost use Rattle.ready_images.specs.Prepared.{IsPreparedAs};
 ghost use Rattle.ready_images.specs.Rows.{AreRowsOf, IsRowIn};
 ghost use Rattle.ready_images.specs.Wants.{AreWantsOf};
@@ -21,6 +22,8 @@ ghost use Rattle.ready_images.specs.Wants.{AreWantsOf};
 use crate::class_wants::ClassWants;
 use crate::corner_number::CornerNumber;
 use crate::corners::{corners_of, first_of};
+use crate::pair::Pair;
+use crate::pairs::pairs_of;
 use crate::prepared::Prepared;
 use crate::row::Row;
 use crate::rows::{MadeRows, base, rows_of};
@@ -43,6 +46,8 @@ pub struct ReadyImages {
     // The wants of all classes, one class behind the other.
     wants: Vec<Want>,
     classes: Vec<ClassRange>,
+    // For each class its stones beside empty cells.
+    pairs: Vec<Vec<Pair>>,
     rows: Vec<Row>,
     // The numbers of the placements, class by class and row by row.
     numbers: Vec<u32>,
@@ -63,8 +68,10 @@ impl Model for ReadyImages {
       numbers = r.numbers.items;
     } };
 
-    ghost invariant = { λ r. AreStored r.images r.classes.items r.wants.items r.rows.items
-        r.numbers.items r.corners.items };
+    ghost use Rattle.std.specs.Prelude.{map};
+
+    ghost invariant = { λ r. AreStored r.images r.classes.items r.wants.items
+        (map (λ v. v.items) r.pairs.items) r.rows.items r.numbers.items r.corners.items };
 }
 
 impl ReadyImages {
@@ -74,13 +81,16 @@ impl ReadyImages {
         ensures { IfOk result (λ ready. ready.images ≡ images) }
     {
         let MadeRows { numbers, rows } = rows_of(alloc, &images)?;
-        let MadeWants { wants, classes } = wants_of(alloc, &images)?;
+        let made = wants_of(alloc, &images)?;
+        let pairs = pairs_of(alloc, &images, &made)?;
+        let MadeWants { wants, classes } = made;
         let corners = corners_of(alloc, &images)?;
         let _count = images.len();
         Ok(ReadyImages {
             images,
             wants,
             classes,
+            pairs,
             rows,
             numbers,
             corners,
@@ -127,6 +137,18 @@ impl ReadyImages {
     {
         let ClassRange { start, end, .. } = self.classes[usize::from(row.class)];
         &self.wants[start..end]
+    }
+
+    /// The stones of the placements of a row beside cells that must be empty. Those of the last
+    /// placement, too, are points of the board.
+    pub fn pairs_of(&self, row: &Row) -> &[Pair]
+        requires { IsRowIn self.now.images self.now.numbers row.now }
+        ensures are { All (IsPairIn self.now.images.shape
+            (grid_at self.now.images.grids row.now.class)) result.now }
+        ensures on_board { All (IsPairBelow (point_count self.now.images.shape) row.now.base
+            row.now.count) result.now }
+    {
+        self.pairs[usize::from(row.class)].as_slice()
     }
 
     /// The placement of a row with this number in it, from 0.

@@ -6,7 +6,7 @@ use Rattle.kb_geometry.specs.Board.{point_count}
 use Rattle.kb_geometry.specs.declared.shape.Shape.{Shape}
 use Rattle.pattern_images.specs.ImageList.{IsPlacedOn}
 use Rattle.pattern_images.specs.Placements.{Placement}
-use Rattle.line_matcher.specs.Occurrences.{HoldsAt}
+use Rattle.pattern_occurrences.specs.Occurrences.{HoldsAt}
 use Rattle.ready_images.specs.Wants.{AreWantsOf, base_of, no_want}
 use Rattle.ready_images.specs.declared.want.Want.{Want}
 use Rattle.capture_index.specs.NodePositions.{NodePositions, count_in, positions_of}

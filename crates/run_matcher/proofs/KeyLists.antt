@@ -5,7 +5,7 @@ use Rattle.std.specs.Prelude.{Contains, if◌then◌else◌}
 use Rattle.std.proofs.lemmas.Bool.{cases_lt, le-ltb, lt-ltb}
 use Rattle.std.proofs.lemmas.List.{append-nil, get_or-map, length-map, map-append, map_more, take_all}
 use Rattle.std.proofs.lemmas.List.Elements.{Contains-append_cases, Contains-append_left, Contains-append_right, Contains-get_or}
-use Rattle.line_matcher.specs.declared.occurrence.Occurrence.{Occurrence}
+use Rattle.pattern_occurrences.specs.declared.occurrence.Occurrence.{Occurrence}
 use Rattle.run_matcher.specs.GoingOn.{occurrences_of}
 use Rattle.run_matcher.specs.Keys.{begun_list, begun_of, end_number, holds_by, key_of, occurrence_number}
 use Rattle.run_matcher.specs.declared.begun.Begun.{Begun}

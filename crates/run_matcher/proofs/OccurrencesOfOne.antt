@@ -7,10 +7,10 @@ use Rattle.capture_board.specs.Deltas.{AreDeltas, Deltas, node_count, parent_of,
 use Rattle.node_paths.proofs.Ancestors.{parent-lt}
 use Rattle.pattern_images.specs.ImageList.{IsPlacedOn, placement_at}
 use Rattle.pattern_images.specs.Placements.{Placement}
-use Rattle.line_matcher.specs.declared.occurrence.Occurrence.{Occurrence}
-use Rattle.line_matcher.specs.Occurrences.{HoldsAt, begins_at, holds_at, occurrences_in}
-use Rattle.line_matcher.proofs.HoldsLaw.{holds-decides}
-use Rattle.line_matcher.proofs.OccurrenceLaw.{occurrences-are}
+use Rattle.pattern_occurrences.specs.declared.occurrence.Occurrence.{Occurrence}
+use Rattle.pattern_occurrences.specs.Occurrences.{HoldsAt, begins_at, holds_at, occurrences_in}
+use Rattle.pattern_occurrences.proofs.HoldsLaw.{holds-decides}
+use Rattle.pattern_occurrences.proofs.OccurrenceLaw.{occurrences-are}
 use Rattle.ready_images.specs.Wants.{AreWantsOf, base_of}
 use Rattle.ready_images.specs.declared.want.Want.{Want}
 use Rattle.capture_index.specs.NodePositions.{NodePositions, count_in, positions_of}

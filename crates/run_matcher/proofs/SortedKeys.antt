@@ -11,9 +11,9 @@ use Rattle.std.proofs.lemmas.Map.Keys.{ge_from_not_lt}
 use Rattle.kb_geometry.proofs.Lists.{same_order}
 use Rattle.capture_board.specs.Deltas.{Deltas}
 use Rattle.pattern_images.specs.Placements.{Placement}
-use Rattle.line_matcher.specs.declared.occurrence.Occurrence.{Occurrence}
-use Rattle.line_matcher.specs.Occurrences.{StandsBefore, occurrences_in}
-use Rattle.line_matcher.proofs.OccurrenceLaw.{occurrences-ordered}
+use Rattle.pattern_occurrences.specs.declared.occurrence.Occurrence.{Occurrence}
+use Rattle.pattern_occurrences.specs.Occurrences.{StandsBefore, occurrences_in}
+use Rattle.pattern_occurrences.proofs.OccurrenceLaw.{occurrences-ordered}
 use Rattle.run_matcher.specs.GoingOn.{occurrences_of}
 use Rattle.run_matcher.specs.Keys.{begun_list, begun_of, occurrence_of, occurrence_number}
 use Rattle.run_matcher.specs.declared.begun.Begun.{Begun}

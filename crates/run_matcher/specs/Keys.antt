@@ -1,7 +1,7 @@
 -- Occurrences, and how far they are known to hold, as numbers, the keys: definitions for the private
 -- functions.
 use Rattle.std.specs.Prelude.{ℕ, ◌+◌, ◌*◌, ◌/◌, ◌%◌, nat_lt, if◌then◌else◌, List, map}
-use Rattle.line_matcher.specs.declared.occurrence.Occurrence.{Occurrence}
+use Rattle.pattern_occurrences.specs.declared.occurrence.Occurrence.{Occurrence}
 use Rattle.run_matcher.specs.declared.begun.Begun.{Begun}
 use Rattle.run_matcher.specs.declared.begun.HoldsTo.{HoldsTo}
 use Rattle.run_matcher.specs.declared.begun.HoldsTo.TheVariants as holding

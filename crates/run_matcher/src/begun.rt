@@ -1,5 +1,5 @@
 // Where a placement begins to hold in a game.
-use line_matcher::Occurrence;
+use pattern_occurrences::Occurrence;
 
 /// A placement that begins to hold at a node, and how far it is known to go on to hold.
 #[derive(Clone, Copy, Debug, PartialEq, Eq)]

@@ -17,8 +17,8 @@ ghost use Rattle.std.specs.Prelude.{
 ghost use mathlib.Core.List.{IsPrefix};
 ghost use Rattle.capture_board.specs.Deltas.{AreDeltas, Deltas};
 ghost use Rattle.pattern_images.specs.Placements.{Placement};
-ghost use Rattle.line_matcher.specs.declared.occurrence.Occurrence.{Occurrence};
-ghost use Rattle.line_matcher.specs.Occurrences.{occurrences_in};
+ghost use Rattle.pattern_occurrences.specs.declared.occurrence.Occurrence.{Occurrence};
+ghost use Rattle.pattern_occurrences.specs.Occurrences.{occurrences_in};
 ghost use Rattle.capture_index.specs.NodePositions.{count_in, positions_of};
 ghost use Rattle.capture_index.specs.declared.stretch.Stretch.{Stretch};
 ghost use Rattle.capture_index.specs.Stretches.{AreApart, BeginsIn, IsIn};

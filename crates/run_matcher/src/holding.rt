@@ -2,7 +2,7 @@
 ghost use Rattle.std.specs.Prelude.{◌≡◌, ◌<◌, ◌≤◌, ℕ};
 ghost use Rattle.capture_board.specs.Deltas.{AreDeltas, Deltas};
 ghost use Rattle.pattern_images.specs.ImageList.{placement_at};
-ghost use Rattle.line_matcher.specs.Occurrences.{HoldsAt};
+ghost use Rattle.pattern_occurrences.specs.Occurrences.{HoldsAt};
 ghost use Rattle.capture_index.specs.NodePositions.{count_in, positions_of};
 
 use capture_index::RunIndex;

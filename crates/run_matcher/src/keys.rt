@@ -19,13 +19,13 @@ ghost use Rattle.std.specs.Prelude.{
 };
 ghost use Rattle.std.specs.Ordering.{nat_cmp};
 ghost use mathlib.Core.List.{IsPrefix};
-ghost use Rattle.line_matcher.specs.Occurrences.{StandsBefore};
+ghost use Rattle.pattern_occurrences.specs.Occurrences.{StandsBefore};
 ghost use Rattle.run_matcher.specs.GoingOn.{occurrences_of};
 ghost use Rattle.run_matcher.specs.Keys.{begun_of, end_number, holds_by, key_of};
 
 use crate::{Begun, HoldsTo};
 use kb_geometry::NoMemory;
-use line_matcher::Occurrence;
+use pattern_occurrences::Occurrence;
 use std::alloc::Global;
 
 // Numbers of placements are below this.

@@ -1,8 +1,9 @@
 //! The occurrences of placements in one game, by the runs of its points.
 //!
 //! Stands on node_paths, kb_geometry, kb_bits, capture_board, pattern_images, ready_images,
-//! line_matcher and capture_index. [`match_runs`] gives the list that `line_matcher::match_with`
-//! gives, without going over the nodes; [`Gathered`] does so for whichever placements are asked for.
+//! pattern_occurrences and capture_index. [`Gathered`] gives the occurrences of whichever placements
+//! are asked for, without going over the nodes; [`match_runs`] does so for all, and gives the list
+//! that `line_matcher::match_with` gives by a walk.
 #![tactic(auto)]
 
 mod begun;

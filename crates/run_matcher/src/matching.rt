@@ -1,14 +1,14 @@
 // All occurrences of placements in a game.
 ghost use Rattle.std.specs.Prelude.{◌≡◌, IfOk};
 ghost use Rattle.capture_board.specs.Deltas.{AreDeltas, Deltas};
-ghost use Rattle.line_matcher.specs.Occurrences.{occurrences_in};
+ghost use Rattle.pattern_occurrences.specs.Occurrences.{occurrences_in};
 ghost use Rattle.capture_index.specs.NodePositions.{positions_of};
 ghost use Rattle.run_matcher.specs.GoingOn.{occurrences_of};
 
 use crate::{Begun, Buffers, Gathered};
 use capture_index::RunIndex;
 use kb_geometry::NoMemory;
-use line_matcher::Occurrence;
+use pattern_occurrences::Occurrence;
 use ready_images::ReadyImages;
 use std::alloc::Global;
 

@@ -1,16 +1,19 @@
 // Which games and nodes a search looks at.
-use crate::asked::{query_of, value_of};
+ghost use Rattle.std.specs.Prelude.{◌≡◌, IfSome, IsTrue};
+
+use crate::asked::{has_word, query_of, value_of};
 use crate::texts::{end_list, is_same, put, put_number, put_numbers, put_point, separate};
 use crate::versions::version_of_one;
 use candidate_sieve::{
-    AskedPoints, Candidate, add_candidates, candidates_under, node_candidates, passes,
+    AskedPoints, BlockPlanes, Candidate, add_candidates, candidates_under, node_candidates, passes,
 };
 use case_files::CaseError;
-use final_index::Planes;
+use final_index::{OrderPlanes, Planes};
+use kb_geometry::Shape;
 use pattern_images::{Images, PatternCell, Query, images};
 use ready_images::{ReadyImages, Want};
 use search_engine::kept;
-use segment_store::{FinishedGame, Segment};
+use segment_store::{Block, FinishedGame, Segment};
 use std::alloc::Global;
 
 /// `kept`: the games that are kept for a query. Their count is compared with the engine's.
@@ -40,8 +43,7 @@ pub(crate) fn kept_games(
 fn is_kept(alloc: Global, query: &Query, game: &FinishedGame) -> Result<bool, CaseError> {
     let shape = game.tree().shape();
     let images = images(alloc, query, shape)?;
-    let ready = ReadyImages::new(alloc, images)?;
-    Ok(query.is_for(shape) && passes(game.ever(), game.corners(), shape, &ready))
+    Ok(query.is_for(shape) && passes(game.ever(), game.corners(), shape, &images))
 }
 
 /// `nodes`: at which a placement may begin to hold.
@@ -65,7 +67,8 @@ pub(crate) fn nodes(
 }
 
 /// `candidates`: for each placement the games of the first block that may have it, of all or of
-/// those of `games=NUMBERS`, on boards for which the query is.
+/// those of `games=NUMBERS`, on boards for which the query is; by the order of stones too, where
+/// `ordered` is asked.
 pub(crate) fn candidates(
     alloc: Global,
     asked: &str,
@@ -73,16 +76,70 @@ pub(crate) fn candidates(
     out: &mut Vec<u8>,
 ) -> Result<(), CaseError> {
     let query = query_of(alloc, asked)?;
-    let games = games_of(asked);
     let start = out.len();
     for numbered in part.blocks().iter().take(1) {
         for planes in numbered.block.planes() {
             if query.is_for(planes.shape()) {
-                put_candidates(alloc, &query, planes, games, out, start)?;
+                let order = order_of(alloc, asked, &*numbered.block, planes.shape())?;
+                if let Some(order) = &order {
+                    let block = in_order(planes, order);
+                    put_candidates(alloc, &query, asked, &block, out, start)?;
+                } else {
+                    let block = unordered(planes);
+                    put_candidates(alloc, &query, asked, &block, out, start)?;
+                }
             }
         }
     }
     end_list(out, start)
+}
+
+fn in_order<'a>(planes: &'a Planes, order: &'a OrderPlanes) -> BlockPlanes<'a> {
+    BlockPlanes {
+        planes,
+        order: Some(order),
+    }
+}
+
+fn unordered<'a>(planes: &'a Planes) -> BlockPlanes<'a> {
+    BlockPlanes {
+        planes,
+        order: None,
+    }
+}
+
+// The order of the stones in the games of a block on boards of a shape, if it is asked for.
+fn order_of(
+    alloc: Global,
+    asked: &str,
+    block: &Block,
+    shape: Shape,
+) -> Result<Option<OrderPlanes>, CaseError> {
+    if !has_word(asked, "ordered") {
+        return Ok(None);
+    }
+    let mut order = OrderPlanes::new(alloc, shape)?;
+    for at in 0..block.len() {
+        push_order(alloc, &mut order, block.get(at))?;
+    }
+    Ok(Some(order))
+}
+
+// Adds a game, by its changes if its board has the shape.
+fn push_order(
+    alloc: Global,
+    order: &mut OrderPlanes,
+    game: &FinishedGame,
+) -> Result<(), CaseError> {
+    if order.len() >= 64 {
+        return Err(CaseError::Bad("more than 64 games"));
+    }
+    if is_same(game.deltas().shape(), order.shape()) {
+        order.push(alloc, game.deltas())?;
+    } else {
+        order.push_other();
+    }
+    Ok(())
 }
 
 // A bit for each game that is asked for, by digits.
@@ -100,13 +157,13 @@ fn games_of(asked: &str) -> u64 {
 fn put_candidates(
     alloc: Global,
     query: &Query,
-    planes: &Planes,
-    games: u64,
+    asked: &str,
+    block: &BlockPlanes,
     out: &mut Vec<u8>,
     start: usize,
 ) -> Result<(), CaseError> {
-    let ready = ReadyImages::new(alloc, images(alloc, query, planes.shape())?)?;
-    for (placement, games) in candidates_in(alloc, planes, &ready, games)? {
+    let ready = ReadyImages::new(alloc, images(alloc, query, block.planes.shape())?)?;
+    for (placement, games) in candidates_in(alloc, block, &ready, games_of(asked))? {
         separate(out, start, ", ")?;
         put_candidate(out, ready.images(), placement as usize, games)?;
     }
@@ -116,15 +173,18 @@ fn put_candidates(
 // The candidates by the numbers of their placements.
 fn candidates_in(
     alloc: Global,
-    planes: &Planes,
+    block: &BlockPlanes,
     ready: &ReadyImages,
     games: u64,
 ) -> Result<Vec<(u32, u64)>, CaseError> {
     let mut found = Vec::new(alloc);
-    if !is_same(ready.images().shape(), planes.shape()) {
+    if !is_same(ready.images().shape(), block.planes.shape()) {
         return Err(CaseError::Bad("images of another board"));
     }
-    add_candidates(planes, ready, games, &mut Vec::new(alloc), &mut found)?;
+    if !is_order_on(block.order, ready.images().shape()) {
+        return Err(CaseError::Bad("order on another board"));
+    }
+    add_candidates(block, ready, games, &mut Vec::new(alloc), &mut found)?;
     let mut sorted = Vec::new(alloc);
     for Candidate {
         placement,
@@ -135,6 +195,16 @@ fn candidates_in(
     }
     sorted.sort_unstable();
     Ok(sorted)
+}
+
+// Whether the order, if there is one, is for boards of this shape.
+fn is_order_on(order: Option<&OrderPlanes>, shape: Shape) -> bool
+    ensures { IsTrue result → IfSome order.entry (λ o. o.now.shape ≡ shape) }
+{
+    match order {
+        Some(order) => is_same(order.shape(), shape),
+        None => true,
+    }
 }
 
 fn put_candidate(

@@ -9,7 +9,7 @@ use Rattle.pattern_images.specs.declared.hit.Next.{Next}
 use Rattle.pattern_images.specs.declared.query.Query.{Query}
 use Rattle.pattern_images.specs.Placements.{Placement}
 use Rattle.continuation_table.specs.Continuation.{IsContinuation}
-use Rattle.line_matcher.specs.declared.occurrence.Occurrence.{Occurrence}
+use Rattle.pattern_occurrences.specs.declared.occurrence.Occurrence.{Occurrence}
 use Rattle.search_engine.specs.Hits.{AreHitsOf, GoesOn, IsHit, LooksAt}
 use Rattle.search_engine.specs.Searching.{AreHitsAdded}
 

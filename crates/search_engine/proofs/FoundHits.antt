@@ -4,8 +4,8 @@ use Rattle.game_tree.specs.Tree as tree
 use Rattle.capture_board.specs.Deltas as deltas
 use Rattle.node_position.specs.Games.{AreNodeChanges}
 use Rattle.pattern_images.specs.Placements.{Placement}
-use Rattle.line_matcher.specs.declared.occurrence.Occurrence.{Occurrence}
-use Rattle.line_matcher.specs.Occurrences.{occurrences_in}
+use Rattle.pattern_occurrences.specs.declared.occurrence.Occurrence.{Occurrence}
+use Rattle.pattern_occurrences.specs.Occurrences.{occurrences_in}
 use Rattle.search_engine.proofs.WhereFound.{IsThere, occurrences_are_there}
 
 module _ (game : tree.Tree) (changes : deltas.Deltas) (of : AreNodeChanges game changes) (placements : List Placement) (occurrences : List Occurrence) (are : occurrences ≡ occurrences_in changes placements) (k : ℕ) (o : Occurrence) (lt : k < length occurrences) (at : o ≡ get_or occurrences k o) where

@@ -6,7 +6,7 @@ use Rattle.pattern_images.specs.declared.hit.Hit.{Hit}
 use Rattle.pattern_images.specs.declared.query.Query.{Query}
 use Rattle.info_filter.specs.declared.filter.Filter.{Filter}
 use Rattle.pattern_images.specs.Placements.{ArePlacements, Placement}
-use Rattle.line_matcher.specs.Occurrences.{occurrences_in}
+use Rattle.pattern_occurrences.specs.Occurrences.{occurrences_in}
 use Rattle.node_position.specs.Games.{AreNodeChanges}
 use Rattle.search_engine.specs.Hits.{AreGameHits, AreHitsIn, AreHitsOf, AsksFor}
 use Rattle.search_engine.specs.Searching.{AreHitsAdded}

@@ -1,5 +1,6 @@
 -- The occurrences in the games of a block, one shape of boards after another.
-use Rattle.std.proofs.Common.{◌≡◌, ℕ, inl, inr, ◌+◌, ◌<◌, ◌≤◌, List, [], ◌++◌, None, Some, Contains, get_or, length, map, refl, sym, ap, ◌∙◌, subst, arith}
+use Rattle.std.proofs.Common.{◌≡◌, ℕ, inl, inr, ◌+◌, ◌<◌, ◌≤◌, List, [], ◌++◌, None, Option, Some, Contains, get_or, length, map, refl, sym, ap, ◌∙◌, subst, arith}
+use Rattle.std.specs.Borrow.{Bor}
 use Rattle.std.specs.Int.{bit_at}
 use Rattle.std.specs.List.{slice_get}
 use Rattle.std.specs.Prelude.{Any}
@@ -17,14 +18,16 @@ use Rattle.pattern_images.specs.Placements.{ArePlacements, Placement}
 use Rattle.pattern_images.proofs.OneList.{one_list}
 use Rattle.pattern_images.proofs.PlacedOn.{IsPlacedOn-result}
 use Rattle.info_filter.specs.declared.filter.Filter.{Filter}
-use Rattle.line_matcher.specs.declared.occurrence.Occurrence.{Occurrence}
-use Rattle.line_matcher.specs.Occurrences.{occurrences_in}
-use Rattle.line_matcher.proofs.OccurrenceLaw.{occurrences-are}
+use Rattle.pattern_occurrences.specs.declared.occurrence.Occurrence.{Occurrence}
+use Rattle.pattern_occurrences.specs.Occurrences.{occurrences_in}
+use Rattle.pattern_occurrences.proofs.OccurrenceLaw.{occurrences-are}
+use Rattle.final_index.specs.Order.{OrderGames}
 use Rattle.final_index.specs.Planes.{PlaneGames}
 use Rattle.run_matcher.specs.declared.begun.Begun.{Begun}
 use Rattle.ready_images.specs.Prepared.{IsPreparedAs}
 use Rattle.candidate_sieve.specs.declared.candidates.Candidate.{Candidate}
 use Rattle.candidate_sieve.specs.Candidates.{AreCandidates, AreCandidatesAdded, IsPossibleIn, MeetsCells}
+use Rattle.candidate_sieve.specs.Ordered.{MayStand}
 use Rattle.candidate_sieve.proofs.CellsTold.{holds-were}
 use Rattle.segment_store.specs.Planes.{ArePlanesOf, ArePlanesOn, IsGameOfPlanes}
 use Rattle.search_engine.specs.BlockCandidates.{AreAccepted, candidate_at, no_candidate}
@@ -32,13 +35,14 @@ use Rattle.search_engine.specs.Gathering.{AreGathered, AreOnBoards, HaveOccurren
 use Rattle.search_engine.proofs.GamesSearched.{some_there}
 use Rattle.search_engine.proofs.GatheredLists.{AreGathered-as, AreGathered-more, AreGathered-none}
 use Rattle.search_engine.proofs.Gathering.{begins-occurs, occurs-begins}
+use Rattle.search_engine.proofs.OrderedGames.{IsOrderOn, may_stand}
 use Rattle.search_engine.proofs.PossibleGames.{not_none, on_shape_where_there, possible_where_allowed}
 
 -- candidates that are added to none are all
-pub only_candidates : (p : PlaneGames) (among : ℕ) (images : ImageList) (old new found : List Candidate) → old ≡ [] → found ≡ new → AreCandidatesAdded p images among old new → AreCandidates p images among found
-only_candidates p among images old new found none read added =
+pub only_candidates : (p : PlaneGames) (order : Option (Bor OrderGames)) (among : ℕ) (images : ImageList) (old new found : List Candidate) → old ≡ [] → found ≡ new → AreCandidatesAdded p order images among old new → AreCandidates p order images among found
+only_candidates p order among images old new found none read added =
     let is : found ≡ added.more = read ∙ added.added ∙ ap (λ (cs : List Candidate). cs ++ added.more) none in
-    subst (λ (cs : List Candidate). AreCandidates p images among cs) (sym is) added.are
+    subst (λ (cs : List Candidate). AreCandidates p order images among cs) (sym is) added.are
 
 -- a candidate that is contained is one of its game
 candidate_is : (found : List Candidate) (c : Candidate) (g : ℕ) → Contains found c → bit_at c.games g ≡ 1 → Any (λ (d : Candidate). (d.placement ≡ c.placement) × (bit_at d.games g ≡ 1)) found
@@ -46,7 +50,7 @@ candidate_is found c g (k, lt, at) bit = (k, c, lt, at, (refl, bit))
 
 -- ---- the games on boards of one shape
 
-module _ (query : Query) (games : List Game) (few : length games ≤ 64) (among : ℕ) (p : PlaneGames) (on : ArePlanesOn games p) (images : ImageList) (are : ArePlacements query p.shape images.placements) (found : List Candidate) (exact : AreCandidates p images among found) where
+module _ (query : Query) (games : List Game) (few : length games ≤ 64) (among : ℕ) (p : PlaneGames) (on : ArePlanesOn games p) (order : Option (Bor OrderGames)) (ordered : IsOrderOn games p.shape order) (images : ImageList) (same_shape : images.shape ≡ p.shape) (are : ArePlacements query p.shape images.placements) (found : List Candidate) (candidates : AreCandidates p order images among found) where
   abbrev placements : List Placement
   placements = images.placements
 
@@ -55,14 +59,14 @@ module _ (query : Query) (games : List Game) (few : length games ≤ 64) (among 
   told g game there = subst (λ (h : Game). IsGameOfPlanes p.shape h.tree (get_or p.games g None)) (get_or_from_slice_get games g game game there) (on.1 g game (slice_get_within games g game there))
 
   pub prepared : (c : Candidate) → Contains found c → IsPreparedAs images c.placement c.base c.class
-  prepared c there = All-contains (λ (d : Candidate). IsPreparedAs images d.placement d.base d.class) found c exact.prepared there
+  prepared c there = All-contains (λ (d : Candidate). IsPreparedAs images d.placement d.base d.class) found c candidates.prepared there
 
   in_list : (c : Candidate) → Contains found c → c.placement < length placements
   in_list c there = (prepared c there).in_range
 
   -- the sets of a game meet the placement of a candidate that has a bit for it
   possible : (c : Candidate) (g : ℕ) → Contains found c → g < 64 → bit_at c.games g ≡ 1 → (bit_at among g ≡ 1) × IsPossibleIn p g (placement_at placements c.placement)
-  possible c g there below bit = (exact.exact c.placement g (in_list c there) below).0 (candidate_is found c g there bit)
+  possible c g there below bit = candidates.sound c.placement g (in_list c there) below (candidate_is found c g there bit)
 
   shape_of : (c : Candidate) (g : ℕ) (game : Game) → slice_get games g ≡ Some game → Contains found c → bit_at c.games g ≡ 1 → game.tree.shape ≡ p.shape
   shape_of c g game at there bit =
@@ -106,7 +110,8 @@ module _ (query : Query) (games : List Game) (few : length games ≤ 64) (among 
         let placement = placement_at placements o.placement in
         let placed : IsPlacedOn game.tree.shape placement = IsPlacedOn-result query game.tree.shape placement (on_board.sound o.placement no_placement is.placement_there) in
         let meets = possible_where_allowed p.shape game.tree (get_or p.games g None) (told g game at) same changes of placement placed (holds-were changes placement o.node is.node_there is.holds_there) in
-        let (j, c, lt, read, (number, has)) = (exact.exact o.placement g is.placement_there (omega (arith, few, slice_get_within games g game at))).1 (bit, meets) in
+        let stands = subst (λ (s : Shape). MayStand order g s placement) (sym same_shape) (may_stand games p.shape order ordered g game at same changes of placement placed o.node is.node_there is.holds_there) in
+        let (j, c, lt, read, (number, has)) = candidates.complete o.placement g is.placement_there (omega (arith, few, slice_get_within games g game at)) bit meets stands in
         let at_j : candidate_at found j ≡ c = get_or_default found j no_candidate c lt ∙ read in
         let placement_is : o.placement ≡ (candidate_at found j).placement = sym number ∙ ap (λ (d : Candidate). d.placement) (sym at_j) in
         (j, lt, ap (λ (d : Candidate). bit_at d.games g) at_j ∙ has, (placement_is, is.node_there, occurs-begins changes placements o (candidate_at found j).placement placement_is is))

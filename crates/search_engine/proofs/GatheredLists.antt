@@ -9,7 +9,7 @@ use Rattle.game_tree.specs.Tree.{Tree}
 use Rattle.capture_board.specs.Deltas.{Deltas}
 use Rattle.node_position.specs.Games.{AreNodeChanges, Game}
 use Rattle.pattern_images.specs.Placements.{Placement}
-use Rattle.line_matcher.specs.declared.occurrence.Occurrence.{Occurrence}
+use Rattle.pattern_occurrences.specs.declared.occurrence.Occurrence.{Occurrence}
 use Rattle.candidate_sieve.specs.declared.candidates.Candidate.{Candidate}
 use Rattle.run_matcher.specs.GoingOn.{occurrences_of}
 use Rattle.run_matcher.specs.PlacementOccurrences.{IsOccurrenceOf}

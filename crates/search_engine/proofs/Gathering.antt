@@ -16,10 +16,10 @@ use Rattle.pattern_images.proofs.Existence.{some_list}
 use Rattle.pattern_images.proofs.OneList.{one_list}
 use Rattle.info_filter.specs.declared.filter.Filter.{Filter}
 use Rattle.info_filter.specs.Filter.{Accepts}
-use Rattle.line_matcher.specs.declared.occurrence.Occurrence.{Occurrence}
-use Rattle.line_matcher.specs.Occurrences.{HoldsAt, Occurs, begins_at, holds_at, occurrences_in}
-use Rattle.line_matcher.proofs.HoldsLaw.{holds-decides}
-use Rattle.line_matcher.proofs.OccurrenceLaw.{occurrences-are}
+use Rattle.pattern_occurrences.specs.declared.occurrence.Occurrence.{Occurrence}
+use Rattle.pattern_occurrences.specs.Occurrences.{HoldsAt, Occurs, begins_at, holds_at, occurrences_in}
+use Rattle.pattern_occurrences.proofs.HoldsLaw.{holds-decides}
+use Rattle.pattern_occurrences.proofs.OccurrenceLaw.{occurrences-are}
 use Rattle.candidate_sieve.proofs.OccurrencesKept.{occurs-kept}
 use Rattle.search_engine.specs.Gathering.{HasOccurrences}
 use Rattle.search_engine.specs.Hits.{AreGameHits, AreHitsOf}

@@ -21,9 +21,9 @@ use Rattle.pattern_images.specs.ImageList.{no_placement, placement_at}
 use Rattle.pattern_images.specs.Placements.{ArePlacements, Placement}
 use Rattle.pattern_images.proofs.OneList.{one_list}
 use Rattle.info_filter.specs.declared.filter.Filter.{Filter}
-use Rattle.line_matcher.specs.declared.occurrence.Occurrence.{Occurrence}
-use Rattle.line_matcher.specs.Occurrences.{HoldsAt, Occurs, StandsBefore, occurrences_in}
-use Rattle.line_matcher.proofs.OccurrenceLaw.{occurrences-are, occurrences-ordered}
+use Rattle.pattern_occurrences.specs.declared.occurrence.Occurrence.{Occurrence}
+use Rattle.pattern_occurrences.specs.Occurrences.{HoldsAt, Occurs, StandsBefore, occurrences_in}
+use Rattle.pattern_occurrences.proofs.OccurrenceLaw.{occurrences-are, occurrences-ordered}
 use Rattle.run_matcher.proofs.KeyLists.{map-member, member-map}
 use Rattle.search_engine.specs.Hits.{AreGameHits, AreHitsOf, AsksFor, IsHit, LooksAt}
 use Rattle.search_engine.specs.Triples.{BeginsToHold, IsFoundIn, IsTripleBefore, TellsOf, Triple}

@@ -26,8 +26,8 @@ use Rattle.info_filter.proofs.ToldFilters.{told_accepts}
 use Rattle.pattern_images.proofs.Existence.{some_list}
 use Rattle.pattern_images.proofs.PlacedOn.{IsPlacedOn-result}
 use Rattle.continuation_table.proofs.ToldContinuations.{told_continuation}
-use Rattle.line_matcher.specs.declared.occurrence.Occurrence.{Occurrence}
-use Rattle.line_matcher.specs.Occurrences.{occurrences_in}
+use Rattle.pattern_occurrences.specs.declared.occurrence.Occurrence.{Occurrence}
+use Rattle.pattern_occurrences.specs.Occurrences.{occurrences_in}
 use Rattle.node_position.specs.Games.{AreNodeChanges, Game}
 use Rattle.search_engine.specs.Hits.{AreGameHits, AreHitsFrom, AreHitsIn, AreHitsOf, AsksFor, GoesOn, IsHit, LooksAt}
 use Rattle.search_engine.proofs.SameShapes.{same_shape}

@@ -8,9 +8,9 @@ use Rattle.pattern_images.specs.declared.query.Query.{Query}
 use Rattle.pattern_images.specs.Placements.{Placement}
 use Rattle.info_filter.specs.declared.filter.Filter.{Filter}
 use Rattle.kb_geometry.proofs.Lists.{Contains-first, push_not_nil}
-use Rattle.line_matcher.specs.declared.occurrence.Occurrence.{Occurrence}
-use Rattle.line_matcher.specs.Occurrences.{occurrences_in}
-use Rattle.line_matcher.proofs.OccurrenceLaw.{occurrences-are}
+use Rattle.pattern_occurrences.specs.declared.occurrence.Occurrence.{Occurrence}
+use Rattle.pattern_occurrences.specs.Occurrences.{occurrences_in}
+use Rattle.pattern_occurrences.proofs.OccurrenceLaw.{occurrences-are}
 use Rattle.candidate_sieve.specs.Kept.{IsKept}
 use Rattle.candidate_sieve.proofs.OccurrencesKept.{occurs-kept}
 use Rattle.search_engine.specs.Hits.{AreGameHits, AreHitsIn, AreHitsOf}

@@ -33,3 +33,4 @@ pub mod WhereFound
 pub mod HitParts
 pub mod HitsExist
 pub mod OneListOfHits
+pub mod OrderedGames

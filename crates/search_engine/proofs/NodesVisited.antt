@@ -6,8 +6,8 @@ use Rattle.std.proofs.lemmas.List.{append-nil, get_or_default}
 use Rattle.game_tree.specs.Tree.{Tree}
 use Rattle.pattern_images.specs.declared.hit.Hit.{Hit}
 use Rattle.pattern_images.specs.declared.query.Query.{Query}
-use Rattle.line_matcher.specs.declared.occurrence.Occurrence.{Occurrence}
-use Rattle.line_matcher.specs.Occurrences.{StandsBefore}
+use Rattle.pattern_occurrences.specs.declared.occurrence.Occurrence.{Occurrence}
+use Rattle.pattern_occurrences.specs.Occurrences.{StandsBefore}
 use Rattle.search_engine.specs.HitNodes.{are_at_one_node, hit_nodes}
 use Rattle.search_engine.specs.Hits.{LooksAt}
 use Rattle.search_engine.specs.StepBounds.{AreVisited}

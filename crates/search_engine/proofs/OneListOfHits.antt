@@ -19,8 +19,8 @@ use Rattle.pattern_images.specs.ImageList.{IsPlaceOf, placement_at}
 use Rattle.pattern_images.specs.Placements.{Placement}
 use Rattle.pattern_images.proofs.OneList.{one_list}
 use Rattle.continuation_table.proofs.OneContinuation.{one_continuation}
-use Rattle.line_matcher.specs.declared.occurrence.Occurrence.{Occurrence}
-use Rattle.line_matcher.specs.Occurrences.{occurrences_in}
+use Rattle.pattern_occurrences.specs.declared.occurrence.Occurrence.{Occurrence}
+use Rattle.pattern_occurrences.specs.Occurrences.{occurrences_in}
 use Rattle.kb_geometry.proofs.Lists.{push_not_nil, push_same}
 use Rattle.search_engine.specs.Hits.{AreGameHits, AreHitsFrom, AreHitsIn, AreHitsOf, GoesOn, IsHit, LooksAt}
 

@@ -22,8 +22,8 @@ use Rattle.pattern_images.specs.Placements.{Placement}
 use Rattle.pattern_images.proofs.Existence.{some_list}
 use Rattle.pattern_images.proofs.OneList.{one_list}
 use Rattle.pattern_images.proofs.Tellings.{Told, least_below, told_as, told_below, told_both, told_le}
-use Rattle.line_matcher.specs.Occurrences.{allows}
-use Rattle.line_matcher.proofs.HoldsLaw.{allows-decides}
+use Rattle.pattern_occurrences.specs.Occurrences.{allows}
+use Rattle.pattern_occurrences.proofs.HoldsLaw.{allows-decides}
 use Rattle.corner_index.specs.Corners.{HasCorners, point_in_frame}
 use Rattle.ready_images.specs.Corners.{CoversCorner, IsExact, LiesOn}
 use Rattle.candidate_sieve.specs.Kept.{HasCornerOf, IsKept, IsKeptBy, WasAllowed, WereAllowed}

@@ -9,9 +9,9 @@ use Rattle.kb_geometry.proofs.Lists.{All-flat_map, all_less}
 use Rattle.capture_board.specs.Deltas.{Deltas, node_count, parent_of}
 use Rattle.pattern_images.specs.ImageList.{placement_at}
 use Rattle.pattern_images.specs.Placements.{Placement}
-use Rattle.line_matcher.specs.declared.occurrence.Occurrence.{Occurrence}
-use Rattle.line_matcher.specs.Occurrences.{HoldsAt, begins_at, holds_at, occurrences_at, occurrences_in}
-use Rattle.line_matcher.proofs.HoldsLaw.{holds-decides}
+use Rattle.pattern_occurrences.specs.declared.occurrence.Occurrence.{Occurrence}
+use Rattle.pattern_occurrences.specs.Occurrences.{HoldsAt, begins_at, holds_at, occurrences_at, occurrences_in}
+use Rattle.pattern_occurrences.proofs.HoldsLaw.{holds-decides}
 use Rattle.capture_board.specs.Deltas.{position_at}
 
 module _ (changes : Deltas) (placements : List Placement) where

@@ -11,8 +11,8 @@ use Rattle.pattern_images.specs.declared.query.Query.{Query}
 use Rattle.pattern_images.specs.Placements.{ArePlacements, Placement}
 use Rattle.info_filter.specs.declared.filter.Filter.{Filter}
 use Rattle.info_filter.specs.Filter.{Accepts}
-use Rattle.line_matcher.specs.declared.occurrence.Occurrence.{Occurrence}
-use Rattle.line_matcher.specs.Occurrences.{occurrences_in}
+use Rattle.pattern_occurrences.specs.declared.occurrence.Occurrence.{Occurrence}
+use Rattle.pattern_occurrences.specs.Occurrences.{occurrences_in}
 use Rattle.final_index.specs.Planes.{PlaneGames}
 use Rattle.candidate_sieve.specs.declared.candidates.Candidate.{Candidate}
 use Rattle.run_matcher.specs.GoingOn.{GoesOnToHold, occurrences_of}

@@ -13,8 +13,8 @@ use Rattle.pattern_images.specs.Placements.{ArePlacements, Placement}
 use Rattle.pattern_images.specs.Query.{IsForBoard}
 use Rattle.info_filter.specs.declared.filter.Filter.{Filter}
 use Rattle.info_filter.specs.Filter.{Accepts}
-use Rattle.line_matcher.specs.declared.occurrence.Occurrence.{Occurrence}
-use Rattle.line_matcher.specs.Occurrences.{occurrences_in}
+use Rattle.pattern_occurrences.specs.declared.occurrence.Occurrence.{Occurrence}
+use Rattle.pattern_occurrences.specs.Occurrences.{occurrences_in}
 use Rattle.continuation_table.specs.Continuation.{IsContinuation}
 use Rattle.node_position.specs.Games.{AreNodeChanges, Game}
 

@@ -10,6 +10,7 @@ ghost use Rattle.std.specs.Prelude.{
   [],
   Contains,
   IfOk,
+  IfSome,
   IsTrue,
   List,
   OnOk,
@@ -19,13 +20,14 @@ ghost use Rattle.capture_board.specs.Deltas.{Deltas};
 ghost use Rattle.node_position.specs.Games.{AreNodeChanges};
 ghost use Rattle.pattern_images.specs.Placements.{Placement};
 ghost use Rattle.info_filter.specs.declared.filter.Filter.{Filter};
-ghost use Rattle.line_matcher.specs.declared.occurrence.Occurrence.{Occurrence};
-ghost use Rattle.line_matcher.specs.Occurrences.{occurrences_in};
+ghost use Rattle.pattern_occurrences.specs.declared.occurrence.Occurrence.{Occurrence};
+ghost use Rattle.pattern_occurrences.specs.Occurrences.{occurrences_in};
 ghost use Rattle.ready_images.specs.Prepared.{IsPreparedAs};
 ghost use Rattle.candidate_sieve.specs.declared.candidates.Candidate.{Candidate};
 ghost use Rattle.run_matcher.specs.GoingOn.{GoesOnToHold, occurrences_of};
 ghost use Rattle.run_matcher.specs.PlacementOccurrences.{IsOccurrenceOf};
 ghost use Rattle.run_matcher.specs.declared.begun.Begun.{Begun};
+ghost use Rattle.segment_store.specs.Orders.{AreOrdersOn};
 ghost use Rattle.segment_store.specs.Planes.{ArePlanesOn};
 ghost use Rattle.search_engine.specs.BlockCandidates.{AreAccepted};
 ghost use Rattle.search_engine.specs.Gathering.{
@@ -44,7 +46,7 @@ ghost use Rattle.search_engine.specs.Gathering.{
 use crate::bits::next_bit;
 use crate::ready_query::ReadyQuery;
 use crate::work::Work;
-use candidate_sieve::{Candidate, add_candidates};
+use candidate_sieve::{BlockPlanes, Candidate, add_candidates};
 use final_index::Planes;
 use kb_geometry::NoMemory;
 use ready_images::{Prepared, ReadyImages};
@@ -93,7 +95,13 @@ pub(crate) fn is_much_in(
     candidates.clear();
     for planes in block.planes() {
         if let Some(on_shape) = ready.find(planes.shape()) {
-            add_candidates(planes, on_shape, games, words, candidates)?;
+            add_candidates(
+                &block_planes(block, planes),
+                on_shape,
+                games,
+                words,
+                candidates,
+            )?;
         }
     }
     Ok(Work::ahead(candidates).is_much(0))
@@ -148,10 +156,28 @@ fn gather_on_shape(
         work,
     } = room;
     candidates.clear();
-    add_candidates(planes, on_shape, games, words, candidates)?;
+    add_candidates(
+        &block_planes(block, planes),
+        on_shape,
+        games,
+        words,
+        candidates,
+    )?;
     work.add_sieved(on_shape.images().len(), candidates);
     gathered.add_all(block, on_shape, candidates, buffers)?;
     Ok(())
+}
+
+// Some planes of a block, with the order of the stones on boards of their shape.
+fn block_planes<'a>(block: &'a Block, planes: &'a Planes) -> BlockPlanes<'a>
+    ensures planes { result.planes.now ≡ planes.now }
+    ensures order { IfSome result.order (λ o.
+        (o.now.shape ≡ planes.now.shape) × AreOrdersOn block.now o.now) }
+{
+    BlockPlanes {
+        planes,
+        order: block.order_on(planes.shape()),
+    }
 }
 
 // The most games of a block.

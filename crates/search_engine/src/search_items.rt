@@ -141,7 +141,7 @@ impl<'a> Searcher<'a> {
         ensures steps { AreStepsIn self.now.ready.now.query (games_of_item item.now)
             steps.old steps.new }
     {
-        room.work.add_games(item.block.len());
+        room.work.add_games(self.filter, item.block.len());
         let accepted = accepted_games(self.filter, item.block, item.skip);
         if accepted == 0 {
             return Ok(());

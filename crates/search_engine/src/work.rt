@@ -1,9 +1,13 @@
 // How much a search has done. By it a search tells whether threads are worth their start.
 use candidate_sieve::Candidate;
+use info_filter::Filter;
 
-// What each thing costs, in units of some fifty instructions: a game that is asked for, a placement
-// that is sieved for a block, a game in which a placement that is left is looked for, a hit.
+// What each thing costs, in units of some fifty instructions: a game of a block, a game of which a
+// filter asks its conditions, a placement that is sieved for a block, a game in which a placement that
+// is left is looked for, a hit.
 const OF_GAME: u64 = 1;
+
+const OF_ASKED_GAME: u64 = 8;
 
 const OF_PLACEMENT: u64 = 1;
 
@@ -35,9 +39,14 @@ impl Work {
         work
     }
 
-    // So many games were asked for.
-    pub(crate) fn add_games(&mut self, count: usize) {
-        self.add(OF_GAME, count as u64);
+    // So many games were gone over, and a filter asked of each whether it accepts it.
+    pub(crate) fn add_games(&mut self, filter: &Filter, count: usize) {
+        let cost = if filter.conditions.as_slice().is_empty() {
+            OF_GAME
+        } else {
+            OF_ASKED_GAME
+        };
+        self.add(cost, count as u64);
     }
 
     // So many placements were sieved for a block, and these candidates are looked for.

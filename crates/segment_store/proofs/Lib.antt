@@ -1,6 +1,7 @@
 mod GamesInBlocks
 mod GamesOfPlanes
 mod OneTree
+mod OrdersOfGames
 mod ShapesOfGames
 pub mod CornersOfGames
 pub mod VersionGames

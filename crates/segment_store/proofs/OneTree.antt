@@ -17,7 +17,7 @@ use Rattle.node_position.proofs.OnePosition.{positions-unique}
 use Rattle.segment_store.specs.Finished.{AreIndexesOf, AreSetsOfTree}
 
 -- a tree has one list of changes
-node_changes-unique : (tree : Tree) (one other : Deltas) → IsTree tree → AreNodeChanges tree one → AreNodeChanges tree other → one ≡ other
+pub node_changes-unique : (tree : Tree) (one other : Deltas) → IsTree tree → AreNodeChanges tree one → AreNodeChanges tree other → one ≡ other
 node_changes-unique tree one other is first second =
     changes-unique tree first.positions one other is first.net second.net first.lead
     (subst (λ (positions : List Position). AreDeltasOf tree positions other) (positions-unique tree second.positions first.positions is second.are_positions first.are_positions) second.lead)

@@ -4,4 +4,5 @@ pub mod BoardShapes
 pub mod CornersOfGames
 pub mod Finished
 pub mod Nodes
+pub mod Orders
 pub mod Planes

@@ -1,13 +1,28 @@
 // Games in a row that several segments share.
-ghost use Rattle.std.specs.Prelude.{◌≡◌, ◌<◌, ◌≤◌, ◌+◌, ◌++◌, length, map, Some, IfOk, OnOk};
+ghost use Rattle.std.specs.Prelude.{
+  ◌≡◌,
+  ◌<◌,
+  ◌≤◌,
+  ◌+◌,
+  ◌++◌,
+  length,
+  map,
+  All,
+  Some,
+  IfOk,
+  IfSome,
+  OnOk,
+};
 ghost use Rattle.std.specs.Arc.{arc_value};
 ghost use Rattle.std.specs.List.{slice_get};
 ghost use Rattle.segment_store.specs.BoardShapes.{AreDifferent, AreShapesWith, HaveShapes};
+ghost use Rattle.segment_store.specs.Orders.{AreOrdersOn};
 ghost use Rattle.segment_store.specs.Planes.{AreMadeFor, ArePlanesFor, ArePlanesOf};
 
+use crate::block_order::{LEAST, order_on, order_with, orders_of};
 use crate::block_planes::{planes_of, planes_with};
 use crate::finished::FinishedGame;
-use final_index::Planes;
+use final_index::{OrderPlanes, Planes};
 use kb_geometry::{NoMemory, Shape};
 use std::alloc::Global;
 use std::marker::Model;
@@ -25,13 +40,16 @@ pub struct Block {
     shapes: Vec<Shape>,
     // The planes of the games, for each of the shapes.
     planes: Vec<Planes>,
+    // Those of their order, for each of the shapes; none where there are few games.
+    orders: Vec<OrderPlanes>,
 }
 
 impl Model for Block {
-    ghost use Rattle.std.specs.Prelude.{List, map, length, ◌<◌, ◌≤◌};
+    ghost use Rattle.std.specs.Prelude.{List, map, length, ◌<◌, ◌≤◌, All};
     ghost use Rattle.std.specs.Arc.{arc_value};
     ghost use Rattle.node_position.specs.Games.{Game};
     ghost use Rattle.segment_store.specs.BoardShapes.{HaveShapes};
+    ghost use Rattle.segment_store.specs.Orders.{AreOrdersOn};
     ghost use Rattle.segment_store.specs.Planes.{ArePlanesOf};
 
     ghost Value = { List Game };
@@ -40,7 +58,8 @@ impl Model for Block {
 
     ghost invariant = { λ b. (0 < length b.games.items) × (length b.games.items ≤ 64)
         × HaveShapes (map arc_value b.games.items) b.shapes.items
-        × ArePlanesOf (map arc_value b.games.items) b.planes.items };
+        × ArePlanesOf (map arc_value b.games.items) b.planes.items
+        × All (AreOrdersOn (map arc_value b.games.items)) b.orders.items };
 }
 
 /// A block of a segment, and the number that its first game has there, from 0.
@@ -62,10 +81,12 @@ impl Block {
         let games = joined(alloc, games, &[])?;
         let shapes = shapes_of(alloc, games.as_slice())?;
         let planes = planes_of(alloc, games.as_slice(), shapes.as_slice())?;
+        let orders = orders_of(alloc, games.as_slice(), shapes.as_slice())?;
         Ok(Block {
             games,
             shapes,
             planes,
+            orders,
         })
     }
 
@@ -77,10 +98,12 @@ impl Block {
         let games = joined(alloc, a.games.as_slice(), b.games.as_slice())?;
         let shapes = shapes_of(alloc, games.as_slice())?;
         let planes = joined_planes(alloc, a, b, shapes.as_slice())?;
+        let orders = joined_orders(alloc, a, b, games.as_slice(), shapes.as_slice())?;
         Ok(Block {
             games,
             shapes,
             planes,
+            orders,
         })
     }
 
@@ -106,6 +129,15 @@ impl Block {
         ensures { ArePlanesOf self.now result.now }
     {
         self.planes.as_slice()
+    }
+
+    /// The planes of order of its games on boards of a shape: where a game has no bit, a point had a
+    /// stone at no node at which its neighbour was empty. A block of few games has none.
+    pub fn order_on(&self, shape: Shape) -> Option<&OrderPlanes>
+        ensures { IfSome result (λ order.
+            (order.now.shape ≡ shape) × AreOrdersOn self.now order.now) }
+    {
+        order_with(self.orders.as_slice(), shape)
     }
 
     /// The game at this place in the block, from 0.
@@ -149,6 +181,47 @@ fn joined_on(alloc: Global, a: &Block, b: &Block, shape: Shape) -> Result<Planes
         (None, Some(other)) => Planes::join(alloc, &Planes::none(alloc, shape, a.len())?, other),
         (None, None) => Planes::none(alloc, shape, a.len() + b.len()),
     }
+}
+
+// The planes of order of the games of two blocks, which these are, for each of the shapes.
+fn joined_orders(
+    alloc: Global,
+    a: &Block,
+    b: &Block,
+    games: &[Arc<FinishedGame>],
+    shapes: &[Shape],
+) -> Result<Vec<OrderPlanes>, NoMemory>
+    requires games { map arc_value games.now ≡ a.now ++ b.now }
+    requires few { length a.now + length b.now ≤ 64 }
+    ensures { IfOk result (λ orders. All (AreOrdersOn (a.now ++ b.now)) orders.items) }
+{
+    let mut orders = Vec::new(alloc);
+    if games.len() < LEAST {
+        return Ok(orders);
+    }
+    for shape in shapes {
+        orders.push(joined_order(alloc, a, b, games, *shape)?)?;
+    }
+    orders.shrink_to_fit();
+    Ok(orders)
+}
+
+// Those for boards of one shape. Where one of the blocks has none, they are made anew.
+fn joined_order(
+    alloc: Global,
+    a: &Block,
+    b: &Block,
+    games: &[Arc<FinishedGame>],
+    shape: Shape,
+) -> Result<OrderPlanes, NoMemory>
+    requires games { map arc_value games.now ≡ a.now ++ b.now }
+    requires few { length a.now + length b.now ≤ 64 }
+    ensures { IfOk result (AreOrdersOn (a.now ++ b.now)) }
+{
+    let (Some(one), Some(other)) = (a.order_on(shape), b.order_on(shape)) else {
+        return order_on(alloc, games, shape);
+    };
+    OrderPlanes::join(alloc, one, other)
 }
 
 // The shapes of the boards of these games, each once.

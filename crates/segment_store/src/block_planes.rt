@@ -65,7 +65,7 @@ fn add_game(planes: &mut Planes, game: &FinishedGame)
 }
 
 // Whether the board of a game has this shape.
-fn is_on(game: &FinishedGame, shape: Shape) -> bool
+pub(crate) fn is_on(game: &FinishedGame, shape: Shape) -> bool
     ensures { IsTrue result ↔ (game.now.tree.shape ≡ shape) }
 {
     game.tree().shape() == shape

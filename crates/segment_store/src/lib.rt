@@ -13,6 +13,7 @@
 
 mod block;
 mod block_list;
+mod block_order;
 mod block_planes;
 mod builder;
 mod finished;

@@ -1,4 +1,4 @@
-use Rattle.line_matcher.proofs.AtNodes.{all_at_nodes}
+use Rattle.pattern_occurrences.proofs.GivenNodes.{all_at_nodes}
 use Rattle.candidate_sieve.proofs.OccurrencesKept.{occurs-candidate}
 use Rattle.candidate_sieve.proofs.laws.the_node_candidates_have_all_occurrences.Goals as goal
 

@@ -8,4 +8,4 @@ use Rattle.candidate_sieve.proofs.sieve.passes.Given as goal
 
 -- none of the placements so far is kept
 abbrev pub invariant-loop-i : goal.invariant-loop-i
-invariant-loop-i l = (deltas : Deltas) → 0 < node_count deltas → deltas.shape ≡ l.ready.images.shape → AreSetsOf deltas l.ever → AreNumbersOfGame deltas l.corners → (i : ℕ) → i < l.i → IsKeptBy deltas (placement_at l.ready.images.placements i) → ⊥
+invariant-loop-i l = (deltas : Deltas) → 0 < node_count deltas → deltas.shape ≡ l.images.shape → AreSetsOf deltas l.ever → AreNumbersOfGame deltas l.corners → (i : ℕ) → i < l.i → IsKeptBy deltas (placement_at l.images.placements i) → ⊥

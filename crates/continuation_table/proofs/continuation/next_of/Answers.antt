@@ -2,7 +2,7 @@ use Rattle.std.proofs.Common.{◌≡◌, ℕ, true, false, Option, Some, None, r
 use Rattle.std.specs.Prelude.{IfNone}
 use Rattle.pattern_images.specs.declared.hit.Next.{Next}
 use Rattle.pattern_images.specs.ImageList.{placement_at}
-use Rattle.line_matcher.specs.Occurrences.{HoldsAt}
+use Rattle.pattern_occurrences.specs.Occurrences.{HoldsAt}
 use Rattle.continuation_table.specs.Continuation.{IsContinuation}
 use Rattle.continuation_table.proofs.continuation.next_of.Goals as goal
 

@@ -4,7 +4,7 @@ use Rattle.game_tree.specs.Tree.{move_number_of, node_count}
 use Rattle.capture_board.specs.Deltas.{Deltas}
 use Rattle.pattern_images.specs.ImageList.{IsPlaceOf}
 use Rattle.pattern_images.specs.Placements.{Placement}
-use Rattle.line_matcher.specs.Occurrences.{HoldsAt}
+use Rattle.pattern_occurrences.specs.Occurrences.{HoldsAt}
 use Rattle.continuation_table.specs.Descending.{IsWayDown}
 use Rattle.continuation_table.proofs.way_down.passed_to.Given as goal
 

@@ -2,8 +2,9 @@
 use Rattle.std.proofs.Common.{◌≡◌, ◌<◌, ◌++◌, ◌∙◌, List, length, ap, sym, subst}
 use Rattle.std.specs.Prelude.{All, IfOk}
 use Rattle.pattern_images.specs.ImageList.{ImageList}
-use Rattle.line_matcher.specs.declared.occurrence.Occurrence.{Occurrence}
-use Rattle.line_matcher.specs.Occurrences.{AreFound, occurrences_at_nodes}
+use Rattle.pattern_occurrences.specs.declared.occurrence.Occurrence.{Occurrence}
+use Rattle.pattern_occurrences.specs.Occurrences.{occurrences_at_nodes}
+use Rattle.line_matcher.specs.FoundOccurrences.{AreFound}
 use Rattle.line_matcher.proofs.AtNodes.{placements_at_nodes}
 use Rattle.line_matcher.proofs.at_nodes.match_at.Goals as goal
 

@@ -1,7 +1,7 @@
 -- Nothing was found before the first node.
 use Rattle.std.proofs.Common.{List, ◌++◌, ◌∙◌, ap}
-use Rattle.line_matcher.specs.declared.occurrence.Occurrence.{Occurrence}
-use Rattle.line_matcher.specs.Occurrences.{occurrences_in}
+use Rattle.pattern_occurrences.specs.declared.occurrence.Occurrence.{Occurrence}
+use Rattle.pattern_occurrences.specs.Occurrences.{occurrences_in}
 use Rattle.line_matcher.proofs.walk.match_along.Goals as goal
 
 pub returns-clause-found : goal.returns-clause-found

@@ -2,9 +2,10 @@
 use Rattle.std.proofs.Common.{◌≡◌, ◌<◌, ◌∙◌, List, length, ap, sym, subst}
 use Rattle.std.specs.Prelude.{All, IfOk}
 use Rattle.pattern_images.specs.ImageList.{ImageList}
-use Rattle.line_matcher.specs.declared.occurrence.Occurrence.{Occurrence}
-use Rattle.line_matcher.specs.Occurrences.{AreFound, occurrences_in}
-use Rattle.line_matcher.proofs.OccurrenceLaw.{placements_are_there}
+use Rattle.pattern_occurrences.specs.declared.occurrence.Occurrence.{Occurrence}
+use Rattle.pattern_occurrences.specs.Occurrences.{occurrences_in}
+use Rattle.pattern_occurrences.proofs.OccurrenceLaw.{placements_are_there}
+use Rattle.line_matcher.specs.FoundOccurrences.{AreFound}
 use Rattle.line_matcher.proofs.walk.match_game.Goals as goal
 
 pub with_places-requires : goal.with_places-requires

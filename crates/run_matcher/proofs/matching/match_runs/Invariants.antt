@@ -2,7 +2,7 @@ use Rattle.std.proofs.Common.{◌≡◌, ◌↔◌}
 use Rattle.std.specs.Prelude.{Contains}
 use Rattle.capture_board.specs.Deltas.{AreDeltas, Deltas}
 use Rattle.capture_index.specs.NodePositions.{positions_of}
-use Rattle.line_matcher.specs.declared.occurrence.Occurrence.{Occurrence}
+use Rattle.pattern_occurrences.specs.declared.occurrence.Occurrence.{Occurrence}
 use Rattle.run_matcher.specs.GoingOn.{occurrences_of}
 use Rattle.run_matcher.specs.PlacementOccurrences.{IsOccurrenceBelow}
 use Rattle.run_matcher.proofs.matching.match_runs.Given as goal

@@ -1,7 +1,7 @@
 -- Keys that are sorted, and of each occurrence the first.
 use Rattle.std.proofs.Common.{◌↔◌, List, sym, subst}
 use Rattle.std.specs.Prelude.{Contains, IsPermutation}
-use Rattle.line_matcher.specs.Occurrences.{occurrences_in}
+use Rattle.pattern_occurrences.specs.Occurrences.{occurrences_in}
 use Rattle.run_matcher.specs.GoingOn.{occurrences_of}
 use Rattle.run_matcher.specs.declared.begun.Begun.{Begun}
 use Rattle.run_matcher.proofs.SortedKeys.{from_keys, sorted-occurrences}

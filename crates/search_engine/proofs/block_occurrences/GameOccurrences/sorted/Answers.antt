@@ -1,6 +1,6 @@
 use Rattle.std.proofs.Common.{◌≡◌, ◌<◌, ◌↔◌, ◌∙◌, List, ap, arith, length, subst, sym}
 use Rattle.std.specs.Prelude.{Contains}
-use Rattle.line_matcher.specs.Occurrences.{occurrences_in}
+use Rattle.pattern_occurrences.specs.Occurrences.{occurrences_in}
 use Rattle.run_matcher.specs.GoingOn.{occurrences_of}
 use Rattle.run_matcher.specs.declared.begun.Begun.{Begun}
 use Rattle.search_engine.specs.Gathering.{begun_at}

@@ -3,8 +3,8 @@ use Rattle.std.proofs.lemmas.List.{get_or-map, length-map, take_all}
 use Rattle.std.proofs.lemmas.List.Elements.{Contains-get_or}
 use Rattle.std.specs.Prelude.{AllPairs}
 use Rattle.game_tree.specs.Tree.{Tree, node_count}
-use Rattle.line_matcher.specs.Occurrences.{StandsBefore}
-use Rattle.line_matcher.proofs.OccurrenceLaw.{occurrences-ordered}
+use Rattle.pattern_occurrences.specs.Occurrences.{StandsBefore}
+use Rattle.pattern_occurrences.proofs.OccurrenceLaw.{occurrences-ordered}
 use Rattle.run_matcher.specs.GoingOn.{occurrences_of}
 use Rattle.run_matcher.specs.declared.begun.Begun.{Begun}
 use Rattle.run_matcher.specs.declared.begun.HoldsTo.TheVariants as holding

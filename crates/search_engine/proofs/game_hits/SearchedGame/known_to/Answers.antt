@@ -1,7 +1,7 @@
 -- The runs tell how far it goes on to hold, where that isn't known.
 use Rattle.std.proofs.Common.{ℕ, sym, ap, subst₂, arith}
 use Rattle.pattern_images.specs.ImageList.{placement_at}
-use Rattle.line_matcher.specs.Occurrences.{HoldsAt}
+use Rattle.pattern_occurrences.specs.Occurrences.{HoldsAt}
 use Rattle.ready_images.specs.Ready.{ReadyList}
 use Rattle.capture_index.specs.NodePositions.{count_in}
 use Rattle.run_matcher.proofs.BegunNodes.{count-seen}

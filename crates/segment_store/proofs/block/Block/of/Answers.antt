@@ -12,4 +12,5 @@ invariant_of-result c =
       omega (arith, c.in_ok-games.ensures.count, c.requires.few),
       have,
       ArePlanesOf-made c.in_ok-shapes.shapes.items (map arc_value games) c.in_ok-planes.planes.items have c.in_ok-shapes.ensures.different made,
+      rw c.as_slice-4.ensures.value at c.in_ok-orders.ensures,
     )

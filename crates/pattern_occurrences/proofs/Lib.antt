@@ -1,0 +1,4 @@
+pub mod GivenNodes
+pub mod HoldsLaw
+pub mod OccurrenceLaw
+mod Ranges

@@ -1,0 +1,2 @@
+-- Definitions that contracts of public functions rest on.
+pub mod Occurrences
