@@ -1,5 +1,5 @@
--- The games that are kept by placements, row by row.
-use Rattle.std.proofs.Common.{◌≡◌, ◌↔◌, ℕ, ◌+◌, ◌-◌, ◌^◌, ◌<◌, ◌≤◌, List, None, Option, Some, ap, bit_and, bit_or, inl, inr, length, refl, slice_index, slice_index_or, sym, ◌∙◌, subst, arith}
+-- The games that are kept by the first so many placements.
+use Rattle.std.proofs.Common.{◌≡◌, ◌⊎◌, ◌↔◌, ℕ, ◌+◌, ◌-◌, ◌^◌, ◌<◌, ◌≤◌, List, None, Option, Some, ap, bit_and, bit_or, inl, inr, length, refl, slice_index, slice_index_or, sym, ◌∙◌, subst, arith}
 use Rattle.std.specs.Borrow.{Bor}
 use Rattle.std.specs.Int.{bit_at, bit_not, w64}
 use Rattle.std.specs.Option.{IsSome, IsSomeAnd}
@@ -8,65 +8,22 @@ use Rattle.std.proofs.lemmas.Bool.{cases_eq, cases_lt}
 use Rattle.std.proofs.lemmas.Nat.Bits.{bit_at-lt, bit_at-zero, bit_at_not}
 use Rattle.kb_geometry.specs.declared.shape.Shape.{Shape}
 use Rattle.capture_board.specs.Deltas.{Deltas, node_count}
-use Rattle.pattern_images.specs.ImageList.{AreImages, ImageList, IsPlacedOn, grid_at, no_placement, placement_at}
+use Rattle.pattern_images.specs.ImageList.{ImageList, IsPlacedOn, placement_at}
 use Rattle.pattern_images.specs.Placements.{Placement}
 use Rattle.ready_images.specs.declared.row.Row.{Row}
-use Rattle.ready_images.specs.declared.want.Want.{Want}
 use Rattle.ready_images.specs.Rows.{AreRowsOf, IsRowIn}
-use Rattle.ready_images.specs.Wants.{AreWantsOf}
 use Rattle.final_index.specs.declared.ever_sets.EverSets.{EverSets}
 use Rattle.final_index.specs.Ever.{AreSetsOf}
 use Rattle.final_index.specs.Planes.{PlaneGames}
 use Rattle.final_index.proofs.KeptBits.{and-bit, or-bit}
-use Rattle.candidate_sieve.specs.BlockGames.{HaveEach}
-use Rattle.candidate_sieve.specs.Candidates.{IsPossibleIn, MeetsCells}
+use Rattle.candidate_sieve.specs.Candidates.{MeetsCells}
 use Rattle.candidate_sieve.specs.Kept.{HadCorners, IsKeptBy, WereAllowed}
-use Rattle.candidate_sieve.specs.KeptWords.{AreAmong, AreKeptOf, AreThose, HasNumbers, IsGameOf, IsMetBy}
+use Rattle.candidate_sieve.specs.KeptWords.{AreAmong, AreKeptOf, AreThose, HasNumbers, IsGameOf, IsInWords}
 use Rattle.candidate_sieve.proofs.CellsTold.{meets-were, were-meets}
 use Rattle.candidate_sieve.proofs.KeptPlacements.{kept-at, kept-by}
-use Rattle.candidate_sieve.proofs.RowsSieved.{row-told, sliced-length, sliced-number}
+use Rattle.candidate_sieve.proofs.RowsSieved.{sliced-length, sliced-number}
 
--- ---- the games of the words of some placements
-
-module _ (shape : Shape) (placements : List Placement) (numbers words : List ℕ) (corners : List (Bor (List (List ℕ)))) where
-  -- one of the first so many placements has the game, of which each corner had its cells
-  abbrev IsMetTo : ℕ → ℕ → Deltas → Type 0
-  IsMetTo count g changes = (k : ℕ) × (k < count) × (bit_at (slice_index words k) g ≡ 1) × HadCorners changes (placement_at placements (slice_index numbers k))
-
-  pub record AreMetTo (count word : ℕ) : Type 0 where
-    pub exact : (g : ℕ) (changes : Deltas) → g < 64 → changes.shape ≡ shape → HasNumbers corners g changes → (bit_at word g ≡ 1) ↔ IsMetTo count g changes
-    pub among : (g : ℕ) → g < 64 → bit_at word g ≡ 1 → (k : ℕ) × (k < count) × (bit_at (slice_index words k) g ≡ 1)
-
-  pub met-start : AreMetTo 0 0
-  met-start = record {
-    exact = λ g changes lt same numbers. (λ e. absurd (omega (arith, e, bit_at-zero g)), λ h. absurd (omega (arith, h.1)));
-    among = λ g lt e. absurd (omega (arith, e, bit_at-zero g));
-  }
-
-  pub met-next : (count word new : ℕ) → AreMetTo count word → AreThose shape corners (λ changes. HadCorners changes (placement_at placements (slice_index numbers count))) (slice_index words count) new → AreAmong new (slice_index words count) → AreMetTo (count + 1) (bit_or word new)
-  met-next count word new so_far those among = record {
-    exact = λ g changes lt same has.
-        let both = or-bit word new g in
-        let before = so_far.exact g changes lt same has in
-        let now = those g changes lt same has in (
-          λ e. elim (both.0 e) [
-            | inl was ↦ let t = before.0 was in (t.0, omega (arith, t.1), t.2, t.3)
-            | inr is ↦ let t = now.0 is in (count, omega arith, t.0, t.1)
-          ],
-          λ h. elim (cases_lt h.0 count) [
-            | inl low ↦ both.1 (inl (before.1 (h.0, low, h.2, h.3)))
-            | inr from ↦
-                let here : h.0 ≡ count = omega (arith, h.1, from) in
-                both.1 (inr (now.1 (subst (λ (k : ℕ). bit_at (slice_index words k) g ≡ 1) here h.2, subst (λ (k : ℕ). HadCorners changes (placement_at placements (slice_index numbers k))) here h.3)))
-          ],
-        );
-    among = λ g lt e. elim ((or-bit word new g).0 e) [
-      | inl was ↦ let t = so_far.among g lt was in (t.0, omega (arith, t.1), t.2)
-      | inr is ↦ (count, omega arith, among g lt is)
-    ];
-  }
-
--- ---- bits, and sets that are there
+-- ---- bits
 
 -- the games that are there and aren't kept yet
 pub left-bit : (present kept g : ℕ) → kept < 2 ^ 64 → g < 64 → (bit_at (bit_and present (bit_not w64 kept)) g ≡ 1) ↔ ((bit_at present g ≡ 1) × ¬ (bit_at kept g ≡ 1))
@@ -77,11 +34,74 @@ left-bit present kept g fits lt =
       λ h. both.1 (h.0, elim (cases_eq (bit_at kept g) 1) [ inl one ↦ absurd (h.1 one) | inr other ↦ omega (arith, turned, other, bit_at-lt kept g) ]),
     )
 
+-- ---- the games of the words of some placements
+
+module _ (shape : Shape) (placements : List Placement) (numbers words : List ℕ) (before : ℕ) (corners : List (Bor (List (List ℕ)))) where
+  -- one of the first so many placements has the game, of which each corner had its cells
+  abbrev IsMetTo : ℕ → ℕ → Deltas → Type 0
+  IsMetTo count g changes = (k : ℕ) × (k < count) × (bit_at (slice_index words k) g ≡ 1) × HadCorners changes (placement_at placements (slice_index numbers k))
+
+  pub record AreMetTo (count word : ℕ) : Type 0 where
+    pub exact : (g : ℕ) (changes : Deltas) → g < 64 → changes.shape ≡ shape → HasNumbers corners g changes → (bit_at word g ≡ 1) ↔ ((bit_at before g ≡ 1) ⊎ IsMetTo count g changes)
+    pub among : (g : ℕ) → g < 64 → bit_at word g ≡ 1 → (bit_at before g ≡ 1) ⊎ IsInWords words g
+
+  pub met-start : AreMetTo 0 before
+  met-start = record {
+    exact = λ g changes lt same numbers. (λ e. inl e, λ h. elim h [ inl was ↦ was | inr is ↦ absurd (omega (arith, is.1)) ]);
+    among = λ g lt e. inl e;
+  }
+
+  module _ (count word new : ℕ) (within : count < length words) (fits : word < 2 ^ 64) (so_far : AreMetTo count word)
+      (those : AreThose shape corners (λ changes. HadCorners changes (placement_at placements (slice_index numbers count))) (bit_and (slice_index words count) (bit_not w64 word)) new) (among : AreAmong new (bit_and (slice_index words count) (bit_not w64 word))) where
+    -- the games of the next placement's word, of which those that were met already aren't asked
+    new-in : (g : ℕ) → g < 64 → bit_at new g ≡ 1 → bit_at (slice_index words count) g ≡ 1
+    new-in g lt e = ((left-bit (slice_index words count) word g fits lt).0 (among g lt e)).0
+
+    met-more : (g : ℕ) (changes : Deltas) → (k : ℕ) × (k < count) × (bit_at (slice_index words k) g ≡ 1) × HadCorners changes (placement_at placements (slice_index numbers k)) → IsMetTo (count + 1) g changes
+    met-more g changes t = (t.0, omega (arith, t.1), t.2, t.3)
+
+    to-new : (g : ℕ) (changes : Deltas) → g < 64 → changes.shape ≡ shape → HasNumbers corners g changes → IsMetTo (count + 1) g changes → bit_at (bit_or word new) g ≡ 1
+    to-new g changes lt same has h =
+        let both = or-bit word new g in
+        elim (cases_lt h.0 count) [
+          | inl low ↦ both.1 (inl ((so_far.exact g changes lt same has).1 (inr (h.0, low, h.2, h.3))))
+          | inr from ↦ elim (cases_eq (bit_at word g) 1) [
+            | inl was ↦ both.1 (inl was)
+            | inr other ↦
+                let here : h.0 ≡ count = omega (arith, h.1, from) in
+                let asked = (left-bit (slice_index words count) word g fits lt).1 (subst (λ (k : ℕ). bit_at (slice_index words k) g ≡ 1) here h.2, other) in
+                both.1 (inr ((those g changes lt same has).1 (asked, subst (λ (k : ℕ). HadCorners changes (placement_at placements (slice_index numbers k))) here h.3)))
+          ]
+        ]
+
+    pub met-next : AreMetTo (count + 1) (bit_or word new)
+    met-next = record {
+      exact = λ g changes lt same has.
+          let both = or-bit word new g in
+          let earlier = so_far.exact g changes lt same has in (
+            λ e. elim (both.0 e) [
+              | inl was ↦ elim (earlier.0 was) [ inl first ↦ inl first | inr t ↦ inr (met-more g changes t) ]
+              | inr is ↦ let t = (those g changes lt same has).0 is in inr (count, omega arith, new-in g lt is, t.1)
+            ],
+            λ h. elim h [
+              | inl first ↦ both.1 (inl (earlier.1 (inl first)))
+              | inr t ↦ to-new g changes lt same has t
+            ],
+          );
+      among = λ g lt e. elim ((or-bit word new g).0 e) [
+        | inl was ↦ so_far.among g lt was
+        | inr is ↦ inr (count, within, new-in g lt is)
+      ];
+    }
+
+-- ---- sets that are there
+
 some-of : (o : Option EverSets) (P : EverSets → Type 0) → IsSomeAnd o P → IsSome o
 some-of None P h = absurd h
 some-of (Some sets) P h = refl
 
-cells-told : (changes : Deltas) (shape : Shape) (placement : Placement) (o : Option EverSets) → 0 < node_count changes → changes.shape ≡ shape → IsSomeAnd o (AreSetsOf changes) → IsPlacedOn shape placement → IsSomeAnd o (λ sets. MeetsCells shape sets placement) ↔ WereAllowed changes placement
+-- by the sets of a game each cell of a placement was allowed at some node exactly where they meet it
+pub cells-told : (changes : Deltas) (shape : Shape) (placement : Placement) (o : Option EverSets) → 0 < node_count changes → changes.shape ≡ shape → IsSomeAnd o (AreSetsOf changes) → IsPlacedOn shape placement → IsSomeAnd o (λ sets. MeetsCells shape sets placement) ↔ WereAllowed changes placement
 cells-told changes shape placement None some same are placed = absurd are
 cells-told changes shape placement (Some sets) some same are placed = (
   λ meets. meets-were changes sets are placement some (subst (λ (s : Shape). MeetsCells s sets placement) (sym same) meets),
@@ -96,11 +116,11 @@ part-in_range images numbers in_range row is part same k lt =
     let at : slice_index part k ≡ slice_index numbers (row.start + k) = ap (λ (ns : List ℕ). slice_index ns k) same ∙ sliced-number numbers row.start row.count k below in
     omega (arith, at, in_range (row.start + k) (omega (arith, is.within, below)))
 
--- ---- the rows so far
+-- ---- the placements so far
 
 module _ (images : ImageList) (planes : PlaneGames) (corners : List (Bor (List (List ℕ)))) (numbers : List ℕ) where
   -- one of the first so many placements of the list keeps the game with these changes
-  abbrev IsKeptTo : ℕ → Deltas → Type 0
+  abbrev pub IsKeptTo : ℕ → Deltas → Type 0
   IsKeptTo count changes = (k : ℕ) × (k < count) × IsKeptBy changes (placement_at images.placements (slice_index numbers k))
 
   pub record AreKeptTo (count word : ℕ) : Type 0 where
@@ -114,78 +134,8 @@ module _ (images : ImageList) (planes : PlaneGames) (corners : List (Bor (List (
   }
 
   module _ (present : ℕ) (told : (g : ℕ) → g < 64 → (bit_at present g ≡ 1) ↔ IsSome (slice_index_or planes.games g None)) where
-    is-there : (g : ℕ) (changes : Deltas) → g < 64 → IsGameOf planes corners g changes → bit_at present g ≡ 1
+    pub is-there : (g : ℕ) (changes : Deltas) → g < 64 → IsGameOf planes corners g changes → bit_at present g ≡ 1
     is-there g changes lt game = (told g lt).1 (some-of (slice_index_or planes.games g None) (AreSetsOf changes) game.sets)
-
-    module _ (are-images : AreImages images) (same : images.shape ≡ planes.shape) (in_range : (k : ℕ) → k < length numbers → slice_index numbers k < length images.placements)
-        (row : Row) (is : IsRowIn images numbers row) (wants : List Want) (are : AreWantsOf images.shape (grid_at images.grids row.class) wants) (kept : ℕ) (fits : kept < 2 ^ 64) (words : List ℕ)
-        (have : (k : ℕ) → k < row.count → HaveEach planes.games (row.base + k) wants (bit_and present (bit_not w64 kept)) (length wants) (slice_index words k)) where
-      abbrev left : ℕ
-      left = bit_and present (bit_not w64 kept)
-
-      abbrev here : ℕ → Placement
-      here k = placement_at images.placements (slice_index numbers (row.start + k))
-
-      pub row-placed : (k : ℕ) → k < row.count → IsPlacedOn images.shape (here k)
-      row-placed k lt = are-images.placed (slice_index numbers (row.start + k)) no_placement (in_range (row.start + k) (omega (arith, is.within, lt)))
-
-      left-there : (g : ℕ) → g < 64 → bit_at left g ≡ 1 → IsSome (slice_index_or planes.games g None)
-      left-there g lt e = (told g lt).0 ((left-bit present kept g fits lt).0 e).0
-
-      -- the word of a placement
-      word-told : (k g : ℕ) → k < row.count → g < 64 → (bit_at (slice_index words k) g ≡ 1) ↔ ((bit_at left g ≡ 1) × IsPossibleIn planes g (here k))
-      word-told = row-told images are-images planes same numbers in_range row is wants are left words left-there have
-
-      cells : (k g : ℕ) (changes : Deltas) → k < row.count → IsGameOf planes corners g changes → IsPossibleIn planes g (here k) ↔ WereAllowed changes (here k)
-      cells k g changes lt game = cells-told changes planes.shape (here k) (slice_index_or planes.games g None) game.some_node game.same_shape game.sets (subst (λ (s : Shape). IsPlacedOn s (here k)) same (row-placed k lt))
-
-      module _ (part : List ℕ) (all : length part ≡ row.count) (parts : (k : ℕ) → k < row.count → slice_index part k ≡ slice_index numbers (row.start + k)) (met : ℕ)
-          (exact : (g : ℕ) (changes : Deltas) → g < 64 → changes.shape ≡ images.shape → HasNumbers corners g changes → (bit_at met g ≡ 1) ↔ IsMetBy images.placements part words g changes)
-          (among : (g : ℕ) → g < 64 → bit_at met g ≡ 1 → (k : ℕ) × (k < length part) × (bit_at (slice_index words k) g ≡ 1)) (so_far : AreKeptTo row.start kept) where
-        -- a placement of the row keeps the game, or the game was kept before
-        met-kept : (g : ℕ) (changes : Deltas) → g < 64 → IsGameOf planes corners g changes → bit_at met g ≡ 1 → IsKeptTo (row.start + row.count) changes
-        met-kept g changes lt game e =
-            let t = (exact g changes lt (game.same_shape ∙ sym same) game.numbers).0 e in
-            let k = t.0 in
-            let below : t.0 < row.count = omega (arith, t.1, all) in
-            let possible = (word-told k g below lt).0 t.2 in (
-              row.start + k,
-              omega (arith, below),
-              record {
-                cells = (cells k g changes below game).0 possible.1;
-                corners = subst (λ (n : ℕ). HadCorners changes (placement_at images.placements n)) (parts k below) t.3;
-              },
-            )
-
-        kept-met : (g : ℕ) (changes : Deltas) → g < 64 → IsGameOf planes corners g changes → ¬ (bit_at kept g ≡ 1) → (k : ℕ) → k < row.count → IsKeptBy changes (here k) → bit_at met g ≡ 1
-        kept-met g changes lt game unkept k below by =
-            let open_still = (left-bit present kept g fits lt).1 (is-there g changes lt game, unkept) in
-            let word = (word-told k g below lt).1 (open_still, (cells k g changes below game).1 by.cells) in
-            (exact g changes lt (game.same_shape ∙ sym same) game.numbers).1 (k, omega (arith, below, all), word, subst (λ (n : ℕ). HadCorners changes (placement_at images.placements n)) (sym (parts k below)) by.corners)
-
-        pub kept-row : AreKeptTo (row.start + row.count) (bit_or kept met)
-        kept-row = record {
-          exact = λ g changes lt game.
-              let both = or-bit kept met g in (
-                λ e. elim (both.0 e) [
-                  | inl was ↦ let t = (so_far.exact g changes lt game).0 was in (t.0, omega (arith, t.1), t.2)
-                  | inr now ↦ met-kept g changes lt game now
-                ],
-                λ (j, below, by). elim (cases_lt j row.start) [
-                  | inl before ↦ both.1 (inl ((so_far.exact g changes lt game).1 (j, before, by)))
-                  | inr from ↦ elim (cases_eq (bit_at kept g) 1) [
-                    | inl was ↦ both.1 (inl was)
-                    | inr other ↦
-                        let at : j ≡ row.start + (j - row.start) = omega (arith, from) in
-                        both.1 (inr (kept-met g changes lt game other (j - row.start) (omega (arith, below, from)) (subst (λ (n : ℕ). IsKeptBy changes (placement_at images.placements (slice_index numbers n))) at by)))
-                  ]
-                ],
-              );
-          there = λ g lt e. elim ((or-bit kept met g).0 e) [
-            | inl was ↦ so_far.there g lt was
-            | inr now ↦ let t = among g lt now in left-there g lt ((word-told t.0 g (omega (arith, t.1, all)) lt).0 t.2).0
-          ];
-        }
 
     -- ---- all rows, or as many as it takes
 

@@ -7,6 +7,8 @@ pub mod BegunLists
 pub mod GamesTold
 pub mod CandidateLists
 pub mod RowsSieved
+pub mod SpansSieved
 pub mod OccurrencesKept
 pub mod CornerGames
 pub mod KeptRows
+pub mod SpansKept

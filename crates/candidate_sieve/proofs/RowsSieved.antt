@@ -1,5 +1,5 @@
 -- The games of the placements of a row, by its words.
-use Rattle.std.proofs.Common.{◌≡◌, ◌↔◌, ℕ, ◌+◌, ◌-◌, ◌<◌, ◌≤◌, List, [], ◌∷◌, Option, None, Some, drop, length, slice_index, slice_index_or, ap, sym, ◌∙◌, subst, arith}
+use Rattle.std.proofs.Common.{◌≡◌, ◌↔◌, ℕ, ◌+◌, ◌-◌, ◌<◌, ◌≤◌, List, Option, None, Some, drop, length, slice_index, slice_index_or, ap, sym, ◌∙◌, subst, arith}
 use Rattle.std.specs.Borrow.{Bor}
 use Rattle.std.specs.Int.{bit_at}
 use Rattle.std.specs.Option.{IsSome}
@@ -18,13 +18,11 @@ use Rattle.ready_images.specs.Rows.{IsRowIn}
 use Rattle.ready_images.specs.Wants.{AreWantsOf, base_of}
 use Rattle.final_index.specs.Planes.{PlaneGames}
 use Rattle.candidate_sieve.specs.declared.candidates.Candidate.{Candidate}
-use Rattle.final_index.specs.declared.ever_sets.EverSets.{EverSets}
 use Rattle.final_index.specs.Order.{MayHaveStood, OrderGames}
-use Rattle.candidate_sieve.specs.declared.order.RowOrder.{RowOrder}
-use Rattle.candidate_sieve.specs.BlockGames.{AreAddedFor, AreRowAdded, HaveEach, IsAddedFor, IsSieved}
-use Rattle.candidate_sieve.specs.BlockGames.AreAddedFor.{nothing, one_more}
+use Rattle.candidate_sieve.specs.declared.order.SpanOrder.{SpanOrder}
+use Rattle.candidate_sieve.specs.BlockGames.{AreAddedFor, HaveEach, IsSieved, numbers_in}
 use Rattle.candidate_sieve.specs.Candidates.{IsPossibleIn}
-use Rattle.candidate_sieve.specs.Ordered.{HadInOrder, IsCutInOrder, MayStand, no_pair}
+use Rattle.candidate_sieve.specs.Ordered.{HadInOrder, MayStand, no_pair}
 use Rattle.candidate_sieve.proofs.CandidateLists.{AreAddedTo, IsTold, added-row}
 use Rattle.candidate_sieve.proofs.GamesTold.{possible-told}
 
@@ -66,7 +64,7 @@ module _ (images : ImageList) (are-images : AreImages images) (planes : PlaneGam
       possible-told planes (here k) (placed k lt) wants (wants-of k lt) (row.base + k) (at-base k lt) there (slice_index words k) present (have k lt) g few
 
   -- what the order of stones asks of the row
-  module _ (order : RowOrder) (at : order.base ≡ row.base) (pairs : All (IsPairIn images.shape (grid_at images.grids row.class)) order.pairs.now) where
+  module _ (order : SpanOrder) (pairs : All (IsPairIn images.shape (grid_at images.grids row.class)) order.pairs.now) where
     -- a placement of the row that stands in order does so by each of the pairs
     in-order : (k : ℕ) → k < row.count → (o : Option (Bor OrderGames)) (g : ℕ) → MayStand o g images.shape (here k) → IfSome o (λ (b : Bor OrderGames). HadInOrder b.now (row.base + k) order.pairs.now (length order.pairs.now) g)
     in-order k lt None g stands = tt
@@ -89,23 +87,9 @@ module _ (images : ImageList) (are-images : AreImages images) (planes : PlaneGam
     pub row-added : (there : ℕ) → ((g : ℕ) → g < 64 → bit_at there g ≡ 1 → IsSome (slice_index_or planes.games g None)) →
         ((j k : ℕ) → j < length numbers → k < length numbers → slice_index numbers j ≡ slice_index numbers k → j ≡ k) →
         (old now next : List Candidate) → AreAddedTo planes order.order images there numbers row.start old now →
-        AreRowAdded planes.games row wants there order (slice_range numbers row.start (row.start + row.count)) now next →
+        (words : List ℕ) → ((k : ℕ) → k < row.count → IsSieved planes.games wants there order (row.base + k) (slice_index words k)) →
+        AreAddedFor row (numbers_in numbers row) words now row.count next →
         AreAddedTo planes order.order images there numbers (row.start + row.count) old next
-    row-added there present once old now next so_far added =
-        let part : List ℕ = slice_range numbers row.start (row.start + row.count) in
-        let all : length part ≡ row.count = sliced-length numbers row.start row.count is.within in
-        added-row planes order.order images there numbers old once row.start now so_far row part added.words row.count next is.within (sliced-number numbers row.start row.count)
-        (λ k g lt few. sieved-told there present k (slice_index added.words k) lt (added.sieved k (omega (arith, all, lt))) g few) own (subst (λ (n : ℕ). AreAddedFor row part added.words now n next) all added.added)
-
--- ---- a row of one placement
-
-pub one-added : (games : List (Option EverSets)) (row : Row) (wants : List Want) (there : ℕ) (order : RowOrder) (numbers : List ℕ) (had word : ℕ) (old new : List Candidate) → length numbers ≡ 1 → HaveEach games row.base wants there (length wants) had →
-    IsCutInOrder order.order row.base order.pairs.now (length order.pairs.now) had word → IsAddedFor row 0 (slice_index numbers 0) word old new → AreRowAdded games row wants there order numbers old new
-one-added games row wants there order numbers had word old new one have cut added = record {
-  words = word ∷ [];
-  sieved = λ k lt.
-      let first : 0 ≡ k = omega (arith, lt, one) in
-      let at : row.base ≡ row.base + 0 = omega arith in
-      subst (λ (i : ℕ). IsSieved games wants there order (row.base + i) (slice_index (word ∷ []) i)) first (subst (λ (b : ℕ). IsSieved games wants there order b word) at (record { had = had; have = have; cut = cut }));
-  added = subst (λ (n : ℕ). AreAddedFor row numbers (word ∷ []) old n new) (omega (arith, one)) (one_more 0 old new nothing added);
-}
+    row-added there present once old now next so_far words sieved added =
+        added-row planes order.order images there numbers old once row.start now so_far row (numbers_in numbers row) words row.count next is.within (sliced-number numbers row.start row.count)
+        (λ k g lt few. sieved-told there present k (slice_index words k) lt (sieved k lt) g few) own added

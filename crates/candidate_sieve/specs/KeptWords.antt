@@ -1,5 +1,5 @@
 -- The games of a block that are kept, as bits of a word.
-use Rattle.std.specs.Prelude.{◌≡◌, ◌↔◌, ℕ, ◌<◌, Contains, List, None, Some, length, slice_index, slice_index_or}
+use Rattle.std.specs.Prelude.{◌≡◌, ◌↔◌, ℕ, ◌<◌, ◌≤◌, Contains, List, None, Some, length, slice_index, slice_index_or}
 use Rattle.std.specs.Borrow.{Bor}
 use Rattle.std.specs.Int.{bit_at}
 use Rattle.std.specs.List.{slice_get}
@@ -11,6 +11,9 @@ use Rattle.final_index.specs.Ever.{AreSetsOf}
 use Rattle.final_index.specs.Planes.{PlaneGames}
 use Rattle.pattern_images.specs.ImageList.{placement_at}
 use Rattle.pattern_images.specs.Placements.{Placement}
+use Rattle.ready_images.specs.declared.row.Row.{Row}
+use Rattle.ready_images.specs.Rows.{row_at}
+use Rattle.candidate_sieve.specs.BlockGames.{numbers_in, words_in}
 use Rattle.candidate_sieve.specs.Kept.{HadCorners, IsKept}
 
 -- these are the numbers that the corners of game g of a block had, by its changes
@@ -61,3 +64,14 @@ abbrev pub IsMetBy : List Placement → List ℕ → List ℕ → ℕ → Deltas
 IsMetBy placements numbers words g changes = (k : ℕ) × (k < length numbers)
     × (bit_at (slice_index words k) g ≡ 1)
     × HadCorners changes (placement_at placements (slice_index numbers k))
+
+-- so by a placement of the rows from one number to the one before another, where the first word is that
+-- of the first row's base
+abbrev pub IsMetInRows : List Placement → List Row → List ℕ → List ℕ → ℕ → ℕ → ℕ → Deltas → Type 0
+IsMetInRows placements rows numbers words first end g changes =
+    (r : ℕ) × (first ≤ r) × (r < end) × IsMetBy placements (numbers_in numbers (row_at rows r))
+    (words_in words (row_at rows first).base (row_at rows r)) g changes
+
+-- one of the words has the game g
+abbrev pub IsInWords : List ℕ → ℕ → Type 0
+IsInWords words g = (k : ℕ) × (k < length words) × (bit_at (slice_index words k) g ≡ 1)

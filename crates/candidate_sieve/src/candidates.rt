@@ -21,16 +21,20 @@ ghost use Rattle.pattern_images.specs.Holds.{Allows};
 ghost use Rattle.final_index.specs.Planes.{HadThere};
 ghost use Rattle.candidate_sieve.specs.BlockGames.{
   AreAddedFor,
-  AreRowCandidatesAdded,
+  AreRowsAdded,
+  AreWordsOfSpan,
   HadWanted,
   HaveEach,
   IsAddedFor,
   IsSieve,
+  IsSieved,
+  IsSpanOf,
 };
 ghost use Rattle.candidate_sieve.specs.Candidates.{AreCandidatesAdded};
 ghost use Rattle.candidate_sieve.specs.Ordered.{ArePairsBelow};
 
-use crate::order::RowOrder;
+use crate::order::SpanOrder;
+use crate::spans::{Span, span_from, span_sieve};
 use final_index::{OrderPlanes, Planes};
 use kb_geometry::{Cell, NoMemory};
 use pattern_images::PatternCell;
@@ -58,16 +62,16 @@ pub struct BlockPlanes<'a> {
     pub order: Option<&'a OrderPlanes>,
 }
 
-// A row of placements, to be sieved in the games of a block: its first placement stands behind the
-// base, each of the others behind the next point. In the games `ever_empty` each point was empty at
-// some node.
+// Placements of a class, to be sieved in the games of a block: the first stands behind the base, each
+// of the others behind the next point. In the games `ever_empty` each point was empty at some node.
 #[derive(Clone, Copy, Debug)]
-pub(crate) struct RowSieve<'a> {
+pub(crate) struct SpanSieve<'a> {
     pub(crate) planes: &'a Planes,
     pub(crate) ever_empty: u64,
-    pub(crate) row: &'a Row,
-    // The numbers of the placements.
-    pub(crate) numbers: &'a [u32],
+    // The number of a point.
+    pub(crate) base: u16,
+    // How many placements.
+    pub(crate) count: usize,
     // What they ask of points.
     pub(crate) wants: &'a [Want],
 }
@@ -94,59 +98,87 @@ pub fn add_candidates(
     let planes = block.planes;
     let among = games & planes.present();
     let ever_empty = planes.ever_empty();
-    for row in ready.rows() {
-        let sieve = RowSieve {
-            planes,
-            ever_empty,
-            row,
-            numbers: ready.numbers_of(row),
-            wants: ready.wants_of(row),
-        };
-        let order = RowOrder {
+    let rows = ready.rows();
+    let mut next = 0;
+    while next < rows.len() {
+        let span = span_from(rows, next);
+        let sieve = span_sieve(planes, ever_empty, ready, span);
+        let order = SpanOrder {
             order: block.order,
-            base: row.base,
-            pairs: ready.pairs_of(row),
+            base: sieve.base,
+            pairs: ready.pairs_of(&rows[span.end - 1]),
         };
-        sieve_row(&sieve, &order, among, room, found)?;
+        sieve_span(&sieve, &order, among, room)?;
+        add_rows(ready, span, room, found)?;
+        next = span.end;
     }
     Ok(())
 }
 
-// Adds a candidate for each placement of a row that some of the games `among` may have. Many rows have
-// one placement, whose word needs no room.
-fn sieve_row(
-    sieve: &RowSieve,
-    order: &RowOrder,
+// Fills the room with a word for each of some placements: those of the games `among` that may have it.
+// Of one placement alone the word is made by itself.
+fn sieve_span(
+    sieve: &SpanSieve,
+    order: &SpanOrder,
     among: u64,
     room: &mut Vec<u64>,
-    found: &mut Vec<Candidate>,
 ) -> Result<(), NoMemory>
     requires sieve { IsSieve sieve.now }
-    requires base { order.now.base ≡ sieve.now.row.now.base }
+    requires base { order.now.base ≡ sieve.now.base }
     requires on_board { IfSome order.now.order (λ o. ArePairsBelow (point_count o.now.shape)
-        order.now.base order.now.pairs.now (length sieve.now.numbers.now)) }
-    ensures ok { OnOk result (AreRowCandidatesAdded sieve.now order.now among found.old.items
-        found.new.items) }
-    ensures refused { OnErr result (IsPrefix found.old.items found.new.items) }
+        order.now.base order.now.pairs.now sieve.now.count) }
+    ensures count { OnOk result (length room.new.items ≡ sieve.now.count) }
+    ensures games { OnOk result ((k : ℕ) → k < sieve.now.count →
+        IsSieved sieve.now.planes.now.games sieve.now.wants.now among order.now
+        (sieve.now.base + k) (slice_index room.new.items k)) }
 {
-    if let [number] = sieve.numbers {
+    if sieve.count == 1 {
         let games = order.games_at(sieve.games_at(among));
-        add_games(sieve.row, 0, *number, games, found)?;
+        room.clear();
+        room.push(games)?;
         return Ok(());
     }
     sieve.fill_room(among, room)?;
     order.keep(room);
-    add_row(sieve.row, sieve.numbers, room, found)?;
     Ok(())
 }
 
-impl<'a> RowSieve<'a> {
+// Adds a candidate for each placement of the rows that some game may have. There is a word for each
+// point from the base of the first row to that of the last placement of the last row.
+fn add_rows(
+    ready: &ReadyImages,
+    span: Span,
+    words: &[u64],
+    found: &mut Vec<Candidate>,
+) -> Result<(), NoMemory>
+    requires span { IsSpanOf ready.now.rows span.first span.end }
+    requires words { AreWordsOfSpan ready.now.rows span.first span.end (length words.now) }
+    ensures ok { OnOk result (AreRowsAdded ready.now.rows ready.now.numbers words.now span.first
+        found.old.items span.end found.new.items) }
+    ensures refused { OnErr result (IsPrefix found.old.items found.new.items) }
+{
+    let rows = ready.rows();
+    let base = rows[span.first].base;
+    for r in span.first..span.end {
+        let row = &rows[r];
+        let from = usize::from(row.base - base);
+        add_row(
+            row,
+            ready.numbers_of(row),
+            &words[from..from + row.count],
+            found,
+        )?;
+    }
+    Ok(())
+}
+
+impl<'a> SpanSieve<'a> {
     // Those of the games `among` that had, for each want, a cell that it allows on its point behind
     // the base.
     fn games_at(&self, among: u64) -> u64
         requires sieve { IsSieve self.now }
-        requires some { 0 < length self.now.numbers.now }
-        ensures { HaveEach self.now.planes.now.games self.now.row.now.base self.now.wants.now among
+        requires some { 0 < self.now.count }
+        ensures { HaveEach self.now.planes.now.games self.now.base self.now.wants.now among
             (length self.now.wants.now) result }
     {
         let mut games = among;
@@ -155,26 +187,26 @@ impl<'a> RowSieve<'a> {
             if is_settled(want, self.ever_empty, games) {
                 return games;
             }
-            games = games_with(self.planes, want, self.row.base + want.offset, games);
+            games = games_with(self.planes, want, self.base + want.offset, games);
         }
         games
     }
 
-    // Fills the room with a word for each placement of the row: those of the games `among` that may
+    // Fills the room with a word for each placement: those of the games `among` that may
     // have it. The word of one placement alone is made by itself.
     pub(crate) fn fill_room(&self, among: u64, room: &mut Vec<u64>) -> Result<(), NoMemory>
         requires { IsSieve self.now }
-        ensures count { OnOk result (length room.new.items ≡ length self.now.numbers.now) }
-        ensures games { OnOk result ((k : ℕ) → k < length self.now.numbers.now →
-            HaveEach self.now.planes.now.games (self.now.row.now.base + k) self.now.wants.now among
+        ensures count { OnOk result (length room.new.items ≡ self.now.count) }
+        ensures games { OnOk result ((k : ℕ) → k < self.now.count →
+            HaveEach self.now.planes.now.games (self.now.base + k) self.now.wants.now among
             (length self.now.wants.now) (slice_index room.new.items k)) }
     {
         room.clear();
-        if self.numbers.len() == 1 {
+        if self.count == 1 {
             room.push(self.games_at(among))?;
             return Ok(());
         }
-        room.resize(self.numbers.len(), among)?;
+        room.resize(self.count, among)?;
         self.keep_wanted(room);
         Ok(())
     }
@@ -185,10 +217,10 @@ impl<'a> RowSieve<'a> {
     // nothing. The others stand first.
     fn keep_wanted(&self, words: &mut [u64])
         requires sieve { IsSieve self.now }
-        requires count { length words.old ≡ length self.now.numbers.now }
+        requires count { length words.old ≡ self.now.count }
         ensures count { length words.new ≡ length words.old }
         ensures kept { (k : ℕ) → k < length words.old →
-            HaveEach self.now.planes.now.games (self.now.row.now.base + k) self.now.wants.now
+            HaveEach self.now.planes.now.games (self.now.base + k) self.now.wants.now
             (slice_index words.old k) (length self.now.wants.now) (slice_index words.new k) }
     {
         for k in 0..self.wants.len() {
@@ -196,7 +228,7 @@ impl<'a> RowSieve<'a> {
             if are_settled(want, self.ever_empty, words) {
                 return;
             }
-            keep_want(self.planes, want, self.row.base + want.offset, words);
+            keep_want(self.planes, want, self.base + want.offset, words);
         }
     }
 }

@@ -15,6 +15,7 @@ mod laws;
 mod nodes;
 mod order;
 mod sieve;
+mod spans;
 
 pub use asked::AskedPoints;
 pub use candidates::{BlockPlanes, Candidate, add_candidates};

@@ -8,7 +8,7 @@ ghost use Rattle.candidate_sieve.specs.Noting.{AreBeginningsAdded, AreBegun, Beg
 
 use crate::asked::AskedPoints;
 use capture_index::RunIndex;
-use kb_geometry::{Cell, NoMemory};
+use kb_geometry::{Cell, NoMemory, Shape};
 use pattern_images::Images;
 use std::alloc::Global;
 
@@ -42,20 +42,25 @@ pub fn candidates_under(
     ensures exact { IfOk result (λ nodes. (n : ℕ) → Contains nodes.items n
         ↔ IsNodeCandidate runs.now images.now.placements n) }
 {
-    let _count = images.len();
-    let mut nodes = begun(alloc, runs, points)?;
+    let mut nodes = begun(alloc, runs, images.shape(), points)?;
     nodes.sort_unstable();
     nodes.dedup();
     Ok(nodes)
 }
 
-// The root, and the nodes at which a point begins to have a cell that was noted; some perhaps
-// twice, in no order.
-fn begun(alloc: Global, runs: &RunIndex, points: &AskedPoints) -> Result<Vec<u32>, NoMemory>
+// The root, and the nodes at which a point of the board begins to have a cell that was noted; some
+// perhaps twice, in no order.
+fn begun(
+    alloc: Global,
+    runs: &RunIndex,
+    shape: Shape,
+    points: &AskedPoints,
+) -> Result<Vec<u32>, NoMemory>
+    requires { shape ≡ runs.now.shape }
     ensures { IfOk result (λ nodes. AreBegun runs.now points.now nodes.items) }
 {
     let mut nodes = root(alloc, runs)?;
-    for point in 0..runs.shape().count() {
+    for point in 0..shape.count() {
         add_begun(runs, points, point, &mut nodes)?;
     }
     Ok(nodes)

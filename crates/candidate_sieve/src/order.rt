@@ -7,17 +7,17 @@ use crate::candidates::joined;
 use final_index::OrderPlanes;
 use ready_images::Pair;
 
-// What the order of stones asks of the placements of a row, if it is known: that each of their stones
+// What the order of stones asks of placements of a class, if it is known: that each of their stones
 // beside a cell that must be empty may have stood while the point under the cell was empty. The first
 // placement stands behind the base, each of the others behind the next point.
 #[derive(Clone, Copy, Debug)]
-pub(crate) struct RowOrder<'a> {
+pub(crate) struct SpanOrder<'a> {
     pub(crate) order: Option<&'a OrderPlanes>,
     pub(crate) base: u16,
     pub(crate) pairs: &'a [Pair],
 }
 
-impl<'a> RowOrder<'a> {
+impl<'a> SpanOrder<'a> {
     // Those of some games that may have the first placement.
     pub(crate) fn games_at(&self, games: u64) -> u64
         requires { IfSome self.now.order (λ o. ArePairsBelow (point_count o.now.shape)

@@ -14,7 +14,7 @@ ghost use Rattle.std.specs.Prelude.{
 };
 ghost use Rattle.kb_geometry.specs.Symmetry.{point_of};
 ghost use Rattle.game_tree.specs.MainLine.{IsOnMainLine};
-ghost use Rattle.game_tree.specs.Tree.{move_number_of, node_count};
+ghost use Rattle.game_tree.specs.Tree.{IsTree, move_number_of, node_count};
 ghost use Rattle.capture_board.specs.Deltas.{Deltas};
 ghost use Rattle.node_position.specs.Games.{AreNodeChanges};
 ghost use Rattle.pattern_images.specs.declared.hit.Next.{Next};
@@ -93,8 +93,9 @@ fn passed_to(tree: &GameTree, place: Place, node: u32, held_to: u32) -> u32
     requires rows { place.y + place.rows ≤ 256 }
     ensures in_range { result < node_count tree.now }
     ensures behind { node ≤ result }
-    ensures moves { move_number_of tree.now node ≤ move_number_of tree.now result }
-    ensures way { (deltas : Deltas) → (placement : Placement) → IsPlaceOf placement place →
+    ensures moves { IsTree tree.now →
+        move_number_of tree.now node ≤ move_number_of tree.now result }
+    ensures way { IsTree tree.now → (deltas : Deltas) → (placement : Placement) → IsPlaceOf placement place →
         HoldsAt deltas placement node →
         ((k : ℕ) → node ≤ k → k < held_to → HoldsAt deltas placement k) →
         IsWayDown tree.now deltas placement node result
@@ -103,10 +104,9 @@ fn passed_to(tree: &GameTree, place: Place, node: u32, held_to: u32) -> u32
         (placement : Placement) → IsPlaceOf placement place →
         HasMoveInside tree.now placement (result + 1) }
 {
-    let _count = tree.node_count();
-    let end = held_to.min(tree.main_count());
+    let last = held_to.min(tree.main_count()).saturating_sub(1);
     let mut here = node;
-    while here + 1 < end {
+    while here < last {
         if has_move_inside(tree, place, here + 1) {
             return here;
         }

@@ -72,10 +72,6 @@ pub record SplitsAt (shape : Shape) (placements : List Placement) (p start : ℕ
   pub before : (i : ℕ) → i < length placements →
       (i < start) ↔ (corner_of shape (placement_at placements i) < p)
 
--- the labels of the first so many placements are labels
-abbrev pub HaveLabels : List Placement → ℕ → Type 0
-HaveLabels placements n = (i : ℕ) → i < n → (placement_at placements i).label < 16
-
 -- For each number of a point, and for the number of points, how many placements have their upper
 -- left points before it. There are at most 16 at each point.
 pub record AreStarts (shape : Shape) (placements : List Placement) (starts : List ℕ) : Type 0 where

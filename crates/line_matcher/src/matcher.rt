@@ -62,7 +62,6 @@ impl<'a> Matcher<'a> {
         ensures value { result ≡ self.now.images.now.shape }
         ensures images { AreImages self.now.images.now }
     {
-        let _count = self.images.len();
         self.images.shape()
     }
 
@@ -79,7 +78,6 @@ impl<'a> Matcher<'a> {
         ensures { OnOk result (IsFoundAt self.now.images.now visit.now
             0 (length self.now.images.now.placements) found.old.items found.new.items) }
     {
-        let _count = self.images.len();
         for y in area.y0..area.y1 + 1 {
             self.add_row(visit, area, y, found)?;
         }
@@ -92,7 +90,6 @@ impl<'a> Matcher<'a> {
         ensures on_board { IsOrderedRectOnBoard self.now.images.now.shape result }
         ensures reach { IsReach into self.now.most.cols self.now.most.rows result }
     {
-        let _size = self.images.shape();
         reach(into, self.most.cols, self.most.rows)
     }
 
@@ -114,7 +111,6 @@ impl<'a> Matcher<'a> {
             (slice_index self.now.starts.items ((y + 1) * cols_of self.now.images.now.shape))
             found.old.items found.new.items) }
     {
-        let _count = self.images.len();
         for x in area.x0..area.x1 + 1 {
             let first = self.images.shape().number(Point { x, y });
             let from = self.start(first);
@@ -225,7 +221,6 @@ impl<'a> Matcher<'a> {
         ensures placed { IsPlacedOn self.now.images.now.shape
             (placement_at self.now.images.now.placements i) }
     {
-        let _count = self.images.len();
         self.rows.rows(self.images.class_of(i))
     }
 

@@ -1,7 +1,7 @@
 // A walk over the nodes of a game, which keeps the images of the position at each.
 ghost use Rattle.std.specs.Prelude.{◌≡◌, ◌<◌, IfOk, IfSome, IsSome, None, Some};
 ghost use Rattle.std.specs.Option.{IsSomeAnd};
-ghost use Rattle.capture_board.specs.Deltas.{node_count, parent_of};
+ghost use Rattle.capture_board.specs.Deltas.{Deltas, node_count, parent_of};
 ghost use Rattle.capture_board.specs.Walking.{MayLeaveTo, node_before, parent_here};
 ghost use Rattle.opening_tree.specs.Turned.{StandsTurned};
 
@@ -42,14 +42,13 @@ impl ImageWalker {
         Ok(ImageWalker { here: None, turned })
     }
 
-    // Stands above the root of these.
-    pub(crate) fn restart(&mut self, deltas: &NodeDeltas)
-        requires { self.old.shape ≡ deltas.now.shape }
+    // Stands above the root of a game.
+    pub(crate) fn restart(&mut self)
         ensures shape { self.new.shape ≡ self.old.shape }
         ensures here { self.new.here ≡ None }
-        ensures stands { StandsTurned deltas.now self.new }
+        ensures stands { (deltas : Deltas) → self.old.shape ≡ deltas.shape →
+            StandsTurned deltas self.new }
     {
-        let _shape = deltas.shape();
         self.here = None;
         self.turned.clear();
     }

@@ -26,7 +26,6 @@ pub fn opening(
     ensures { IfOk result (λ openings.
         IsOpenings shape depth least (items_in version.now.parts) openings.items) }
 {
-    let _few = version.parts();
     let games = games(alloc, version)?;
     let openings = openings_in(alloc, Asked { shape, depth }, 0, games.as_slice())?;
     listed(alloc, &openings, least)

@@ -99,7 +99,6 @@ impl OpeningsOfGames {
             AreOpeningsOf first self.new.asked.shape self.new.asked.depth (games ++ game.now ∷ [])
             self.new.openings.entries) }
     {
-        let _count = game.tree().node_count();
         if !is_on(game, self.asked.shape) {
             return Ok(());
         }
@@ -130,12 +129,11 @@ impl OpeningsOfGames {
             (length self.new.frames.items) es ns self.new.openings.entries self.new.frames.items) }
     {
         let tree = game.tree();
-        let _count = tree.node_count();
         let deltas = game.deltas();
         let outcome = game.outcome();
         let end = end_within(self.asked.depth, tree);
         self.frames.clear();
-        self.walker.restart(deltas);
+        self.walker.restart();
         for node in 0..end {
             self.walker.enter_next(deltas, node);
             let entry = EntryAt {
@@ -222,15 +220,14 @@ impl OpeningsOfGames {
             (length self.old.frames.items) es ns self.new.openings.entries
             self.old.frames.items) }
     {
-        let _count = game.tree().node_count();
         for n in 0..self.frames.len() {
-            self.add_next(game, n as u32)?;
+            self.add_next(game, n)?;
         }
         Ok(())
     }
 
     // Adds the next move at a node, if there is one.
-    fn add_next(&mut self, game: &FinishedGame, n: u32) -> Result<(), NoMemory>
+    fn add_next(&mut self, game: &FinishedGame, n: usize) -> Result<(), NoMemory>
         requires in_range { n < length self.old.frames.items }
         requires in_game { n < trees.node_count game.now.tree }
         requires so_far { (positions : List Position) × (es : List Entry) × (ns : List NextAt)
@@ -250,7 +247,7 @@ impl OpeningsOfGames {
     {
         let tree = game.tree();
         let shape = tree.shape();
-        let Some(next) = next_at(self.asked.depth, tree, n) else {
+        let Some(next) = next_at(self.asked.depth, tree, n as u32) else {
             return Ok(());
         };
         let frame = self.frames[next.parent as usize];
@@ -266,7 +263,8 @@ impl OpeningsOfGames {
 
 // Whether the board of a game has this shape.
 fn is_on(game: &FinishedGame, shape: Shape) -> bool
-    ensures { IsTrue result ↔ (game.now.tree.shape ≡ shape) }
+    ensures shape { IsTrue result ↔ (game.now.tree.shape ≡ shape) }
+    ensures tree { trees.IsTree game.now.tree }
 {
     game.tree().shape() == shape
 }

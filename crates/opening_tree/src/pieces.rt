@@ -45,7 +45,6 @@ pub fn opening_in_pieces<R: Threads + Sync>(
     ensures { IfOk result (λ openings. IsOpenings wanted.shape wanted.depth wanted.least
         (items_in version.now.parts) openings.items) }
 {
-    let _few = version.parts();
     let games = games(alloc, version)?;
     let asked = Asked {
         shape: wanted.shape,

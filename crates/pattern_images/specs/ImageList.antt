@@ -62,10 +62,11 @@ pub record IsPlacedOn (shape : Shape) (placement : Placement) : Type 0 where
   pub columns : placement.x + placement.grid.cols ≤ cols_of shape
   pub rows : placement.y + placement.grid.rows ≤ rows_of shape
 
--- The placements lie on the board, in order, and the cells of each are one of the rectangles of
--- cells, of which no two are one.
+-- The placements lie on the board, in order, and have labels; the cells of each are one of the
+-- rectangles of cells, of which no two are one.
 pub record AreImages (images : ImageList) : Type 0 where
   pub placed : All (IsPlacedOn images.shape) images.placements
+  pub labels : All (λ (p : Placement). p.label < 16) images.placements
   pub ordered : AllPairs IsBefore images.placements
   pub classes : All (λ (p : Placement). Contains images.grids p.grid) images.placements
   pub different : AreDistinct images.grids

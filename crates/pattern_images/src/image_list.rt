@@ -51,7 +51,8 @@ impl Images {
 
     /// The shape of the board.
     pub fn shape(&self) -> Shape
-        ensures { result ≡ self.now.shape }
+        ensures value { result ≡ self.now.shape }
+        ensures images { AreImages self.now }
     {
         self.shape
     }
@@ -76,6 +77,7 @@ impl Images {
         requires { i < length self.now.placements }
         ensures value { IsPlaceOf (placement_at self.now.placements i) result }
         ensures on_board { IsPlacedOn self.now.shape (placement_at self.now.placements i) }
+        ensures images { AreImages self.now }
     {
         let StoredPlace { x, y, label, class } = self.places[i];
         let size = self.grids.size(usize::from(class));
@@ -112,6 +114,7 @@ impl Images {
         requires { i < length self.now.placements }
         ensures in_range { result < length self.now.grids }
         ensures cells { grid_at self.now.grids result ≡ (placement_at self.now.placements i).grid }
+        ensures images { AreImages self.now }
     {
         usize::from(self.places[i].class)
     }

@@ -30,23 +30,23 @@ module _ (images : ImageList) (are : AreImages images) where
   abbrev label_at : ℕ → ℕ
   label_at i = (placement_at images.placements i).label
 
-  number-le : (i : ℕ) → i < length images.placements → ((j : ℕ) → j < i → label_at j < 16) → i ≤ 16 * base_of images.shape (placement_at images.placements i) + label_at i
-  number-le zero lt labels = omega arith
-  number-le (suc i) lt labels =
-      let before : i ≤ 16 * base_of images.shape (placement_at images.placements i) + label_at i = number-le i (omega arith) (λ j less. labels j (omega (arith, less))) in
-      let step = rises images.shape (placement_at images.placements i) (placement_at images.placements (suc i)) (are.placed i no_placement (omega arith)) (are.ordered i (suc i) no_placement (omega arith) lt) (labels i (omega arith)) in
+  number-le : (i : ℕ) → i < length images.placements → i ≤ 16 * base_of images.shape (placement_at images.placements i) + label_at i
+  number-le zero lt = omega arith
+  number-le (suc i) lt =
+      let before : i ≤ 16 * base_of images.shape (placement_at images.placements i) + label_at i = number-le i (omega arith) in
+      let step = rises images.shape (placement_at images.placements i) (placement_at images.placements (suc i)) (are.placed i no_placement (omega arith)) (are.ordered i (suc i) no_placement (omega arith) lt) (are.labels i no_placement (omega arith)) in
       omega (arith, before, step)
 
-  -- the number of a placement, where those before it have labels
-  pub number-small : (i : ℕ) → i < length images.placements → ((j : ℕ) → j < i → label_at j < 16) → label_at i < 16 → i < 65536
-  number-small i lt labels label =
-      omega (arith, number-le i lt labels, label, base-lt images.shape (placement_at images.placements i) (are.placed i no_placement lt), point_count-le-most images.shape)
+  -- the number of a placement
+  pub number-small : (i : ℕ) → i < length images.placements → i < 65536
+  number-small i lt =
+      omega (arith, number-le i lt, are.labels i no_placement lt, base-lt images.shape (placement_at images.placements i) (are.placed i no_placement lt), point_count-le-most images.shape)
 
-  pub few_placements : ((i : ℕ) → i < length images.placements → label_at i < 16) → length images.placements ≤ 65536
-  few_placements labels = elim (cases_eq (length images.placements) 0) [
+  pub few_placements : length images.placements ≤ 65536
+  few_placements = elim (cases_eq (length images.placements) 0) [
     | inl none ↦ omega arith
     | inr some ↦
         let lt : length images.placements - 1 < length images.placements = omega arith in
-        let small = number-small (length images.placements - 1) lt (λ j less. labels j (omega (arith, less))) (labels (length images.placements - 1) lt) in
+        let small = number-small (length images.placements - 1) lt in
         omega (arith, small)
   ]

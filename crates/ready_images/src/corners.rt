@@ -128,7 +128,6 @@ fn reaches_corner(images: &Images, i: usize) -> bool
         CoversCorner images.now.shape (placement_at images.now.placements i) corner →
         IsTrue result }
 {
-    let _count = images.len();
     let shape = images.shape();
     let place = images.place(i);
     if !reaches_side(place.x, place.cols, shape.cols()) {
@@ -176,12 +175,12 @@ fn corner_number(images: &Images, i: usize, corner: u8) -> Option<u64>
     ensures none { IsNone result →
         ¬ CoversCorner images.now.shape (placement_at images.now.placements i) corner }
 {
-    let _count = images.len();
+    let shape = images.shape();
     let symmetry = Symmetry::new(corner)?;
     let mut number = 0;
     let mut power = 1;
     for place in 0..PLACES {
-        let at = point_on(symmetry, images.shape(), place);
+        let at = point_on(symmetry, shape, place);
         let Some(digit) = digit(cell_over(images, i, at)) else {
             return None;
         };

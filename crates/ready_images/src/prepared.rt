@@ -45,7 +45,6 @@ impl<'a> Prepared<'a> {
             (placement_at self.now.ready.now.images.placements self.now.number) + w.offset
             < point_count self.now.ready.now.images.shape) result.wants.now }
     {
-        let _images = self.ready.images();
         self.ready.class_wants(usize::from(self.class))
     }
 }

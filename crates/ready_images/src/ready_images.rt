@@ -85,7 +85,6 @@ impl ReadyImages {
         let pairs = pairs_of(alloc, &images, &made)?;
         let MadeWants { wants, classes } = made;
         let corners = corners_of(alloc, &images)?;
-        let _count = images.len();
         Ok(ReadyImages {
             images,
             wants,
@@ -208,8 +207,10 @@ impl ReadyImages {
     /// What a class asks of points.
     pub fn class_wants(&self, class: usize) -> ClassWants<'_>
         requires { class < length self.now.images.grids }
-        ensures { AreWantsOf self.now.images.shape (grid_at self.now.images.grids class)
+        ensures are { AreWantsOf self.now.images.shape (grid_at self.now.images.grids class)
             result.wants.now }
+        ensures images { AreImages self.now.images }
+        ensures few { length self.now.images.placements ≤ 65536 }
     {
         let ClassRange {
             start,

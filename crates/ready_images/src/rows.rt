@@ -1,6 +1,6 @@
 // The placements of images in rows.
 ghost use Rattle.std.specs.Prelude.{◌≡◌, ◌<◌, ◌≤◌, ◌+◌, ℕ, [], IfOk, IsTrue, OnOk, length, map};
-ghost use Rattle.pattern_images.specs.ImageList.{placement_at};
+ghost use Rattle.pattern_images.specs.ImageList.{AreImages, placement_at};
 ghost use Rattle.ready_images.specs.Placing.{
   AreByClass,
   AreOfClass,
@@ -12,7 +12,7 @@ ghost use Rattle.ready_images.specs.Rows.{AreRowsOf, AreRowsTo};
 ghost use Rattle.ready_images.specs.Wants.{base_of};
 
 use crate::row::Row;
-use kb_geometry::{Label, NoMemory, Point};
+use kb_geometry::{NoMemory, Point};
 use pattern_images::{Images, Place};
 use std::alloc::Global;
 
@@ -28,6 +28,7 @@ pub(crate) fn rows_of(alloc: Global, images: &Images) -> Result<MadeRows, NoMemo
     requires { length images.now.grids ≤ 16 }
     ensures rows { IfOk result (λ made.
         AreRowsOf images.now made.numbers.items made.rows.items) }
+    ensures images { OnOk result (AreImages images.now) }
     ensures few { OnOk result (length images.now.placements ≤ 65536) }
 {
     let classes = by_class(alloc, images)?;
@@ -50,7 +51,6 @@ fn by_class(alloc: Global, images: &Images) -> Result<Vec<Vec<u32>>, NoMemory>
 {
     let mut lists = no_lists(alloc, images.class_count())?;
     for i in 0..images.len() {
-        let _label = label(images, i);
         lists[images.class_of(i)].push(i as u32)?;
     }
     Ok(lists)
@@ -84,7 +84,6 @@ fn add_class(
         made.new.numbers.items) }
     ensures rows { OnOk result (AreRowsTo images.now made.new.numbers.items made.new.rows.items) }
 {
-    let _count = images.len();
     for i in of_class {
         let start = made.numbers.len();
         add_to_rows(class, base(images, *i as usize), start, &mut made.rows)?;
@@ -93,20 +92,12 @@ fn add_class(
     Ok(())
 }
 
-// The label of a placement. The call is made for its clause, by which there are few placements.
-fn label(images: &Images, i: usize) -> Label
-    requires { i < length images.now.placements }
-    ensures { (placement_at images.now.placements i).label < 16 }
-{
-    images.place(i).label
-}
-
 // The number of the upper left point of a placement.
 pub(crate) fn base(images: &Images, i: usize) -> u16
     requires { i < length images.now.placements }
-    ensures { result ≡ base_of images.now.shape (placement_at images.now.placements i) }
+    ensures value { result ≡ base_of images.now.shape (placement_at images.now.placements i) }
+    ensures images { AreImages images.now }
 {
-    let _count = images.len();
     let Place { x, y, .. } = images.place(i);
     images.shape().number(Point { x, y })
 }

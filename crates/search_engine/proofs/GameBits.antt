@@ -80,10 +80,9 @@ module _ (filter : Filter) (skip : ℕ) (games : List Game) where
   }
 
   pub AreAcceptedTo-all : (k word : ℕ) → length games ≤ k → AreAcceptedTo filter skip games k word → AreAccepted filter skip games word
-  AreAcceptedTo-all k word le so_far g game low at = so_far.told g game low (omega (arith, le, slice_get_within games g game at)) at
+  AreAcceptedTo-all k word le so_far g game low lt at = so_far.told g game low (omega (arith, le, slice_get_within games g game at)) at
 
   -- without a condition all are accepted
-  pub AreAccepted-without : (conditions : List Condition) → conditions ≡ filter.conditions → length conditions ≡ 0 → length games ≤ 64 → AreAccepted filter skip games (2 ^ 64 - 1)
-  AreAccepted-without conditions are none few g game low at =
-      let lt : g < 64 = omega (arith, few, slice_get_within games g game at) in
+  pub AreAccepted-without : (conditions : List Condition) → conditions ≡ filter.conditions → length conditions ≡ 0 → AreAccepted filter skip games (2 ^ 64 - 1)
+  AreAccepted-without conditions are none g game low lt at =
       (λ _ k d within. absurd (omega (arith, within, none, ap length are)), λ _. bit_at_ones 64 g lt)

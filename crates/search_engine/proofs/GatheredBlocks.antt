@@ -161,13 +161,14 @@ module _ (query : Query) (shapes : List Shape) (games : List Game) (among : ℕ)
         let p = get_or planes j none in
         (j, p, omega (arith, inside, le), get_or_default planes j p none inside, sym at ∙ get_or-map (λ (q : PlaneGames). q.shape) planes j none game.tree.shape inside)
 
-    pub on_planes-all : (filter : Filter) (skip : ℕ) (new : List (List Begun)) → AreAccepted filter skip games among → AreGathered games (IsOnPlanes query shapes among planes k) [] new → HaveOccurrences query filter shapes skip games new
-    on_planes-all filter skip new accepted gathered g game low there changes of o = (
-      λ h. elim ((gathered g game there changes of o).0 h) [
-        | inl before ↦ absurd (omega (arith, before.1))
-        | inr (j, p, lt, read, (bit, same, shape_there, occurs)) ↦ ((accepted g game low there).0 bit, shape_there, occurs)
-      ],
-      λ (accepts, shape_there, occurs).
-          let (j, p, lt, read, same) = planes_of g game there in
-          (gathered g game there changes of o).1 (inr (j, p, lt, read, ((accepted g game low there).1 accepts, same, shape_there, occurs))),
-    )
+    pub on_planes-all : length games ≤ 64 → (filter : Filter) (skip : ℕ) (new : List (List Begun)) → AreAccepted filter skip games among → AreGathered games (IsOnPlanes query shapes among planes k) [] new → HaveOccurrences query filter shapes skip games new
+    on_planes-all few filter skip new accepted gathered g game low there changes of o =
+        let below : g < 64 = omega (arith, few, slice_get_within games g game there) in (
+          λ h. elim ((gathered g game there changes of o).0 h) [
+            | inl before ↦ absurd (omega (arith, before.1))
+            | inr (j, p, lt, read, (bit, same, shape_there, occurs)) ↦ ((accepted g game low below there).0 bit, shape_there, occurs)
+          ],
+          λ (accepts, shape_there, occurs).
+              let (j, p, lt, read, same) = planes_of g game there in
+              (gathered g game there changes of o).1 (inr (j, p, lt, read, ((accepted g game low below there).1 accepts, same, shape_there, occurs))),
+        )

@@ -13,7 +13,7 @@ use Rattle.game_tree.specs.Tree.{IsTree, Tree, move_number_of}
 use Rattle.game_tree.proofs.MainLines.{IsOnMainLine-below, main_end}
 use Rattle.game_tree.proofs.Trees.{IsGrown-tree}
 use Rattle.capture_board.specs.Deltas.{Deltas}
-use Rattle.node_position.proofs.EachTree.{changes-found, positions-found}
+use Rattle.search_engine.proofs.TreeChanges.{has_changes}
 use Rattle.pattern_images.specs.declared.hit.Hit.{Hit}
 use Rattle.pattern_images.specs.declared.hit.Next.{Next}
 use Rattle.pattern_images.specs.declared.hit.Place.{Place}
@@ -128,19 +128,17 @@ told_board query shape = told query.board
 
 hits_in : (query : Query) (number : ℕ) (tree : Tree) → IsTree tree → (hits : List Hit) × AreHitsIn query number tree hits
 hits_in query number tree is_tree =
-    let positions = positions-found tree is_tree in
-    let changes = changes-found tree is_tree positions.0 positions.1 in
-    let of : AreNodeChanges tree changes.0 = record { positions = positions.0; are_positions = positions.1; net = changes.1; lead = changes.2 } in
+    let (changes, of) = has_changes tree is_tree in
     let placements = some_list query tree.shape in
-    let os = occurrences_in changes.0 placements.0 in
-    let hits = hits_to query number tree is_tree changes.0 of placements.0 placements.1 os (occurrences_are_there changes.0 placements.0) (length os) (omega arith) in (
+    let os = occurrences_in changes placements.0 in
+    let hits = hits_to query number tree is_tree changes of placements.0 placements.1 os (occurrences_are_there changes placements.0) (length os) (omega arith) in (
       hits.0,
       record {
-        changes = changes.0;
+        changes = changes;
         are_changes = of;
         placements = placements.0;
         are_placements = placements.1;
-        are_hits = subst (λ xs. AreHitsOf query number tree changes.0 placements.0 xs hits.0) (take_all (length os) os (omega arith)) hits.1;
+        are_hits = subst (λ xs. AreHitsOf query number tree changes placements.0 xs hits.0) (take_all (length os) os (omega arith)) hits.1;
       },
     )
 

@@ -28,6 +28,7 @@ mod SameShapes
 mod SeveralAnswers
 mod ShapesSought
 mod StepsTaken
+mod TreeChanges
 mod VersionGames
 pub mod WhereFound
 pub mod HitParts

@@ -9,7 +9,7 @@ use Rattle.game_tree.specs.Tree.{IsTree, Tree}
 use Rattle.capture_board.specs.Deltas.{Deltas, node_count, position_at}
 use Rattle.node_position.specs.Games.{AreNodeChanges}
 use Rattle.node_position.specs.Positions.{AreDeltasOf}
-use Rattle.node_position.proofs.EachTree.{changes-found, positions-found}
+use Rattle.search_engine.proofs.TreeChanges.{has_changes}
 use Rattle.node_position.proofs.OneChange.{changes-unique}
 use Rattle.node_position.proofs.OnePosition.{positions-unique}
 use Rattle.pattern_images.specs.declared.cell.PatternCell.{PatternCell}
@@ -172,13 +172,11 @@ same_changes tree is_tree one other are too =
 
 pub told_kept_game : (query : Query) (tree : Tree) → IsTree tree → Told (IsKeptGame query tree)
 told_kept_game query tree is_tree =
-    let positions = positions-found tree is_tree in
-    let changes = changes-found tree is_tree positions.0 positions.1 in
-    let of : AreNodeChanges tree changes.0 = record { positions = positions.0; are_positions = positions.1; net = changes.1; lead = changes.2 } in
+    let (changes, of) = has_changes tree is_tree in
     let placements = some_list query tree.shape in
-    told_as (IsKept changes.0 placements.0) (IsKeptGame query tree)
-    (λ kept. record { changes = changes.0; are_changes = of; placements = placements.0; are_placements = placements.1; kept = kept })
+    told_as (IsKept changes placements.0) (IsKeptGame query tree)
+    (λ kept. record { changes = changes; are_changes = of; placements = placements.0; are_placements = placements.1; kept = kept })
     (λ is.
-    subst (λ ps. IsKept changes.0 ps) (one_list query tree.shape is.placements placements.0 is.are_placements placements.1)
-    (subst (λ (c : Deltas). IsKept c is.placements) (same_changes tree is_tree is.changes changes.0 is.are_changes of) is.kept))
-    (told_kept changes.0 placements.0)
+    subst (λ ps. IsKept changes ps) (one_list query tree.shape is.placements placements.0 is.are_placements placements.1)
+    (subst (λ (c : Deltas). IsKept c is.placements) (same_changes tree is_tree is.changes changes is.are_changes of) is.kept))
+    (told_kept changes placements.0)

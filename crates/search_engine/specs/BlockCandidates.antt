@@ -15,9 +15,10 @@ pub record IsWithBit (before at : ℕ) (set : Type 0) (after : ℕ) : Type 0 whe
   pub here : (bit_at after at ≡ 1) ↔ (set ⊎ (bit_at before at ≡ 1))
   pub others : (j : ℕ) → j ≢ at → bit_at after j ≡ bit_at before j
 
--- of the games behind the first `skip` exactly those that the filter accepts have their bits set
+-- of the games behind the first `skip`, up to the 64th, exactly those that the filter accepts have
+-- their bits set
 abbrev pub AreAccepted : Filter → ℕ → List Game → ℕ → Type 0
-AreAccepted filter skip games word = (g : ℕ) (game : Game) → skip ≤ g →
+AreAccepted filter skip games word = (g : ℕ) (game : Game) → skip ≤ g → g < 64 →
     slice_get games g ≡ Some game → (bit_at word g ≡ 1) ↔ Accepts filter game.tree.info
 
 -- the place is that of the first bit of a word from another place on

@@ -13,7 +13,6 @@ use segment_store::{Block, FinishedGame};
 pub(crate) fn accepted_games(filter: &Filter, block: &Block, skip: usize) -> u64
     ensures { AreAccepted filter.now skip block.now result }
 {
-    let _count = block.len();
     if skip > 0 {
         return met_games(filter, block, skip);
     }

@@ -144,7 +144,6 @@ fn gather_on_shape(
     ensures go_on { OnOk result (AllGoOn ready.now.query block.now room.old.gathered →
         AllGoOn ready.now.query block.now room.new.gathered) }
 {
-    let _count = block.len();
     let Some(on_shape) = ready.find(planes.shape()) else {
         return Ok(());
     };
@@ -173,6 +172,7 @@ fn block_planes<'a>(block: &'a Block, planes: &'a Planes) -> BlockPlanes<'a>
     ensures planes { result.planes.now ≡ planes.now }
     ensures order { IfSome result.order (λ o.
         (o.now.shape ≡ planes.now.shape) × AreOrdersOn block.now o.now) }
+    ensures few { length block.now ≤ 64 }
 {
     BlockPlanes {
         planes,
@@ -292,7 +292,6 @@ impl GameOccurrences {
         ensures others { OnOk result ((g : ℕ) → g ≢ at →
             begun_at self.new g ≡ begun_at self.old g) }
     {
-        let _changes = game.deltas();
         self.lists[at].add(game.runs(), placement, buffers)?;
         Ok(())
     }

@@ -104,7 +104,5 @@ fn corners_at(block: &Block, at: usize) -> &CornerKeys
     ensures { (game : Game) → slice_get block.now at ≡ Some game →
         AreCornersTold game.tree result.now }
 {
-    let game = block.get(at);
-    let (_changes, _shape) = (game.deltas(), game.tree().shape());
-    game.corners()
+    block.get(at).corners()
 }

@@ -206,10 +206,7 @@ impl<'a> Searcher<'a> {
         ensures steps { (game : Game) → slice_get item.now.block.now at ≡ Some game →
             AreStepsIn self.now.ready.now.query (game ∷ []) steps.old steps.new }
     {
-        let _count = item.block.len();
         let game = item.block.get(at);
-        let _shape = game.tree().shape();
-        let _changes = game.deltas();
         if gathered.is_empty(at) {
             return Ok(());
         }

@@ -1,9 +1,10 @@
 -- The shapes of the boards of games, one game after another.
-use Rattle.std.proofs.Common.{◌≡◌, ℕ, inl, inr, ◌+◌, ◌<◌, List, [], ◌∷◌, ◌++◌, get_or, length, map, take, ap, sym, subst, ◌∙◌}
-use Rattle.std.specs.Prelude.{Contains}
-use Rattle.std.proofs.lemmas.List.{map_push, take_more}
-use Rattle.std.proofs.lemmas.List.Elements.{Contains-append_left, Contains-push, Contains-push_cases}
+use Rattle.std.proofs.Common.{◌≡◌, ℕ, inl, inr, ◌+◌, ◌<◌, List, [], ◌∷◌, ◌++◌, get_or, length, map, take, ap, sym, subst, ◌∙◌, arith}
+use Rattle.std.specs.Prelude.{All, Contains}
+use Rattle.std.proofs.lemmas.List.{get_or-map, length-map, map_push, take_more}
+use Rattle.std.proofs.lemmas.List.Elements.{All-push, Contains-append_left, Contains-push, Contains-push_cases}
 use Rattle.kb_geometry.specs.declared.shape.Shape.{Shape}
+use Rattle.game_tree.specs.Tree.{IsTree}
 use Rattle.node_position.specs.Games.{Game}
 use Rattle.segment_store.specs.BoardShapes.{AreShapesWith, HaveShapes}
 
@@ -33,3 +34,14 @@ pub HaveShapes-more : {X : Type 0} (v : X → Game) (xs : List X) (k : ℕ) (x :
 HaveShapes-more v xs k x shape old new lt at is so_far with_it =
     let next : map v (take (k + 1) xs) ≡ map v (take k xs) ++ v x ∷ [] = ap (map v) (take_more xs k x lt) ∙ map_push v (take k xs) (get_or xs k x) ∙ ap (λ y. map v (take k xs) ++ v y ∷ []) (sym at) in
     subst (λ gs. HaveShapes gs new) (sym next) (HaveShapes-push (map v (take k xs)) (v x) old new so_far (subst (λ s. AreShapesWith s old new) is with_it))
+
+-- one game more that is a tree
+pub trees-more : {X : Type 0} (v : X → Game) (xs : List X) (k : ℕ) (x : X) → k < length xs → x ≡ get_or xs k x → IsTree (v x).tree → All (λ (g : Game). IsTree g.tree) (map v (take k xs)) → All (λ (g : Game). IsTree g.tree) (map v (take (k + 1) xs))
+trees-more v xs k x lt at is so_far =
+    let next : map v (take (k + 1) xs) ≡ map v (take k xs) ++ v x ∷ [] = ap (map v) (take_more xs k x lt) ∙ map_push v (take k xs) (get_or xs k x) ∙ ap (λ y. map v (take k xs) ++ v y ∷ []) (sym at) in
+    subst (λ gs. All (λ (g : Game). IsTree g.tree) gs) (sym next) (All-push (λ (g : Game). IsTree g.tree) (map v (take k xs)) (v x) so_far is)
+
+-- the game at a place
+pub tree-at : {X : Type 0} (v : X → Game) (xs : List X) (k : ℕ) (x : X) → k < length xs → x ≡ get_or xs k x → All (λ (g : Game). IsTree g.tree) (map v xs) → IsTree (v x).tree
+tree-at v xs k x lt at are =
+    subst (λ (g : Game). IsTree g.tree) (get_or-map v xs k x (v x) lt ∙ ap v (sym at)) (are k (v x) (omega (arith, lt, length-map xs v)))

@@ -2,7 +2,7 @@
 use Rattle.std.specs.Prelude.{◌≡◌, ℕ, List, Option, ℤ}
 use Rattle.kb_geometry.specs.declared.stone.Outcome.{Outcome}
 use Rattle.game_tree.specs.Result.{outcome_of}
-use Rattle.game_tree.specs.Tree.{Tree}
+use Rattle.game_tree.specs.Tree.{IsTree, Tree}
 use Rattle.capture_board.specs.Deltas.{Deltas}
 use Rattle.final_index.specs.declared.ever_sets.EverSets.{EverSets}
 use Rattle.final_index.specs.Ever.{AreSetsOf}
@@ -39,10 +39,15 @@ abbrev pub HadCornerNumber : Game → ℕ → ℕ → Type 0
 HadCornerNumber game corner key = (changes : Deltas) → AreNodeChanges game.tree changes →
     HadNumber changes corner key
 
+-- there are changes at the nodes of the tree
+abbrev pub HasChanges : Tree → Type 0
+HasChanges tree = (changes : Deltas) × AreNodeChanges tree changes
+
 -- What is kept beside a tree is the tree's: its changes, its day, the class of its result, and the
 -- canonical form of its signature.
 pub record IsOfItsTree (tree : Tree) (changes : Deltas) (day : Option ℤ) (outcome : Outcome)
     (form : List ℕ) : Type 0 where
+  pub is_tree : IsTree tree
   pub are_changes : AreNodeChanges tree changes
   pub is_day : IsDayOf tree.info.date day
   pub is_outcome : outcome ≡ outcome_of tree.info.outcome_text

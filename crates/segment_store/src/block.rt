@@ -15,6 +15,8 @@ ghost use Rattle.std.specs.Prelude.{
 };
 ghost use Rattle.std.specs.Arc.{arc_value};
 ghost use Rattle.std.specs.List.{slice_get};
+ghost use Rattle.game_tree.specs.Tree.{IsTree};
+ghost use Rattle.node_position.specs.Games.{Game};
 ghost use Rattle.segment_store.specs.BoardShapes.{AreDifferent, AreShapesWith, HaveShapes};
 ghost use Rattle.segment_store.specs.Orders.{AreOrdersOn};
 ghost use Rattle.segment_store.specs.Planes.{AreMadeFor, ArePlanesFor, ArePlanesOf};
@@ -47,6 +49,7 @@ pub struct Block {
 impl Model for Block {
     ghost use Rattle.std.specs.Prelude.{List, map, length, ◌<◌, ◌≤◌, All};
     ghost use Rattle.std.specs.Arc.{arc_value};
+    ghost use Rattle.game_tree.specs.Tree.{IsTree};
     ghost use Rattle.node_position.specs.Games.{Game};
     ghost use Rattle.segment_store.specs.BoardShapes.{HaveShapes};
     ghost use Rattle.segment_store.specs.Orders.{AreOrdersOn};
@@ -59,7 +62,8 @@ impl Model for Block {
     ghost invariant = { λ b. (0 < length b.games.items) × (length b.games.items ≤ 64)
         × HaveShapes (map arc_value b.games.items) b.shapes.items
         × ArePlanesOf (map arc_value b.games.items) b.planes.items
-        × All (AreOrdersOn (map arc_value b.games.items)) b.orders.items };
+        × All (AreOrdersOn (map arc_value b.games.items)) b.orders.items
+        × All (λ (g : Game). IsTree g.tree) (map arc_value b.games.items) };
 }
 
 /// A block of a segment, and the number that its first game has there, from 0.
@@ -126,7 +130,8 @@ impl Block {
     /// For each shape of the boards the planes of the games: for each cell and point a bit for each
     /// game that had the cell there at some node. Games on other boards have no bit.
     pub fn planes(&self) -> &[Planes]
-        ensures { ArePlanesOf self.now result.now }
+        ensures value { ArePlanesOf self.now result.now }
+        ensures few { length self.now ≤ 64 }
     {
         self.planes.as_slice()
     }
@@ -134,8 +139,9 @@ impl Block {
     /// The planes of order of its games on boards of a shape: where a game has no bit, a point had a
     /// stone at no node at which its neighbour was empty. A block of few games has none.
     pub fn order_on(&self, shape: Shape) -> Option<&OrderPlanes>
-        ensures { IfSome result (λ order.
+        ensures value { IfSome result (λ order.
             (order.now.shape ≡ shape) × AreOrdersOn self.now order.now) }
+        ensures few { length self.now ≤ 64 }
     {
         order_with(self.orders.as_slice(), shape)
     }
@@ -143,7 +149,9 @@ impl Block {
     /// The game at this place in the block, from 0.
     pub fn get(&self, at: usize) -> &FinishedGame
         requires { at < length self.now }
-        ensures { slice_get self.now at ≡ Some result.now }
+        ensures value { slice_get self.now at ≡ Some result.now }
+        ensures tree { IsTree result.now.tree }
+        ensures few { length self.now ≤ 64 }
     {
         &*self.games[at]
     }
@@ -227,6 +235,7 @@ fn joined_order(
 // The shapes of the boards of these games, each once.
 fn shapes_of(alloc: Global, games: &[Arc<FinishedGame>]) -> Result<Vec<Shape>, NoMemory>
     ensures all { IfOk result (λ shapes. HaveShapes (map arc_value games.now) shapes.items) }
+    ensures trees { IfOk result (λ _. All (λ (g : Game). IsTree g.tree) (map arc_value games.now)) }
     ensures different { IfOk result (λ shapes. AreDifferent shapes.items) }
 {
     let mut shapes = Vec::new(alloc);

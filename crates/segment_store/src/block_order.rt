@@ -67,8 +67,6 @@ fn add_game(alloc: Global, order: &mut OrderPlanes, game: &FinishedGame) -> Resu
     requires { order.old.count < 64 }
     ensures { OnOk result (HasOrderMore game.now.tree order.old order.new) }
 {
-    // The tree has one list of changes.
-    let _tree = game.tree().shape();
     if !is_on(game, order.shape()) {
         order.push_other();
         return Ok(());

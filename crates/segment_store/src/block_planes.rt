@@ -15,6 +15,7 @@ ghost use Rattle.std.specs.Prelude.{
   IsTrue,
 };
 ghost use Rattle.std.specs.Arc.{arc_value};
+ghost use Rattle.game_tree.specs.Tree.{IsTree};
 ghost use Rattle.segment_store.specs.Planes.{AreMadeFor, ArePlanesFor, IsGameAdded};
 
 use crate::finished::FinishedGame;
@@ -66,7 +67,8 @@ fn add_game(planes: &mut Planes, game: &FinishedGame)
 
 // Whether the board of a game has this shape.
 pub(crate) fn is_on(game: &FinishedGame, shape: Shape) -> bool
-    ensures { IsTrue result ↔ (game.now.tree.shape ≡ shape) }
+    ensures shape { IsTrue result ↔ (game.now.tree.shape ≡ shape) }
+    ensures tree { IsTree game.now.tree }
 {
     game.tree().shape() == shape
 }

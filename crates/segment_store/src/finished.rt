@@ -4,6 +4,7 @@ ghost use Rattle.std.specs.Arc.{arc_str_bytes};
 ghost use Rattle.kb_geometry.specs.declared.stone.Cell.{Cell};
 ghost use Rattle.kb_geometry.specs.Board.{point_count};
 ghost use Rattle.game_tree.specs.Result.{outcome_of};
+ghost use Rattle.game_tree.specs.Tree.{IsTree};
 ghost use Rattle.final_index.specs.Ever.{set_of};
 ghost use Rattle.info_filter.specs.Day.{IsDayOf};
 ghost use Rattle.node_position.specs.Games.{AreNodeChanges};
@@ -11,6 +12,7 @@ ghost use Rattle.segment_store.specs.Finished.{
   AreCornersOfTree,
   AreRunsOfTree,
   AreSetsOfTree,
+  HasChanges,
   IsCanonicalOf,
 };
 
@@ -68,7 +70,7 @@ impl FinishedGame {
         ensures { IfOk result (λ game.
             game ≡ record { file = arc_str_bytes file; place = place; tree = tree }) }
     {
-        let indexes = Indexes::of(alloc, &tree, &deltas)?;
+        let indexes = Indexes::of(alloc, &deltas)?;
         let day = day_of(tree.info().date());
         let outcome = tree.info().outcome();
         let canonical = canonical(&signature(&tree), tree.shape());
@@ -107,7 +109,8 @@ impl FinishedGame {
 
     /// Its tree.
     pub fn tree(&self) -> &GameTree
-        ensures { result.now ≡ self.now.tree }
+        ensures value { result.now ≡ self.now.tree }
+        ensures tree { IsTree self.now.tree }
     {
         &self.tree
     }
@@ -130,14 +133,16 @@ impl FinishedGame {
 
     /// The runs of nodes at which each point has one cell.
     pub fn runs(&self) -> &RunIndex
-        ensures { AreRunsOfTree self.now.tree result.now }
+        ensures value { AreRunsOfTree self.now.tree result.now }
+        ensures shape { result.now.shape ≡ self.now.tree.shape }
     {
         &self.indexes.runs
     }
 
     /// The numbers that the corners of the board had.
     pub fn corners(&self) -> &CornerKeys
-        ensures { AreCornersOfTree self.now.tree result.now }
+        ensures value { AreCornersOfTree self.now.tree result.now }
+        ensures changes { HasChanges self.now.tree }
     {
         &self.indexes.corners
     }

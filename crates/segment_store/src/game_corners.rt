@@ -33,7 +33,5 @@ pub(crate) fn corner_index_of(
 fn index_of_game(alloc: Global, game: &FinishedGame) -> Result<CornerIndex, NoMemory>
     ensures { IfOk result (AreCornersOfGames (game.now ∷ [])) }
 {
-    // Its tree has changes, so that what is told of all of them is told of some.
-    let _changes = game.deltas();
     CornerIndex::of_game(alloc, game.corners())
 }

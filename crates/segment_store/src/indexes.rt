@@ -1,13 +1,13 @@
 // What searches ask of a game, beside its tree.
-ghost use Rattle.std.specs.Prelude.{IfOk};
-ghost use Rattle.node_position.specs.Games.{AreNodeChanges};
-ghost use Rattle.segment_store.specs.Finished.{AreIndexesOf};
+ghost use Rattle.std.specs.Prelude.{◌≡◌, IfOk};
+ghost use Rattle.final_index.specs.Ever.{AreSetsOf};
+ghost use Rattle.capture_index.specs.NodePositions.{positions_of};
+ghost use Rattle.corner_index.specs.Corners.{AreNumbersOfGame};
 
 use capture_board::NodeDeltas;
 use capture_index::RunIndex;
 use corner_index::CornerKeys;
 use final_index::EverSets;
-use game_tree::GameTree;
 use kb_geometry::NoMemory;
 use std::alloc::Global;
 
@@ -20,18 +20,12 @@ pub(crate) struct Indexes {
 }
 
 impl Indexes {
-    // Those of a tree with these changes.
-    pub(crate) fn of(
-        alloc: Global,
-        tree: &GameTree,
-        deltas: &NodeDeltas,
-    ) -> Result<Indexes, NoMemory>
-        requires { AreNodeChanges tree.now deltas.now }
-        ensures { IfOk result (λ indexes.
-            AreIndexesOf tree.now indexes.ever indexes.runs indexes.corners) }
+    // Those of a game with these changes.
+    pub(crate) fn of(alloc: Global, deltas: &NodeDeltas) -> Result<Indexes, NoMemory>
+        ensures sets { IfOk result (λ indexes. AreSetsOf deltas.now indexes.ever) }
+        ensures runs { IfOk result (λ indexes. indexes.runs ≡ positions_of deltas.now) }
+        ensures corners { IfOk result (λ indexes. AreNumbersOfGame deltas.now indexes.corners) }
     {
-        // The tree has one list of changes.
-        let _tree = tree.shape();
         Ok(Indexes {
             ever: EverSets::of(deltas),
             runs: RunIndex::of(alloc, deltas)?,

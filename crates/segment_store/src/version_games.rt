@@ -1,5 +1,5 @@
 // All games of a version.
-ghost use Rattle.std.specs.Prelude.{◌≡◌, ◌++◌, IfOk, OnOk, map};
+ghost use Rattle.std.specs.Prelude.{◌≡◌, ◌≤◌, ◌++◌, IfOk, OnOk, length, map};
 ghost use Rattle.version_publisher.specs.Contents.{items_in};
 
 use crate::block::Block;
@@ -14,7 +14,9 @@ pub fn games<'a>(
     alloc: Global,
     version: &'a Version<Segment>,
 ) -> Result<Vec<&'a FinishedGame>, NoMemory>
-    ensures { IfOk result (λ games. map (λ g. g.now) games.items ≡ items_in version.now.parts) }
+    ensures value { IfOk result (λ games.
+        map (λ g. g.now) games.items ≡ items_in version.now.parts) }
+    ensures few { length (items_in version.now.parts) ≤ 400000 }
 {
     let mut games = Vec::new(alloc);
     for part in version.parts() {

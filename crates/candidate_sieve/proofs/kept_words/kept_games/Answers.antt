@@ -1,99 +1,72 @@
-use Rattle.std.proofs.Common.{◌≡◌, ℕ, ◌+◌, ◌<◌, List, ap, arith, bit_and, length, slice_index, subst, sym, ◌∙◌}
-use Rattle.std.specs.Int.{bit_not, w64}
-use Rattle.kb_geometry.specs.Board.{point_count}
-use Rattle.kb_geometry.proofs.Shapes.{point_count-le-most}
-use Rattle.pattern_images.specs.ImageList.{no_placement}
+use Rattle.std.proofs.Common.{◌≡◌, ◌↔◌, ℕ, ◌+◌, ◌<◌, List, ap, arith, bit_and, length, slice_index, subst, subst₂, sym, ◌∙◌}
+use Rattle.std.specs.Int.{bit_at, bit_not, w64}
+use Rattle.capture_board.specs.Deltas.{Deltas}
+use Rattle.pattern_images.specs.ImageList.{grid_at}
 use Rattle.ready_images.specs.declared.row.Row.{Row}
-use Rattle.ready_images.specs.Rows.{EndAt, IsRowIn, row_at}
-use Rattle.ready_images.proofs.PlacementLists.{end-none, end-of, end-once}
+use Rattle.ready_images.specs.Rows.{AreRowsOf, EndAt, row_at}
+use Rattle.ready_images.specs.Wants.{AreWantsOf}
+use Rattle.ready_images.proofs.PlacementLists.{end-none, end-once}
+use Rattle.final_index.specs.Planes.{PlaneGames}
 use Rattle.candidate_sieve.specs.BlockGames.{HaveEach}
-use Rattle.candidate_sieve.proofs.KeptRows.{AreKeptTo, kept-all, kept-early, kept-row, kept-start, part-in_range}
-use Rattle.candidate_sieve.proofs.RowsSieved.{sliced-number}
+use Rattle.candidate_sieve.specs.KeptWords.{HasNumbers, IsMetInRows}
+use Rattle.candidate_sieve.proofs.KeptRows.{AreKeptTo, kept-all, kept-early, kept-start}
+use Rattle.candidate_sieve.proofs.SpansKept.{kept-span}
 use Rattle.candidate_sieve.proofs.kept_words.kept_games.Goals as goal
 
-pub loop-row-init : goal.loop-row-init
-loop-row-init c = (0, end-none c.args.ready.now.rows, kept-start c.args.ready.now.images c.args.planes.now c.args.corners.now c.args.ready.now.numbers)
+pub loop-next-init : goal.loop-next-init
+loop-next-init c = (0, omega arith, end-none c.rows-rows.result.now, kept-start c.args.ready.now.images c.args.planes.now c.args.corners.now c.args.ready.now.numbers)
 
-pub fill_room-requires : goal.fill_room-requires
-fill_room-requires c = record {
-  ever_empty = λ g p lt one below. ((c.ever_empty-ever_empty.ensures g lt).0 one).1 p below;
-  count = c.numbers_of.ensures.count;
-  in_order = c.wants_of.ensures.are.in_order;
-  on_board = λ k d lt. omega (arith, c.wants_of.ensures.on_board k d lt, c.numbers_of.ensures.count, ap point_count c.requires.shape);
-  small = omega (arith, c.numbers_of.ensures.on_board, c.numbers_of.ensures.count, point_count-le-most c.args.ready.now.images.shape);
-}
-
-pub met_by-kept-requires-clause-in_range : goal.met_by-kept-requires-clause-in_range
-met_by-kept-requires-clause-in_range c =
-    let made = c.rows-row-items.ensures.are in
+pub loop-next-preserved : goal.loop-next-preserved
+loop-next-preserved c =
     let images = c.args.ready.now.images in
     let numbers = c.args.ready.now.numbers in
-    let rows = c.args.ready.now.rows in
-    let index = c.loop-row.row-index in
-    let within : index < length rows = omega (arith, c.loop-row-test.true, ap length c.rows-row-items.ensures.value) in
-    let row = row_at c.rows-row-items.result.now index in
-    let same : row_at rows index ≡ row = ap (λ (rs : List Row). row_at rs index) (sym c.rows-row-items.ensures.value) in
-    let is = subst (IsRowIn images numbers) same (made.are_rows.each index within) in
-    part-in_range images numbers made.in_range row is c.numbers_of.result.now c.numbers_of.ensures.value
-
-pub met_by-kept-requires-clause-placed : goal.met_by-kept-requires-clause-placed
-met_by-kept-requires-clause-placed c =
-    let made = c.rows-row-items.ensures.are in
-    let images = c.args.ready.now.images in
-    let numbers = c.args.ready.now.numbers in
-    let rows = c.args.ready.now.rows in
-    let index = c.loop-row.row-index in
-    let within : index < length rows = omega (arith, c.loop-row-test.true, ap length c.rows-row-items.ensures.value) in
-    let row = row_at c.rows-row-items.result.now index in
-    let same : row_at rows index ≡ row = ap (λ (rs : List Row). row_at rs index) (sym c.rows-row-items.ensures.value) in
-    let is = subst (IsRowIn images numbers) same (made.are_rows.each index within) in
-    λ k lt. c.rows-row-items.ensures.images.placed (slice_index c.numbers_of.result.now k) no_placement (part-in_range images numbers made.in_range row is c.numbers_of.result.now c.numbers_of.ensures.value k lt)
-
-pub loop-row-preserved : goal.loop-row-preserved
-loop-row-preserved c =
-    let made = c.rows-row-items.ensures.are in
-    let images = c.args.ready.now.images in
-    let numbers = c.args.ready.now.numbers in
-    let rows = c.args.ready.now.rows in
     let planes = c.args.planes.now in
     let corners = c.args.corners.now in
-    let present = c.present-present.result in
-    let kept = c.loop-row.kept in
-    let index = c.loop-row.row-index in
-    let within : index < length rows = omega (arith, c.loop-row-test.true, ap length c.rows-row-items.ensures.value) in
-    let row = row_at c.rows-row-items.result.now index in
-    let same : row_at rows index ≡ row = ap (λ (rs : List Row). row_at rs index) (sym c.rows-row-items.ensures.value) in
-    let start : c.loop-row.invariant.0 ≡ row.start = end-once rows index c.loop-row.invariant.0 (row_at rows index).start c.loop-row.invariant.1 (made.are_rows.parted index within) ∙ ap (λ (r : Row). r.start) same in
-    let is = subst (IsRowIn images numbers) same (made.are_rows.each index within) in
-    let wants = c.wants_of.result.now in
-    let part = c.numbers_of.result.now in (
-      row.start + row.count,
-      end-of rows index (row.start + row.count) (ap (λ (r : Row). r.start + r.count) (sym same)),
-      kept-row images planes corners numbers present c.present-present.ensures c.rows-row-items.ensures.images c.requires.shape made.in_range row is wants c.wants_of.ensures.are kept c.loop-row.auto.kept-fits.fits c.deref.result.now
-          (λ k lt. subst (λ (ws : List ℕ). HaveEach planes.games (row.base + k) wants (bit_and present (bit_not w64 kept)) (length wants) (slice_index ws k)) (sym c.deref.ensures.value) (c.in_ok-fill_room.ensures.games k (omega (arith, lt, c.numbers_of.ensures.count))))
-          part c.numbers_of.ensures.count (λ k lt. ap (λ (ns : List ℕ). slice_index ns k) c.numbers_of.ensures.value ∙ sliced-number numbers row.start row.count k lt)
-          c.met_by-kept.result c.met_by-kept.ensures.exact c.met_by-kept.ensures.among
-          (subst (λ (n : ℕ). AreKeptTo images planes corners numbers n kept) start c.loop-row.invariant.2),
-    )
+    let rows = c.rows-rows.result.now in
+    let value = sym c.rows-rows.ensures.value in
+    let begin = c.span_from-span.ensures.begin in
+    let made = subst (AreRowsOf images numbers) value c.rows-rows.ensures.are in
+    let kept = c.loop-next.kept in
+    let next = c.loop-next.next in
+    let span = c.span_from-span.ensures.are in
+    let end = c.span_from-span.result.end in
+    let sieve = c.span_sieve.result in
+    let wants = sieve.wants.now in
+    let words = c.deref.result.now in
+    let met = c.met_in_rows-kept.result in
+    let left = bit_and c.present-present.result (bit_not w64 kept) in
+    let long : length words ≡ sieve.count = ap length c.deref.ensures.value ∙ c.in_ok-fill_room.ensures.count in
+    let base : sieve.base ≡ (row_at rows next).base = c.span_sieve.ensures.base ∙ ap (λ (n : ℕ). (row_at c.args.ready.now.rows n).base) begin ∙ ap (λ (rs : List Row). (row_at rs next).base) value in
+    let are = subst₂ (λ (rs : List Row) (f : ℕ). AreWantsOf images.shape (grid_at images.grids (row_at rs f).class) wants) value begin c.span_sieve.ensures.wants in
+    let to_end = subst (λ (rs : List Row). (q : ℕ) → end ≡ q + 1 → sieve.base + sieve.count ≡ (row_at rs q).base + (row_at rs q).count) value c.span_sieve.ensures.to_end in
+    let all = kept-span images planes corners numbers c.present-present.result c.present-present.ensures c.rows-rows.ensures.images c.requires.shape rows made next end span wants are kept c.loop-next.auto.kept-fits.fits
+    words (λ q is. omega (arith, to_end q is, base, long))
+    (λ k lt.
+    let room = c.in_ok-fill_room.ensures.games k (omega (arith, lt, long)) in
+    subst₂ (λ (b : ℕ) (ws : List ℕ). HaveEach planes.games (b + k) wants left (length wants) (slice_index ws k)) base (sym c.deref.ensures.value)
+    (subst (λ (p : PlaneGames). HaveEach p.games (sieve.base + k) wants left (length wants) (slice_index c.fill_room.new.room.items k)) c.span_sieve.ensures.planes room))
+    met
+    (subst₂ (λ (rs : List Row) (f : ℕ). (g : ℕ) (changes : Deltas) → g < 64 → changes.shape ≡ images.shape → HasNumbers corners g changes → (bit_at met g ≡ 1) ↔ IsMetInRows images.placements rs numbers words f end g changes) value begin c.met_in_rows-kept.ensures.exact)
+    c.met_in_rows-kept.ensures.among c.loop-next.invariant.0 c.loop-next.invariant.2 c.loop-next.invariant.3 in
+    (all.0, span.within, all.1, all.2)
 
 pub returns-then-left-eq0 : goal.returns-then-left-eq0
 returns-then-left-eq0 c =
-    let made = c.rows-row-items.ensures.are in
     let images = c.args.ready.now.images in
     let numbers = c.args.ready.now.numbers in
-    let rows = c.args.ready.now.rows in
-    let index = c.loop-row.row-index in
-    let within : index < length rows = omega (arith, c.loop-row-test.true, ap length c.rows-row-items.ensures.value) in
-    let start : c.loop-row.invariant.0 ≡ (row_at rows index).start = end-once rows index c.loop-row.invariant.0 (row_at rows index).start c.loop-row.invariant.1 (made.are_rows.parted index within) in
-    kept-early images c.args.planes.now c.args.corners.now numbers c.present-present.result c.present-present.ensures rows made c.loop-row.kept c.loop-row.invariant.0 (omega (arith, start, (made.are_rows.each index within).within)) c.loop-row.auto.kept-fits.fits c.if-left-eq0.true c.loop-row.invariant.2
+    let rows = c.rows-rows.result.now in
+    let made = subst (AreRowsOf images numbers) (sym c.rows-rows.ensures.value) c.rows-rows.ensures.are in
+    let next = c.loop-next.next in
+    let start : c.loop-next.invariant.0 ≡ (row_at rows next).start = end-once rows next c.loop-next.invariant.0 (row_at rows next).start c.loop-next.invariant.2 (made.are_rows.parted next c.loop-next-test.true) in
+    kept-early images c.args.planes.now c.args.corners.now numbers c.present-present.result c.present-present.ensures rows made c.loop-next.kept c.loop-next.invariant.0 (omega (arith, start, (made.are_rows.each next c.loop-next-test.true).within)) c.loop-next.auto.kept-fits.fits c.if-left-eq0.true c.loop-next.invariant.3
 
 pub returns : goal.returns
 returns c =
-    let made = c.rows-row-items.ensures.are in
     let images = c.args.ready.now.images in
     let numbers = c.args.ready.now.numbers in
-    let rows = c.args.ready.now.rows in
-    let all : c.loop-row.row-index ≡ length rows = omega (arith, c.loop-row-test.false, c.loop-row.auto.row-index-end, ap length c.rows-row-items.ensures.value) in
-    let whole = end-once rows (length rows) c.loop-row.invariant.0 (length numbers) (subst (λ (r : ℕ). EndAt rows r c.loop-row.invariant.0) all c.loop-row.invariant.1) made.are_rows.whole in
-    kept-all images c.args.planes.now c.args.corners.now numbers c.present-present.result c.present-present.ensures rows made c.loop-row.kept
-    (subst (λ (n : ℕ). AreKeptTo images c.args.planes.now c.args.corners.now numbers n c.loop-row.kept) whole c.loop-row.invariant.2)
+    let rows = c.rows-rows.result.now in
+    let made = subst (AreRowsOf images numbers) (sym c.rows-rows.ensures.value) c.rows-rows.ensures.are in
+    let all : c.loop-next.next ≡ length rows = omega (arith, c.loop-next-test.false, c.loop-next.invariant.1) in
+    let whole = end-once rows (length rows) c.loop-next.invariant.0 (length numbers) (subst (λ (r : ℕ). EndAt rows r c.loop-next.invariant.0) all c.loop-next.invariant.2) made.are_rows.whole in
+    kept-all images c.args.planes.now c.args.corners.now numbers c.present-present.result c.present-present.ensures rows made c.loop-next.kept
+    (subst (λ (n : ℕ). AreKeptTo images c.args.planes.now c.args.corners.now numbers n c.loop-next.kept) whole c.loop-next.invariant.3)

@@ -11,5 +11,5 @@ loop-point-preserved c = begun-more c.args.runs.now c.args.points.now c.loop-poi
 
 pub returns : goal.returns
 returns c =
-    let all : c.loop-point.point ≡ point_count c.args.runs.now.shape = omega (arith, c.loop-point-test.false, c.loop-point.auto.point-end, c.count-point-end.ensures.value, ap point_count c.shape.ensures) in
+    let all : c.loop-point.point ≡ point_count c.args.runs.now.shape = omega (arith, c.loop-point-test.false, c.loop-point.auto.point-end, c.count-point-end.ensures.value, ap point_count c.requires) in
     begun-end c.args.runs.now c.args.points.now c.loop-point.point c.loop-point.nodes.items all c.loop-point.invariant

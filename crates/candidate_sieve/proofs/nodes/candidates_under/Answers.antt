@@ -13,7 +13,7 @@ returns-clause-exact c n =
     let images = c.args.images.now in
     let same = kept-same c.in_ok-nodes.nodes.items c.sort_unstable.new.self.items c.dedup.new.self.items c.sort_unstable.ensures.permutation c.sort_unstable.ensures.sorted c.dedup.ensures.filtered n in
     let told = begun-told c.args.runs.now c.args.points.now images.placements
-    (subst (λ (s : Shape). All (IsPlacedOn s) images.placements) c.requires.shape c.len-count.ensures.images.placed)
+    (subst (λ (s : Shape). All (IsPlacedOn s) images.placements) c.requires.shape c.shape.ensures.images.placed)
     (subst (λ (s : Shape). AreAsked s images.placements c.args.points.now) c.requires.shape c.requires.points)
     c.in_ok-nodes.nodes.items c.in_ok-nodes.ensures n in
     (λ h. told.0 (same.0 h), λ h. same.1 (told.1 h))

@@ -15,9 +15,9 @@ returns-then-is_outside c = (
 
 pub returns : goal.returns
 returns c = (
-  λ t. allows-point c.shape.result c.args.images.now.shape (placement_at c.args.images.now.placements c.args.i) c.shape.ensures _ _
+  λ t. allows-point c.shape.result c.args.images.now.shape (placement_at c.args.images.now.placements c.args.i) c.shape.ensures.value _ _
       c.point-p.result c.point-p.ensures.only (c.allows_at.ensures.0 t),
   λ h. c.allows_at.ensures.1 (h c.point-p.result
-      (subst (λ (s : Shape). IsOnBoard s c.point-p.result) c.shape.ensures c.point-p.ensures.on_board)
-      (subst (λ (s : Shape). number_of s c.point-p.result ≡ c.args.change.point) c.shape.ensures c.point-p.ensures.inverse)),
+      (subst (λ (s : Shape). IsOnBoard s c.point-p.result) c.shape.ensures.value c.point-p.ensures.on_board)
+      (subst (λ (s : Shape). number_of s c.point-p.result ≡ c.args.change.point) c.shape.ensures.value c.point-p.ensures.inverse)),
 )

@@ -30,7 +30,7 @@ loop-dx-preserved c = λ dx lt.
           let point : c.number-point.result ≡ number_under shape placement now c.args.dy =
           c.number-point.ensures.value
           ∙ ap (λ (s : Shape). number_of s (point_of (c.place-place.result.x + now) (c.place-place.result.y + c.args.dy)))
-          c.shape-shape.ensures
+          c.shape-shape.ensures.value
           ∙ ap (λ x. number_of shape (point_of (x + now) (c.place-place.result.y + c.args.dy))) c.place-place.ensures.value.column
           ∙ ap (λ y. number_of shape (point_of (placement.x + now) (y + c.args.dy))) c.place-place.ensures.value.row in
           subst (λ k. Allows (cell_in placement.grid k c.args.dy)

@@ -18,8 +18,8 @@ loop-child-init c =
     record {
       in_range = c.passed_to-here.ensures.in_range;
       behind = c.passed_to-here.ensures.behind;
-      moves = c.passed_to-here.ensures.moves;
-      way = c.passed_to-here.ensures.way c.args.deltas.now (placement_at c.args.images.now.placements c.args.i) c.place-place.ensures.value c.requires.holds c.requires.held_to;
+      moves = c.passed_to-here.ensures.moves c.shape.ensures.tree;
+      way = c.passed_to-here.ensures.way c.shape.ensures.tree c.args.deltas.now (placement_at c.args.images.now.placements c.args.i) c.place-place.ensures.value c.requires.holds c.requires.held_to;
     }
 
 pub next_by-requires-clause-inside : goal.next_by-requires-clause-inside

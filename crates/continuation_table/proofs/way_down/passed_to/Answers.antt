@@ -14,8 +14,8 @@ loop-here-init c =
     record {
       in_range = c.requires.node;
       behind = omega arith;
-      moves = omega arith;
-      way = λ deltas placement is holds held_to.
+      moves = λ good. omega arith;
+      way = λ good deltas placement is holds held_to.
           subst (λ (now : Bool). IsWayDown c.args.tree.now deltas placement c.args.node c.args.node now)
           (sym (eq-eqb count count refl))
           (IsWayDown-start c.args.tree.now deltas placement c.args.node holds);
@@ -26,26 +26,24 @@ loop-here-preserved c =
     let tree = c.args.tree.now in
     let here = c.loop-here.here in
     let count = move_number_of tree c.args.node in
-    let good = c.node_count-count.ensures.tree in
     let main = (c.main_count.ensures (here + 1)).0 (omega (arith, c.loop-here-test.true)) in
-    let more = moves-more tree good (here + 1) here (main-parent tree good here main) in
     record {
-      in_range = main-in_range tree good here main;
+      in_range = main-in_range tree here main;
       behind = omega (arith, c.loop-here.invariant.behind);
-      moves = omega (arith, more, c.loop-here.invariant.moves);
-      way = λ deltas placement is holds held_to.
+      moves = λ good. omega (arith, moves-more tree good (here + 1) here (main-parent tree good here main), c.loop-here.invariant.moves good);
+      way = λ good deltas placement is holds held_to.
           IsWayDown-more tree deltas placement c.args.node here (move_number_of tree here == count)
-          (c.loop-here.invariant.way deltas placement is holds held_to)
+          (c.loop-here.invariant.way good deltas placement is holds held_to)
           (here + 1) (main-first_child tree good here main)
           (λ inside. let no : false ≡ true = sym c.if-has_move_inside.false ∙ (c.has_move_inside.ensures placement is).1 inside in absurd cc)
           (held_to (here + 1) (omega (arith, c.loop-here.invariant.behind)) (omega (arith, c.loop-here-test.true)))
           (move_number_of tree (here + 1) == count)
-          (quiet-more count (move_number_of tree here) (move_number_of tree (here + 1)) (node_at tree (here + 1)).played c.loop-here.invariant.moves more);
+          (quiet-more count (move_number_of tree here) (move_number_of tree (here + 1)) (node_at tree (here + 1)).played (c.loop-here.invariant.moves good) (moves-more tree good (here + 1) here (main-parent tree good here main)));
     }
 
 pub has_move_inside-requires-clause-node : goal.has_move_inside-requires-clause-node
 has_move_inside-requires-clause-node c =
-    main-in_range c.args.tree.now c.node_count-count.ensures.tree c.loop-here.here ((c.main_count.ensures (c.loop-here.here + 1)).0 (omega (arith, c.loop-here-test.true)))
+    main-in_range c.args.tree.now c.loop-here.here ((c.main_count.ensures (c.loop-here.here + 1)).0 (omega (arith, c.loop-here-test.true)))
 
 pub returns-clause-stopped : goal.returns-clause-stopped
 returns-clause-stopped c = λ before on placement is.

@@ -1,6 +1,6 @@
 use Rattle.std.proofs.Common.{ℕ, ◌-◌, ◌<◌, ◌≤◌}
 use Rattle.std.specs.Prelude.{◌==◌}
-use Rattle.game_tree.specs.Tree.{move_number_of, node_count}
+use Rattle.game_tree.specs.Tree.{IsTree, move_number_of, node_count}
 use Rattle.capture_board.specs.Deltas.{Deltas}
 use Rattle.pattern_images.specs.ImageList.{IsPlaceOf}
 use Rattle.pattern_images.specs.Placements.{Placement}
@@ -12,11 +12,11 @@ abbrev pub invariant-loop-here : goal.invariant-loop-here
 invariant-loop-here l = record {
   in_range : l.here < node_count l.tree;
   behind : l.node ≤ l.here;
-  moves : move_number_of l.tree l.node ≤ move_number_of l.tree l.here;
-  way : (deltas : Deltas) → (placement : Placement) → IsPlaceOf placement l.place → HoldsAt deltas placement l.node →
+  moves : IsTree l.tree → move_number_of l.tree l.node ≤ move_number_of l.tree l.here;
+  way : IsTree l.tree → (deltas : Deltas) → (placement : Placement) → IsPlaceOf placement l.place → HoldsAt deltas placement l.node →
       ((k : ℕ) → l.node ≤ k → k < l.held_to → HoldsAt deltas placement k) →
       IsWayDown l.tree deltas placement l.node l.here (move_number_of l.tree l.here == move_number_of l.tree l.node);
 }
 
 abbrev pub decreases-loop-here : goal.decreases-loop-here
-decreases-loop-here l = l.end - l.here
+decreases-loop-here l = l.last - l.here

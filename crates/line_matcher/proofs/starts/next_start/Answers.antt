@@ -4,16 +4,8 @@ use Rattle.line_matcher.proofs.StartLists.{SplitsAt-here}
 use Rattle.line_matcher.proofs.starts.next_start.Goals as goal
 
 pub loop-i-preserved : goal.loop-i-preserved
-loop-i-preserved c = record {
-  before = below_more _ _ c.loop-i.invariant.before (omega arith);
-  labels = below_more _ _ c.loop-i.invariant.labels c.corner_of.ensures.label;
-}
+loop-i-preserved c = below_more _ _ c.loop-i.invariant (omega arith)
 
 pub returns-then-corner_of-p : goal.returns-then-corner_of-p
 returns-then-corner_of-p c =
-    let images = c.args.images.now in
-    record {
-      splits = SplitsAt-here images.shape images.placements c.len-i-end.ensures.images.placed c.len-i-end.ensures.images.ordered c.args.p c.loop-i.i
-          (omega arith) c.loop-i.invariant.before (omega arith);
-      labels = c.loop-i.invariant.labels;
-    }
+    SplitsAt-here c.args.images.now c.len-i-end.ensures.images c.args.p c.loop-i.i (omega arith) c.loop-i.invariant (omega arith)

@@ -3,4 +3,4 @@ use Rattle.line_matcher.proofs.starts.starts.Given as goal
 
 -- the points so far
 abbrev pub invariant-loop-p : goal.invariant-loop-p
-invariant-loop-p l = HaveStartsTo l.images.shape l.images.placements l.p l.next l.starts.items
+invariant-loop-p l = HaveStartsTo l.images l.p l.next l.starts.items

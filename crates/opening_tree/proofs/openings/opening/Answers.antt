@@ -15,7 +15,7 @@ use Rattle.opening_tree.proofs.openings.opening.Goals as goal
 pub returns : goal.returns
 returns c =
     let stored = c.in_ok-openings.openings.entries in
-    let games = ap (map (λ (g : Bor Game). g.now)) c.as_slice.ensures.value ∙ c.in_ok-games.ensures in
+    let games = ap (map (λ (g : Bor Game). g.now)) c.as_slice.ensures.value ∙ c.in_ok-games.ensures.value in
     IfOk-weaker c.listed.result
     (λ (os : Vec Opening Global). os.items ≡ filter (λ (o : Opening). nat_le c.args.least o.count) (values_of stored))
     (λ (os : Vec Opening Global). IsOpenings c.args.shape c.args.depth c.args.least (items_in c.args.version.now.parts) os.items)

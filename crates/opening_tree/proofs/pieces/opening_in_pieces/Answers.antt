@@ -16,7 +16,7 @@ pub returns : goal.returns
 returns g c =
     let wanted = c.args.wanted in
     let stored = c.in_ok-openings.openings.entries in
-    let games = ap (map (λ (g : Bor Game). g.now)) c.as_slice.ensures.value ∙ c.in_ok-games.ensures in
+    let games = ap (map (λ (g : Bor Game). g.now)) c.as_slice.ensures.value ∙ c.in_ok-games.ensures.value in
     IfOk-weaker c.listed.result
     (λ (os : Vec Opening Global). os.items ≡ filter (λ (o : Opening). nat_le wanted.least o.count) (values_of stored))
     (λ (os : Vec Opening Global). IsOpenings wanted.shape wanted.depth wanted.least (items_in c.args.version.now.parts) os.items)

@@ -21,7 +21,7 @@ overflow_mul-number c =
     omega (
       arith,
       number_fits images.shape placement c.args.corner c.loop-place.place c.loop-place.number c.loop-place.invariant.number c.cell_over.result
-          (c.cell_over.ensures ∙ over_place placement c.point_on-at.result c.args.corner _ c.loop-place.place images.shape c.shape.result c.point_on-at.ensures.value c.in_ok-symmetry.ensures.made c.shape.ensures)
+          (c.cell_over.ensures ∙ over_place placement c.point_on-at.result c.args.corner _ c.loop-place.place images.shape c.shape-shape.result c.point_on-at.ensures.value c.in_ok-symmetry.ensures.made c.shape-shape.ensures.value)
           c.in-Some.digit c.loop-place.power c.in-Some.ensures.some.1 c.loop-place.invariant.power c.loop-place-test.true,
     )
 
@@ -32,7 +32,7 @@ overflow_add-number c =
     omega (
       arith,
       number_fits images.shape placement c.args.corner c.loop-place.place c.loop-place.number c.loop-place.invariant.number c.cell_over.result
-          (c.cell_over.ensures ∙ over_place placement c.point_on-at.result c.args.corner _ c.loop-place.place images.shape c.shape.result c.point_on-at.ensures.value c.in_ok-symmetry.ensures.made c.shape.ensures)
+          (c.cell_over.ensures ∙ over_place placement c.point_on-at.result c.args.corner _ c.loop-place.place images.shape c.shape-shape.result c.point_on-at.ensures.value c.in_ok-symmetry.ensures.made c.shape-shape.ensures.value)
           c.in-Some.digit c.loop-place.power c.in-Some.ensures.some.1 c.loop-place.invariant.power c.loop-place-test.true,
     )
 
@@ -42,7 +42,7 @@ loop-place-preserved c =
     let placement = placement_at images.placements c.args.i in
     record {
       number = IsNumberTo-more images.shape placement c.args.corner c.loop-place.place c.loop-place.number c.loop-place.invariant.number c.cell_over.result
-          (c.cell_over.ensures ∙ over_place placement c.point_on-at.result c.args.corner _ c.loop-place.place images.shape c.shape.result c.point_on-at.ensures.value c.in_ok-symmetry.ensures.made c.shape.ensures)
+          (c.cell_over.ensures ∙ over_place placement c.point_on-at.result c.args.corner _ c.loop-place.place images.shape c.shape-shape.result c.point_on-at.ensures.value c.in_ok-symmetry.ensures.made c.shape-shape.ensures.value)
           c.in-Some.digit c.loop-place.power c.in-Some.ensures.some.1 c.loop-place.invariant.power c.in-Some.ensures.some.0;
       power = power_next c.loop-place.power c.loop-place.place c.loop-place.invariant.power;
     }
@@ -51,8 +51,8 @@ pub returns-in_default-clause-none : goal.returns-in_default-clause-none
 returns-in_default-clause-none c = λ none.
     let images = c.args.images.now in
     let placement = placement_at images.placements c.args.i in
-    let over : c.cell_over.result ≡ _ = c.cell_over.ensures ∙ over_place placement c.point_on-at.result c.args.corner _ c.loop-place.place images.shape c.shape.result c.point_on-at.ensures.value c.in_ok-symmetry.ensures.made c.shape.ensures in
-    open-covers images.shape placement (c.len-count.ensures.images.placed c.args.i no_placement c.requires.placement) c.args.corner c.requires.corner c.requires.sides c.loop-place.place c.loop-place-test.true
+    let over : c.cell_over.result ≡ _ = c.cell_over.ensures ∙ over_place placement c.point_on-at.result c.args.corner _ c.loop-place.place images.shape c.shape-shape.result c.point_on-at.ensures.value c.in_ok-symmetry.ensures.made c.shape-shape.ensures.value in
+    open-covers images.shape placement (c.shape-shape.ensures.images.placed c.args.i no_placement c.requires.placement) c.args.corner c.requires.corner c.requires.sides c.loop-place.place c.loop-place-test.true
     (λ exact. c.in_default.ensures.none refl (subst IsExact (sym over) exact))
 
 pub returns-clause-some : goal.returns-clause-some
@@ -60,5 +60,5 @@ returns-clause-some c =
     let images = c.args.images.now in
     let placement = placement_at images.placements c.args.i in
     let all : c.loop-place.place ≡ 36 = omega (arith, c.loop-place-test.false, c.loop-place.auto.place-end) in
-    number-told images.shape placement (c.len-count.ensures.images.placed c.args.i no_placement c.requires.placement) c.args.corner c.requires.corner c.requires.sides c.loop-place.number
+    number-told images.shape placement (c.shape-shape.ensures.images.placed c.args.i no_placement c.requires.placement) c.args.corner c.requires.corner c.requires.sides c.loop-place.number
     (subst (λ (n : ℕ). IsNumberTo images.shape placement c.args.corner n c.loop-place.number) all c.loop-place.invariant.number)

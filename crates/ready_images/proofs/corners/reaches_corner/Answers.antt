@@ -12,7 +12,7 @@ returns-then-not-reaches_side c = λ corner few covers.
     let side = covers-reaches images.shape placement c.place-place.ensures.on_board c.requires.sides corner few covers in
     let told : c.reaches_side.result ≡ true =
     c.reaches_side.ensures.1
-    (reached placement.x placement.grid.cols (cols_of images.shape) place.x place.cols c.cols.result c.place-place.ensures.value.column c.place-place.ensures.value.columns (c.cols.ensures.value ∙ ap cols_of c.shape-shape.ensures) side.0) in
+    (reached placement.x placement.grid.cols (cols_of images.shape) place.x place.cols c.cols.result c.place-place.ensures.value.column c.place-place.ensures.value.columns (c.cols.ensures.value ∙ ap cols_of c.shape-shape.ensures.value) side.0) in
     let other = c.if-not-reaches_side.true in
     absurd cc
 
@@ -23,4 +23,4 @@ returns c = λ corner few covers.
     let place = c.place-place.result in
     let side = covers-reaches images.shape placement c.place-place.ensures.on_board c.requires.sides corner few covers in
     c.reaches_side-2.ensures.1
-    (reached placement.y placement.grid.rows (rows_of images.shape) place.y place.rows c.rows.result c.place-place.ensures.value.row c.place-place.ensures.value.rows (c.rows.ensures.value ∙ ap rows_of c.shape-shape.ensures) side.1)
+    (reached placement.y placement.grid.rows (rows_of images.shape) place.y place.rows c.rows.result c.place-place.ensures.value.row c.place-place.ensures.value.rows (c.rows.ensures.value ∙ ap rows_of c.shape-shape.ensures.value) side.1)

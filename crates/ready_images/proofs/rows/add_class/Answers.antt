@@ -25,8 +25,8 @@ loop-i-preserved c =
     let own : HasClass images (slice_index list k) c.args.class = (c.requires.of_class.sound k c.loop-i-test.true).1 in
     let start : c.len-start.result ≡ length c.loop-i.made.numbers.items = c.len-start.ensures ∙ c.loop-i.made.numbers.ok.0 in
     rw c.in_ok-push.ensures.items (record {
-      placed = placed-then images c.args.class list c.requires.of_class c.len-count.ensures.images.different k i c.loop-i.made.numbers.items c.loop-i-test.true refl c.loop-i.invariant.placed;
-      rows = rows-grown images c.loop-i.made.numbers.items c.loop-i.made.rows.items c.loop-i.invariant.rows c.args.class c.base.result i own c.base.ensures c.add_to_rows.new.rows.items
+      placed = placed-then images c.args.class list c.requires.of_class c.base.ensures.images.different k i c.loop-i.made.numbers.items c.loop-i-test.true refl c.loop-i.invariant.placed;
+      rows = rows-grown images c.loop-i.made.numbers.items c.loop-i.made.rows.items c.loop-i.invariant.rows c.args.class c.base.result i own c.base.ensures.value c.add_to_rows.new.rows.items
           (subst (λ (n : ℕ). IsRowGrown c.args.class c.base.result n c.loop-i.made.rows.items c.add_to_rows.new.rows.items) start c.in_ok-add_to_rows.ensures);
     })
 

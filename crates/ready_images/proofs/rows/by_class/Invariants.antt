@@ -1,5 +1,4 @@
-use Rattle.std.proofs.Common.{◌≡◌, ℕ, ◌<◌, length}
-use Rattle.pattern_images.specs.ImageList.{placement_at}
+use Rattle.std.proofs.Common.{◌≡◌, length}
 use Rattle.ready_images.specs.Placing.{AreByClass}
 use Rattle.ready_images.proofs.ClassLists.{lists_of}
 use Rattle.ready_images.proofs.rows.by_class.Given as goal
@@ -9,5 +8,4 @@ abbrev pub invariant-loop-i : goal.invariant-loop-i
 invariant-loop-i l = record {
   count : length l.lists.items ≡ length l.images.grids;
   each : AreByClass l.images l.i (lists_of l.lists.items);
-  labels : (j : ℕ) → j < l.i → (placement_at l.images.placements j).label < 16;
 }

@@ -14,7 +14,7 @@ use Rattle.ready_images.proofs.wanted.add_wants.Goals as goal
 pub loop-y-preserved : goal.loop-y-preserved
 loop-y-preserved c =
     subst (λ (s : Shape). ArePartedOn s (grid_with c.class_size-size.result c.class_cells-cells.result.now) (c.loop-y.y * cols_of c.class_size-size.result) ((c.loop-y.y + 1) * cols_of c.class_size-size.result) c.loop-y.lists c.add_row.new.lists)
-    c.shape.ensures c.in_ok-add_row.ensures c.args.lists.now.wants.items c.loop-y.invariant
+    c.shape.ensures.value c.in_ok-add_row.ensures c.args.lists.now.wants.items c.loop-y.invariant
 
 pub returns : goal.returns
 returns c =

@@ -22,8 +22,8 @@ loop-planes-preserved c = record {
 pub gather_on_shape-requires : goal.gather_on_shape-requires
 gather_on_shape-requires c =
     let p : PlaneGames = c.planes-item.result in
-    subst (λ (q : PlaneGames). ArePlanesOn c.args.block.now q) (sym c.planes-item.is) (c.planes-planes-items.ensures.each c.loop-planes.planes-index p c.loop-planes-test.true)
+    subst (λ (q : PlaneGames). ArePlanesOn c.args.block.now q) (sym c.planes-item.is) (c.planes-planes-items.ensures.value.each c.loop-planes.planes-index p c.loop-planes-test.true)
 
 pub returns-clause-gathered : goal.returns-clause-gathered
 returns-clause-gathered c = λ filter skip accepted.
-    on_planes-all c.args.ready.now.query c.args.ready.now.shapes c.args.block.now c.args.games c.planes-planes-items.result.now c.loop-planes.planes-index (omega (arith, c.loop-planes-test.false)) c.planes-planes-items.ensures filter skip c.loop-planes.room.gathered accepted c.loop-planes.invariant.gathered
+    on_planes-all c.args.ready.now.query c.args.ready.now.shapes c.args.block.now c.args.games c.planes-planes-items.result.now c.loop-planes.planes-index (omega (arith, c.loop-planes-test.false)) c.planes-planes-items.ensures.value c.planes-planes-items.ensures.few filter skip c.loop-planes.room.gathered accepted c.loop-planes.invariant.gathered

@@ -1,4 +1,4 @@
-use Rattle.std.proofs.Common.{◌≡◌, ◌≤◌, ◌∙◌, ap, arith, length, subst, sym}
+use Rattle.std.proofs.Common.{◌≡◌, ◌≤◌, ◌∙◌, ap, length, subst, sym}
 use Rattle.std.specs.Prelude.{Contains}
 use Rattle.kb_geometry.specs.declared.shape.Shape.{Shape}
 use Rattle.pattern_images.specs.Placements.{ArePlacements}
@@ -26,7 +26,7 @@ add_all-requires-clause-prepared c =
     let query = c.args.ready.now.query in
     let planes = c.args.planes.now in
     let images = c.in-Some.on_shape.now.images in
-    let few : length c.args.block.now ≤ 64 = omega (arith, c.len-count.ensures.value, c.len-count.ensures.most) in
+    let few : length c.args.block.now ≤ 64 = c.block_planes.ensures.few in
     let are = subst (λ (s : Shape). ArePlacements query s images.placements) c.shape.ensures c.in-Some.ensures.placements in
     let order = c.block_planes.result.order in
     let ordered = c.block_planes.ensures.order in
@@ -40,7 +40,7 @@ add_all-requires-clause-on_boards c =
     let query = c.args.ready.now.query in
     let planes = c.args.planes.now in
     let images = c.in-Some.on_shape.now.images in
-    let few : length c.args.block.now ≤ 64 = omega (arith, c.len-count.ensures.value, c.len-count.ensures.most) in
+    let few : length c.args.block.now ≤ 64 = c.block_planes.ensures.few in
     let are = subst (λ (s : Shape). ArePlacements query s images.placements) c.shape.ensures c.in-Some.ensures.placements in
     let order = c.block_planes.result.order in
     let ordered = c.block_planes.ensures.order in
@@ -55,7 +55,7 @@ returns-clause-gathered c =
     let query = c.args.ready.now.query in
     let planes = c.args.planes.now in
     let images = c.in-Some.on_shape.now.images in
-    let few : length c.args.block.now ≤ 64 = omega (arith, c.len-count.ensures.value, c.len-count.ensures.most) in
+    let few : length c.args.block.now ≤ 64 = c.block_planes.ensures.few in
     let are = subst (λ (s : Shape). ArePlacements query s images.placements) c.shape.ensures c.in-Some.ensures.placements in
     let order = c.block_planes.result.order in
     let ordered = c.block_planes.ensures.order in

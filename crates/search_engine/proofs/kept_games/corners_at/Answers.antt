@@ -1,5 +1,4 @@
 use Rattle.std.proofs.Common.{subst}
-use Rattle.game_tree.specs.Tree.{IsTree, Tree}
 use Rattle.node_position.specs.Games.{Game}
 use Rattle.search_engine.specs.KeptBlocks.{AreCornersTold}
 use Rattle.search_engine.proofs.GamesSearched.{same_game}
@@ -7,10 +6,10 @@ use Rattle.search_engine.proofs.kept_games.corners_at.Goals as goal
 
 pub returns : goal.returns
 returns c game there =
-    let same = same_game c.args.block.now c.args.at c.get-game.result.now game c.get-game.ensures there in
+    let same = same_game c.args.block.now c.args.at c.get.result.now game c.get.ensures.value there in
     subst (λ (g : Game). AreCornersTold g.tree c.corners.result.now) same (record {
-      is_tree = subst (λ (t : Tree). IsTree t) c.tree.ensures c.shape-shape.ensures.tree;
-      changes = c.deltas-changes.result.now;
-      are_changes = c.deltas-changes.ensures;
-      corners = c.corners.ensures;
+      is_tree = c.get.ensures.tree;
+      changes = c.corners.ensures.changes.0;
+      are_changes = c.corners.ensures.changes.1;
+      corners = c.corners.ensures.value;
     })

@@ -15,7 +15,7 @@ loop-planes-preserved c =
     let planes = c.planes-planes-items.result.now in
     let k = c.loop-planes.planes-index in
     let p : PlaneGames = c.planes-item.result in
-    let on = subst (λ (q : PlaneGames). ArePlanesOn c.args.block.now q) (sym c.planes-item.is) (c.planes-planes-items.ensures.each k p c.loop-planes-test.true) in
+    let on = subst (λ (q : PlaneGames). ArePlanesOn c.args.block.now q) (sym c.planes-item.is) (c.planes-planes-items.ensures.value.each k p c.loop-planes-test.true) in
     let corners = subst (λ ks. AreCornersOf c.args.block.now ks) (sym c.deref.ensures.value) c.in_ok-corners.ensures in
     kept-more query shapes c.args.block.now c.deref.result.now corners planes k p c.loop-planes-test.true c.planes-item.is on c.loop-planes.kept _ c.loop-planes.invariant c.in_ok-kept.ensures
 
@@ -25,4 +25,4 @@ kept_on_shape-requires c = omega (arith, ap length c.deref.ensures.value, c.in_o
 pub returns : goal.returns
 returns c =
     kept-in_block c.args.ready.now.query c.args.ready.now.shapes c.args.block.now c.in_ok-corners.corners.items c.in_ok-corners.ensures c.planes-planes-items.result.now c.loop-planes.planes-index c.loop-planes.kept
-    (omega (arith, c.loop-planes-test.false)) c.planes-planes-items.ensures c.loop-planes.invariant c.loop-planes.auto.kept-fits.fits
+    (omega (arith, c.loop-planes-test.false)) c.planes-planes-items.ensures.value c.loop-planes.invariant c.loop-planes.auto.kept-fits.fits

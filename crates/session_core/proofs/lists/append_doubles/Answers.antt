@@ -14,7 +14,7 @@ use Rattle.session_core.proofs.ListTexts.{IsDoublesText-printed}
 use Rattle.session_core.proofs.lists.append_doubles.Goals as goal
 
 pub games_by_key-requires-clause-most : goal.games_by_key-requires-clause-most
-games_by_key-requires-clause-most c = few_games c.as_slice-2.result.now c.in_ok-games.games.items (view_of c.args.version.now).games c.game_count-count.result c.as_slice-2.ensures.value c.in_ok-games.ensures c.game_count-count.ensures.value c.game_count-count.ensures.most
+games_by_key-requires-clause-most c = few_games c.as_slice-2.result.now c.in_ok-games.games.items (view_of c.args.version.now).games c.game_count-count.result c.as_slice-2.ensures.value c.in_ok-games.ensures.value c.game_count-count.ensures.value c.game_count-count.ensures.most
 
 pub games_by_key-requires-clause-as_many : goal.games_by_key-requires-clause-as_many
 games_by_key-requires-clause-as_many c = ap length c.as_slice-3.ensures.value ∙ (forms-long _ _ c.in_ok-forms.ensures ∙ (ap length c.as_slice.ensures.value ∙ sym (ap length c.as_slice-2.ensures.value)))
@@ -30,5 +30,5 @@ returns-clause-ok c =
     ∙ ap (flat_map line) (c.in_ok-by_key.ensures ∙ (λ i. groups_of (keys_with (c.as_slice-2.ensures.value i) (c.as_slice-3.ensures.value i)))) in
     let head = doubles_head c.args.line c.args.version.now.number c.game_count-count.result (length (groups_of (keys_with c.in_ok-games.games.items c.in_ok-forms.forms.items))) in
     IsDoublesText-printed c.args.line (view_of c.args.version.now) c.args.version.now.number c.game_count-count.result c.in_ok-games.games.items c.in_ok-forms.forms.items c.args.out.now.items c.loop-key.out.items
-    refl c.game_count-count.ensures.value c.in_ok-games.ensures (subst (λ (gs : List (Bor Game)). AreFormsOf gs c.in_ok-forms.forms.items) c.as_slice.ensures.value c.in_ok-forms.ensures)
+    refl c.game_count-count.ensures.value c.in_ok-games.ensures.value (subst (λ (gs : List (Bor Game)). AreFormsOf gs c.in_ok-forms.forms.items) c.as_slice.ensures.value c.in_ok-forms.ensures)
     (c.loop-key.invariant.printed ∙ ap (λ ls. (c.args.out.now.items ++ head) ++ ls) lines)

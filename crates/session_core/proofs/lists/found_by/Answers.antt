@@ -26,7 +26,7 @@ pub matches-requires : goal.matches-requires
 matches-requires c =
     let none : Signature = record { bytes = [] } in
     let canonical = form-of c.args.games.now c.args.forms.now c.loop-number.number c.index-games-number.result none c.requires.forms c.loop-number-test.true c.index-games-number.is in
-    subst (λ (s : Shape). IsSignatureOn s (get_or c.args.forms.now c.loop-number.number none).bytes) (sym (c.shape.ensures.value ∙ ap (λ (t : Tree). t.shape) c.tree.ensures)) canonical.on_board
+    subst (λ (s : Shape). IsSignatureOn s (get_or c.args.forms.now c.loop-number.number none).bytes) (sym (c.shape.ensures.value ∙ ap (λ (t : Tree). t.shape) c.tree.ensures.value)) canonical.on_board
 
 pub loop-number-preserved : goal.loop-number-preserved
 loop-number-preserved c =
@@ -39,8 +39,8 @@ loop-number-preserved c =
     let new = c.if-matches.found.items in
     let bytes = c.args.pattern.now.bytes in
     let matches : Shape → Type 0 = λ s. Matches s (get_or forms n none).bytes bytes in
-    let shape : c.shape.result ≡ game.now.tree.shape = c.shape.ensures.value ∙ ap (λ (t : Tree). t.shape) c.tree.ensures in
-    let tree : IsTree game.now.tree = subst IsTree c.tree.ensures c.shape.ensures.tree in
+    let shape : c.shape.result ≡ game.now.tree.shape = c.shape.ensures.value ∙ ap (λ (t : Tree). t.shape) c.tree.ensures.value in
+    let tree : IsTree game.now.tree = subst IsTree c.tree.ensures.value c.shape.ensures.tree in
     let within : n < length forms = omega (arith, c.loop-number-test.true, forms-long games forms c.requires.forms) in
     elim c.if-matches.branch [
       | then-matches+in_ok-push w ↦

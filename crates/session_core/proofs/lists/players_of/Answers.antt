@@ -23,7 +23,7 @@ loop-game-preserved c =
     let games = c.args.games.now in
     let before = take c.loop-game.game-index games in
     let next : take (c.loop-game.game-index + 1) games ≡ before ++ c.game-item.result ∷ [] = take_more games c.loop-game.game-index c.game-item.result c.loop-game-test.true ∙ ap (λ (g : Bor Game). before ++ g ∷ []) (sym c.game-item.is) in
-    let infos = ap infos_of next ∙ map-append (λ (g : Bor Game). g.now.tree.info) before (c.game-item.result ∷ []) ∙ ap (λ info. infos_of before ++ info ∷ []) (sym (c.info.ensures ∙ ap (λ t. t.info) c.tree.ensures)) in
+    let infos = ap infos_of next ∙ map-append (λ (g : Bor Game). g.now.tree.info) before (c.game-item.result ∷ []) ∙ ap (λ info. infos_of before ++ info ∷ []) (sym (c.info.ensures ∙ ap (λ t. t.info) c.tree.ensures.value)) in
     subst (λ games. IsPlayersTable games c.add.new.self) (sym infos) (c.in_ok-add.ensures.ok (infos_of before) c.loop-game.invariant)
 
 pub returns : goal.returns

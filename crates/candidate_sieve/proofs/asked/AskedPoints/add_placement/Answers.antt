@@ -15,7 +15,7 @@ add_row-requires c =
     let images = c.args.images.now in
     let placement = placement_at images.placements c.args.i in
     row_fits images.shape placement (grid_at images.grids c.class_of-class.result) c.class_of-class.ensures.cells c.row_of.result.now c.loop-dy.dy _ c.row_of.ensures.count c.row_of.ensures.cells
-    (start_is c.from.result c.from-cols.result c.from-2.result c.from-in-loop-dy.result placement.y (cols_of images.shape) placement.x c.loop-dy.dy (c.from.ensures ∙ c.place-x.ensures.value.row) (c.from-cols.ensures ∙ c.cols.ensures.value ∙ ap cols_of c.shape.ensures) (c.from-2.ensures ∙ c.place-x.ensures.value.column) c.from-in-loop-dy.ensures)
+    (start_is c.from.result c.from-cols.result c.from-2.result c.from-in-loop-dy.result placement.y (cols_of images.shape) placement.x c.loop-dy.dy (c.from.ensures ∙ c.place-x.ensures.value.row) (c.from-cols.ensures ∙ c.cols.ensures.value ∙ ap cols_of c.shape.ensures.value) (c.from-2.ensures ∙ c.place-x.ensures.value.column) c.from-in-loop-dy.ensures)
     c.place-x.ensures.on_board (omega (arith, c.loop-dy-test.true, c.place-x.ensures.value.rows))
 
 pub loop-dy-preserved : goal.loop-dy-preserved
@@ -25,7 +25,7 @@ loop-dy-preserved c =
     noted-more (AsksInRowOf images.shape placement) c.args.self.now c.loop-dy.self c.add_row.new.self c.loop-dy.dy c.loop-dy.invariant
     (noted-same c.loop-dy.self c.add_row.new.self (AsksInRow c.row_of.result.now _) (AsksInRowOf images.shape placement c.loop-dy.dy)
     (row-asks images.shape placement (grid_at images.grids c.class_of-class.result) c.class_of-class.ensures.cells c.row_of.result.now c.loop-dy.dy _ c.row_of.ensures.count c.row_of.ensures.cells
-    (start_is c.from.result c.from-cols.result c.from-2.result c.from-in-loop-dy.result placement.y (cols_of images.shape) placement.x c.loop-dy.dy (c.from.ensures ∙ c.place-x.ensures.value.row) (c.from-cols.ensures ∙ c.cols.ensures.value ∙ ap cols_of c.shape.ensures) (c.from-2.ensures ∙ c.place-x.ensures.value.column) c.from-in-loop-dy.ensures))
+    (start_is c.from.result c.from-cols.result c.from-2.result c.from-in-loop-dy.result placement.y (cols_of images.shape) placement.x c.loop-dy.dy (c.from.ensures ∙ c.place-x.ensures.value.row) (c.from-cols.ensures ∙ c.cols.ensures.value ∙ ap cols_of c.shape.ensures.value) (c.from-2.ensures ∙ c.place-x.ensures.value.column) c.from-in-loop-dy.ensures))
     c.add_row.ensures)
 
 pub returns : goal.returns

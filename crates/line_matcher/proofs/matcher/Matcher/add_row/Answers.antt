@@ -10,16 +10,16 @@ use Rattle.line_matcher.proofs.matcher.Matcher.add_row.Goals as goal
 pub loop-x-init : goal.loop-x-init
 loop-x-init c =
     let images = c.args.self.now.images.now in
-    row_left images c.len-count.ensures.images.placed c.args.self.now.starts.items c.args.self.now.made.starts_are c.args.visit.now c.args.area c.requires.near c.requires.area c.args.y c.requires.row c.args.found.now.items
+    row_left images c.args.self.now.made.placed c.args.self.now.starts.items c.args.self.now.made.starts_are c.args.visit.now c.args.area c.requires.near c.requires.area c.args.y c.requires.row c.args.found.now.items
 
 pub add_run-requires : goal.add_run-requires
 add_run-requires c =
     let images = c.args.self.now.images.now in
     let starts = c.args.self.now.starts.items in
-    let placed = c.len-count.ensures.images.placed in
+    let placed = c.args.self.now.made.placed in
     let are = c.args.self.now.made.starts_are in
     let p = c.number-first.result in
-    let lt : p < point_count images.shape = subst (λ (s : Shape). p < point_count s) c.shape.ensures c.number-first.ensures.in_range in
+    let lt : p < point_count images.shape = subst (λ (s : Shape). p < point_count s) c.shape.ensures.value c.number-first.ensures.in_range in
     let from_is : c.start-from.result ≡ slice_index starts p = c.start-from.ensures in
     let to_is : c.start-to.result ≡ slice_index starts (p + 1) = c.start-to.ensures in
     let le : slice_index starts p ≤ slice_index starts (p + 1) = start_le images placed starts are p (p + 1) (omega arith) (omega arith) in
@@ -38,7 +38,7 @@ loop-x-preserved c =
     let test = holds_anew images.shape c.args.visit.now.walker.now.position (seen c.args.visit.now.changed) in
     let row_start = c.args.y * cols_of images.shape in
     let p = c.number-first.result in
-    let here : p ≡ row_start + c.loop-x.x = c.number-first.ensures.value ∙ ap (λ (s : Shape). c.args.y * cols_of s + c.loop-x.x) c.shape.ensures in
+    let here : p ≡ row_start + c.loop-x.x = c.number-first.ensures.value ∙ ap (λ (s : Shape). c.args.y * cols_of s + c.loop-x.x) c.shape.ensures.value in
     let next : p + 1 ≡ row_start + (c.loop-x.x + 1) = omega arith in
     let from_is : c.start-from.result ≡ slice_index starts (row_start + c.loop-x.x) = c.start-from.ensures ∙ ap (slice_index starts) here in
     let to_is : c.start-to.result ≡ slice_index starts (row_start + (c.loop-x.x + 1)) = c.start-to.ensures ∙ ap (slice_index starts) next in
@@ -50,4 +50,4 @@ pub returns : goal.returns
 returns c =
     let images = c.args.self.now.images.now in
     IsAdded-trans images.placements (holds_anew images.shape c.args.visit.now.walker.now.position (seen c.args.visit.now.changed)) c.args.visit.now.node c.loop-x.invariant
-    (row_right images c.len-count.ensures.images.placed c.args.self.now.starts.items c.args.self.now.made.starts_are c.args.visit.now c.args.area c.requires.near c.requires.area c.args.y c.requires.row c.loop-x.x c.loop-x.found.items (omega arith))
+    (row_right images c.args.self.now.made.placed c.args.self.now.starts.items c.args.self.now.made.starts_are c.args.visit.now c.args.area c.requires.near c.requires.area c.args.y c.requires.row c.loop-x.x c.loop-x.found.items (omega arith))

@@ -9,7 +9,7 @@ use Rattle.opening_tree.proofs.openings_of_games.OpeningsOfGames.add_entries.Goa
 
 pub loop-node-init : goal.loop-node-init
 loop-node-init c = record {
-  stands = c.restart.ensures.stands;
+  stands = c.restart.ensures.stands c.deltas-deltas.result.now (c.requires.board ∙ sym c.deltas-deltas.ensures.lead.same_shape);
   here = c.restart.ensures.here;
   asked = refl;
   board = c.restart.ensures.shape ∙ c.requires.board;
@@ -21,14 +21,14 @@ loop-node-init c = record {
 
 pub frame_here-requires-clause-known : goal.frame_here-requires-clause-known
 frame_here-requires-clause-known c =
-    let (positions, are) = positions-found c.tree-tree.result.now c.node_count-count.ensures.tree in
+    let (positions, are) = positions-found c.tree-tree.result.now (subst (λ (t : trees.Tree). trees.IsTree t) (sym c.tree-tree.ensures.value) c.tree-tree.ensures.tree) in
     let (es, ns, ready) = c.requires.so_far in
-    let here = subst (λ (t : trees.Tree). IsReadyForGame t.shape es ns c.args.self.now.openings.entries) (sym c.tree-tree.ensures) ready in
+    let here = subst (λ (t : trees.Tree). IsReadyForGame t.shape es ns c.args.self.now.openings.entries) (sym c.tree-tree.ensures.value) ready in
     (c.loop-node.invariant.gone positions are es ns here).are_frames.each_node
 
 pub returns-clause-gone : goal.returns-clause-gone
 returns-clause-gone c positions are es ns ready =
-    let same = c.tree-tree.ensures in
+    let same = c.tree-tree.ensures.value in
     let all : c.loop-node.node ≡ c.end_within-end.result = omega (arith, c.loop-node-test.false, c.loop-node.auto.node-end) in
     gone-end c.args.self.now.asked.depth c.args.number c.tree-tree.result.now c.args.game.now.tree same positions es ns c.loop-node.self.openings.entries c.loop-node.self.frames.items c.loop-node.node c.end_within-end.result all c.end_within-end.ensures
     (c.loop-node.invariant.gone positions (subst (λ (t : trees.Tree). ArePositions t positions) (sym same) are) es ns (subst (λ (t : trees.Tree). IsReadyForGame t.shape es ns c.args.self.now.openings.entries) (sym same) ready))

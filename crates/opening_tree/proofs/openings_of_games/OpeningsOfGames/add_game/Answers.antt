@@ -1,6 +1,5 @@
 use Rattle.std.proofs.Common.{◌∙◌, ◌++◌, ◌∷◌, [], ap, length, refl, subst, sym}
 use Rattle.std.proofs.lemmas.Bool.{false≢true}
-use Rattle.game_tree.specs.Tree.{IsTree, Tree}
 use Rattle.node_position.proofs.EachTree.{positions-found}
 use Rattle.kb_geometry.specs.declared.shape.Shape.{Shape}
 use Rattle.kb_geometry.specs.Board.{point_count}
@@ -13,26 +12,26 @@ use Rattle.opening_tree.proofs.StoredSteps.{openings-elsewhere, ready-game}
 use Rattle.opening_tree.proofs.openings_of_games.OpeningsOfGames.add_game.Goals as goal
 
 pub add_entries-requires-clause-board : goal.add_entries-requires-clause-board
-add_entries-requires-clause-board c = c.requires.board ∙ sym (c.is_on.ensures.0 c.if-not-is_on.false)
+add_entries-requires-clause-board c = c.requires.board ∙ sym (c.is_on.ensures.shape.0 c.if-not-is_on.false)
 
 pub add_entries-requires-clause-width : goal.add_entries-requires-clause-width
-add_entries-requires-clause-width c = c.requires.width ∙ sym (ap (λ (s : Shape). words_for (point_count s)) (c.is_on.ensures.0 c.if-not-is_on.false))
+add_entries-requires-clause-width c = c.requires.width ∙ sym (ap (λ (s : Shape). words_for (point_count s)) (c.is_on.ensures.shape.0 c.if-not-is_on.false))
 
 pub add_entries-requires-clause-so_far : goal.add_entries-requires-clause-so_far
 add_entries-requires-clause-so_far c =
     let (first, games, count, are) = c.requires.so_far in
-    let is_tree = subst (λ (t : Tree). IsTree t) c.tree.ensures c.node_count-count.ensures.tree in (
+    let is_tree = c.is_on.ensures.tree in (
       are.entries,
       are.nexts,
-      ready-game c.args.self.now.asked.shape c.args.self.now.asked.depth c.args.number c.args.game.now is_tree first games count c.requires.most c.args.self.now.openings.entries are (c.is_on.ensures.0 c.if-not-is_on.false),
+      ready-game c.args.self.now.asked.shape c.args.self.now.asked.depth c.args.number c.args.game.now is_tree first games count c.requires.most c.args.self.now.openings.entries are (c.is_on.ensures.shape.0 c.if-not-is_on.false),
     )
 
 pub add_nexts-requires : goal.add_nexts-requires
 add_nexts-requires c =
     let (first, games, count, are) = c.requires.so_far in
-    let is_tree = subst (λ (t : Tree). IsTree t) c.tree.ensures c.node_count-count.ensures.tree in
+    let is_tree = c.is_on.ensures.tree in
     let (positions, at) = positions-found c.args.game.now.tree is_tree in
-    let ready = ready-game c.args.self.now.asked.shape c.args.self.now.asked.depth c.args.number c.args.game.now is_tree first games count c.requires.most c.args.self.now.openings.entries are (c.is_on.ensures.0 c.if-not-is_on.false) in
+    let ready = ready-game c.args.self.now.asked.shape c.args.self.now.asked.depth c.args.number c.args.game.now is_tree first games count c.requires.most c.args.self.now.openings.entries are (c.is_on.ensures.shape.0 c.if-not-is_on.false) in
     let gone = c.in_ok-add_entries.ensures.gone positions at are.entries are.nexts ready in
     let frames = c.add_entries.new.self.frames.items in
     record {
@@ -48,20 +47,20 @@ add_nexts-requires c =
 
 pub returns-then-not-is_on-clause-added : goal.returns-then-not-is_on-clause-added
 returns-then-not-is_on-clause-added c first games count are =
-    let is_tree = subst (λ (t : Tree). IsTree t) c.tree.ensures c.node_count-count.ensures.tree in
+    let is_tree = c.is_on.ensures.tree in
     openings-elsewhere c.args.self.now.asked.shape c.args.self.now.asked.depth c.args.number c.args.game.now is_tree first games count c.requires.most c.args.self.now.openings.entries are
-    (λ e. false≢true (sym c.if-not-is_on.true ∙ c.is_on.ensures.1 e))
+    (λ e. false≢true (sym c.if-not-is_on.true ∙ c.is_on.ensures.shape.1 e))
 
 pub returns-clause-board : goal.returns-clause-board
 returns-clause-board c =
-    ap (λ (w : TurnedWalk). w.shape) c.add_nexts.ensures.walker ∙ c.in_ok-add_entries.ensures.board ∙ c.is_on.ensures.0 c.if-not-is_on.false ∙ sym (ap (λ (a : Asked). a.shape) (c.add_nexts.ensures.asked ∙ c.add_entries.ensures.asked))
+    ap (λ (w : TurnedWalk). w.shape) c.add_nexts.ensures.walker ∙ c.in_ok-add_entries.ensures.board ∙ c.is_on.ensures.shape.0 c.if-not-is_on.false ∙ sym (ap (λ (a : Asked). a.shape) (c.add_nexts.ensures.asked ∙ c.add_entries.ensures.asked))
 
 pub returns-clause-added : goal.returns-clause-added
 returns-clause-added c first games count are =
     let shape = c.args.self.now.asked.shape in
     let depth = c.args.self.now.asked.depth in
-    let on = c.is_on.ensures.0 c.if-not-is_on.false in
-    let is_tree = subst (λ (t : Tree). IsTree t) c.tree.ensures c.node_count-count.ensures.tree in
+    let on = c.is_on.ensures.shape.0 c.if-not-is_on.false in
+    let is_tree = c.is_on.ensures.tree in
     let (positions, at) = positions-found c.args.game.now.tree is_tree in
     let ready = ready-game shape depth c.args.number c.args.game.now is_tree first games count c.requires.most c.args.self.now.openings.entries are on in
     let gone = c.in_ok-add_entries.ensures.gone positions at are.entries are.nexts ready in

@@ -9,10 +9,10 @@ pub returns-clause-are : goal.returns-clause-are
 returns-clause-are c =
     let images = c.args.self.now.ready.now.images in
     let is = c.args.self.now.is in
-    subst (λ (g : Grid). AreWantsOf images.shape g c.class_wants.result.wants.now) (ap (grid_at images.grids) c.from.ensures ∙ is.has.cells) c.class_wants.ensures
+    subst (λ (g : Grid). AreWantsOf images.shape g c.class_wants.result.wants.now) (ap (grid_at images.grids) c.from.ensures ∙ is.has.cells) c.class_wants.ensures.are
 
 pub returns-clause-on_board : goal.returns-clause-on_board
 returns-clause-on_board c =
     let images = c.args.self.now.ready.now.images in
     let number = c.args.self.now.number in
-    wants-on_board images.shape (placement_at images.placements number) (c.images-images.ensures.are.placed number no_placement c.args.self.now.is.in_range) c.class_wants.result.wants.now (returns-clause-are c)
+    wants-on_board images.shape (placement_at images.placements number) (c.class_wants.ensures.images.placed number no_placement c.args.self.now.is.in_range) c.class_wants.result.wants.now (returns-clause-are c)

@@ -45,7 +45,7 @@ looks_at-requires g c =
     let begun = c.args.begun.now in
     let k = c.loop-one.one-index in
     let lt = c.loop-one-test.true in
-    subst (λ (t : Tree). (one begun k lt).occurrence.node < node_count t) (sym c.tree.ensures)
+    subst (λ (t : Tree). (one begun k lt).occurrence.node < node_count t) (sym c.tree.ensures.value)
     (node_in_tree c.args.self.now.game.now.tree c.args.deltas.now c.requires.changes c.args.self.now.ready.now.images.placements (occurrences_of begun) c.requires.occurrences k (one begun k lt).occurrence (within begun k lt) (read begun k lt))
 
 pub hit_of-requires-clause-node : goal.hit_of-requires-clause-node
@@ -88,12 +88,12 @@ loop-one-preserved g c =
             | then-looks_at+in_ok-push w ↦
                 AreHitsAdded-hit c.args.self.now.query.now c.args.self.now.number c.args.self.now.game.now.tree c.args.deltas.now c.args.self.now.ready.now.images.placements (occurrences_of begun) c.args.hits.now.items c.loop-one.hits.items k o (within begun k lt) (read begun k lt)
                 c.if-looks_at.hits.items w.hit_of.result c.loop-one.invariant.hits
-                (subst (λ (t : Tree). LooksAt c.args.self.now.query.now t o.node) c.tree.ensures (c.looks_at.ensures.0 w.if-looks_at.true))
+                (subst (λ (t : Tree). LooksAt c.args.self.now.query.now t o.node) c.tree.ensures.value (c.looks_at.ensures.0 w.if-looks_at.true))
                 w.hit_of.ensures (ap (λ v. v.items) w.hits-is ∙ w.in_ok-push.ensures.items)
             | else-looks_at w ↦
                 AreHitsAdded-left_out c.args.self.now.query.now c.args.self.now.number c.args.self.now.game.now.tree c.args.deltas.now c.args.self.now.ready.now.images.placements (occurrences_of begun) c.args.hits.now.items c.loop-one.hits.items k o (within begun k lt) (read begun k lt)
                 c.if-looks_at.hits.items c.loop-one.invariant.hits
-                (λ looks. let no : false ≡ true = sym w.if-looks_at.false ∙ c.looks_at.ensures.1 (subst (λ (t : Tree). LooksAt c.args.self.now.query.now t o.node) (sym c.tree.ensures) looks) in absurd cc)
+                (λ looks. let no : false ≡ true = sym w.if-looks_at.false ∙ c.looks_at.ensures.1 (subst (λ (t : Tree). LooksAt c.args.self.now.query.now t o.node) (sym c.tree.ensures.value) looks) in absurd cc)
                 (ap (λ v. v.items) w.hits-is)
           ];
       within = c.visit-visited.ensures.within (node_count c.args.self.now.game.now.tree) node c.loop-one.invariant.within;
@@ -104,12 +104,12 @@ loop-one-preserved g c =
             | then-looks_at+in_ok-push w ↦
                 AreVisitedTo-hit c.args.self.now.query.now c.args.self.now.number c.args.self.now.game.now.tree (occurrences_of begun) ordered k o (within begun k lt) (read begun k lt)
                 c.loop-one.visited c.visit-visited.result c.args.hits.now.items c.loop-one.hits.items c.if-looks_at.hits.items c.args.steps.now c.loop-one.steps c.visit-visited.new.steps c.loop-one.invariant.nodes visit w.hit_of.result
-                (subst (λ (t : Tree). LooksAt c.args.self.now.query.now t o.node) c.tree.ensures (c.looks_at.ensures.0 w.if-looks_at.true))
+                (subst (λ (t : Tree). LooksAt c.args.self.now.query.now t o.node) c.tree.ensures.value (c.looks_at.ensures.0 w.if-looks_at.true))
                 w.hit_of.ensures.game w.hit_of.ensures.node (ap (λ v. v.items) w.hits-is ∙ w.in_ok-push.ensures.items)
             | else-looks_at w ↦
                 AreVisitedTo-left_out c.args.self.now.query.now c.args.self.now.number c.args.self.now.game.now.tree (occurrences_of begun) ordered k o (within begun k lt) (read begun k lt)
                 c.loop-one.visited c.visit-visited.result c.args.hits.now.items c.loop-one.hits.items c.if-looks_at.hits.items c.args.steps.now c.loop-one.steps c.visit-visited.new.steps c.loop-one.invariant.nodes visit
-                (λ looks. let no : false ≡ true = sym w.if-looks_at.false ∙ c.looks_at.ensures.1 (subst (λ (t : Tree). LooksAt c.args.self.now.query.now t o.node) (sym c.tree.ensures) looks) in absurd cc)
+                (λ looks. let no : false ≡ true = sym w.if-looks_at.false ∙ c.looks_at.ensures.1 (subst (λ (t : Tree). LooksAt c.args.self.now.query.now t o.node) (sym c.tree.ensures.value) looks) in absurd cc)
                 (ap (λ v. v.items) w.hits-is)
           ];
     }

@@ -17,10 +17,10 @@ returns c =
       game = refl;
       node = refl;
       place = subst (λ (i : ImageList). IsPlaceOf (placement_at i.placements o.placement) c.place.result) c.images-images.ensures.value c.place.ensures.value;
-      moves = subst (λ (t : Tree). c.move_number.result ≡ move_number_of t o.node) c.tree.ensures c.move_number.ensures;
+      moves = subst (λ (t : Tree). c.move_number.result ≡ move_number_of t o.node) c.tree.ensures.value c.move_number.ensures;
       outcome = c.outcome.ensures;
       next =
-          subst (λ (t : Tree). GoesOn t changes (placement_at images.placements o.placement) o.node c.next_below.result) c.tree-2.ensures
+          subst (λ (t : Tree). GoesOn t changes (placement_at images.placements o.placement) o.node c.next_below.result) c.tree-2.ensures.value
           (subst (λ (i : ImageList). GoesOn c.tree-2.result.now changes (placement_at i.placements o.placement) o.node c.next_below.result) c.images-images.ensures.value
           (GoesOn-from c.tree-2.result.now changes (placement_at read.placements o.placement) o.node c.next_below.result c.next_below.ensures.some c.next_below.ensures.none));
     }

@@ -12,7 +12,7 @@ returns-in-Known c = λ k from below. c.requires.go_on c.in-Known.end k c.in-Kno
 
 pub holds_to-requires-clause-in_range : goal.holds_to-requires-clause-in_range
 holds_to-requires-clause-in_range c =
-    let is = c.runs.ensures c.args.deltas.now c.requires.changes in
+    let is = c.runs.ensures.value c.args.deltas.now c.requires.changes in
     omega (arith, c.requires.node, ap count_in is, count-seen c.args.deltas.now, c.requires.changes.lead.each_node)
 
 pub returns-in-Unknown : goal.returns-in-Unknown
@@ -21,4 +21,4 @@ returns-in-Unknown c = λ k from below.
     let changes = c.args.deltas.now in
     let held = subst₂ (λ (r : ReadyList) (i : ℕ). HoldsAt changes (placement_at r.images.placements i) o.node) (sym c.placement.ensures.ready) (sym c.placement.ensures.number) c.requires.holds in
     subst₂ (λ (r : ReadyList) (i : ℕ). HoldsAt changes (placement_at r.images.placements i) k) c.placement.ensures.ready c.placement.ensures.number
-    (c.holds_to.ensures.holds changes c.requires.changes.net (c.runs.ensures changes c.requires.changes) held k from below)
+    (c.holds_to.ensures.holds changes c.requires.changes.net (c.runs.ensures.value changes c.requires.changes) held k from below)

@@ -14,7 +14,7 @@ use Rattle.search_engine.proofs.search_items.Searcher.add_on_its_board.Goals as 
 
 pub returns-in_default-clause-hits : goal.returns-in_default-clause-hits
 returns-in_default-clause-hits g c =
-    let shape = c.shape.ensures.value ∙ ap (λ (t : Tree). t.shape) c.tree.ensures in
+    let shape = c.shape.ensures.value ∙ ap (λ (t : Tree). t.shape) c.tree.ensures.value in
     absurd (c.in_default.ensures.none (subst (Contains c.args.self.now.ready.now.shapes) (sym shape) c.requires.among_shapes))
 
 pub returns-in_default-clause-visited : goal.returns-in_default-clause-visited
@@ -30,7 +30,7 @@ pub returns-clause-hits : goal.returns-clause-hits
 returns-clause-hits g c =
     let query = c.args.self.now.ready.now.query in
     let tree = c.args.game.now.tree in
-    let shape = c.shape.ensures.value ∙ ap (λ (t : Tree). t.shape) c.tree.ensures in
+    let shape = c.shape.ensures.value ∙ ap (λ (t : Tree). t.shape) c.tree.ensures.value in
     let board = subst (IsForBoard query) shape c.in-Some.ensures.for_board in
     OnOk-then c.add_hits_in.result c.add_hits_in.ensures.hits
     (λ added filter accepts. AreGameHits-asked query filter c.args.number tree c.args.hits.now.items c.add_hits_in.new.hits.items (board, accepts)

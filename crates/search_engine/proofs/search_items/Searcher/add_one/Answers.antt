@@ -10,38 +10,43 @@ use Rattle.search_engine.proofs.Gathering.{asked_with_some, has_exactly, kept_wi
 use Rattle.search_engine.proofs.GamesSearched.{same_game}
 use Rattle.search_engine.proofs.StepsTaken.{AreStepsIn-game, AreStepsIn-none}
 use Rattle.search_engine.proofs.NodesVisited.{AreVisited-none}
+use Rattle.search_engine.proofs.TreeChanges.{has_changes}
 use Rattle.search_engine.proofs.search_items.Searcher.add_one.Goals as goal
 
 pub returns-then-is_empty-clause-hits : goal.returns-then-is_empty-clause-hits
 returns-then-is_empty-clause-hits g c = λ game at covered.
+    let own = has_changes c.get-game.result.now.tree c.get-game.ensures.tree in
     let query = c.args.self.now.ready.now.query in
-    let same : c.get-game.result.now ≡ game = same_game c.args.item.now.block.now c.args.at c.get-game.result.now game c.get-game.ensures at in
+    let same : c.get-game.result.now ≡ game = same_game c.args.item.now.block.now c.args.at c.get-game.result.now game c.get-game.ensures.value at in
     subst (λ (h : Game). AreHitsAdded (AreGameHits query c.args.self.now.filter.now (c.args.item.now.first + (c.args.at - c.args.item.now.skip)) h.tree) c.args.hits.now.items c.args.hits.now.items) same
-    (no_hits query c.args.self.now.filter.now c.args.self.now.ready.now.shapes (c.args.item.now.first + (c.args.at - c.args.item.now.skip)) c.get-game.result.now.tree (gathered_of c.args.gathered.now c.args.at) (c.requires.gathered c.get-game.result.now c.get-game.ensures) c.deltas-changes.result.now c.deltas-changes.ensures
+    (no_hits query c.args.self.now.filter.now c.args.self.now.ready.now.shapes (c.args.item.now.first + (c.args.at - c.args.item.now.skip)) c.get-game.result.now.tree (gathered_of c.args.gathered.now c.args.at) (c.requires.gathered c.get-game.result.now c.get-game.ensures.value) own.0 own.1
     (c.is_empty.ensures.0 c.if-is_empty.true) (subst (λ (h : Game). IsCovered query c.args.self.now.ready.now.shapes h.tree.shape) (sym same) covered) c.args.hits.now.items)
 
 pub add_on_its_board-requires-clause-among_shapes : goal.add_on_its_board-requires-clause-among_shapes
 add_on_its_board-requires-clause-among_shapes g c =
-    (asked_with_some c.args.self.now.ready.now.query c.args.self.now.filter.now c.args.self.now.ready.now.shapes c.get-game.result.now.tree (gathered_of c.args.gathered.now c.args.at) (c.requires.gathered c.get-game.result.now c.get-game.ensures) c.deltas-changes.result.now c.deltas-changes.ensures c.is_empty.result c.is_empty.ensures c.if-is_empty.false).1
+    let own = has_changes c.get-game.result.now.tree c.get-game.ensures.tree in
+    (asked_with_some c.args.self.now.ready.now.query c.args.self.now.filter.now c.args.self.now.ready.now.shapes c.get-game.result.now.tree (gathered_of c.args.gathered.now c.args.at) (c.requires.gathered c.get-game.result.now c.get-game.ensures.value) own.0 own.1 c.is_empty.result c.is_empty.ensures c.if-is_empty.false).1
 
 pub add_on_its_board-requires-clause-occurrences : goal.add_on_its_board-requires-clause-occurrences
 add_on_its_board-requires-clause-occurrences g c = λ changes placements of are.
+    let own = has_changes c.get-game.result.now.tree c.get-game.ensures.tree in
     let query = c.args.self.now.ready.now.query in
     let tree = c.get-game.result.now.tree in
     let gathered = gathered_of c.args.gathered.now c.args.at in
-    let has = c.requires.gathered c.get-game.result.now c.get-game.ensures in
-    let asked = asked_with_some query c.args.self.now.filter.now c.args.self.now.ready.now.shapes tree gathered has c.deltas-changes.result.now c.deltas-changes.ensures c.is_empty.result c.is_empty.ensures c.if-is_empty.false in
+    let has = c.requires.gathered c.get-game.result.now c.get-game.ensures.value in
+    let asked = asked_with_some query c.args.self.now.filter.now c.args.self.now.ready.now.shapes tree gathered has own.0 own.1 c.is_empty.result c.is_empty.ensures c.if-is_empty.false in
     ap occurrences_of c.deref.ensures.value ∙ c.in_ok-found.ensures.list changes placements (has_exactly query c.args.self.now.filter.now c.args.self.now.ready.now.shapes tree gathered has changes of asked.0 asked.1 placements are)
 
 pub add_on_its_board-requires-clause-go_on : goal.add_on_its_board-requires-clause-go_on
 add_on_its_board-requires-clause-go_on g c = λ changes placements of are b h.
-    c.requires.go_on c.get-game.result.now c.get-game.ensures changes placements of are b
+    c.requires.go_on c.get-game.result.now c.get-game.ensures.value changes placements of are b
     (c.in_ok-found.ensures.from b (subst (λ (bs : List Begun). Contains bs b) c.deref.ensures.value h))
 
 pub returns-clause-hits : goal.returns-clause-hits
 returns-clause-hits g c = λ game at covered.
-    let asked = asked_with_some c.args.self.now.ready.now.query c.args.self.now.filter.now c.args.self.now.ready.now.shapes c.get-game.result.now.tree (gathered_of c.args.gathered.now c.args.at) (c.requires.gathered c.get-game.result.now c.get-game.ensures) c.deltas-changes.result.now c.deltas-changes.ensures c.is_empty.result c.is_empty.ensures c.if-is_empty.false in
-    let same : c.get-game.result.now ≡ game = same_game c.args.item.now.block.now c.args.at c.get-game.result.now game c.get-game.ensures at in
+    let own = has_changes c.get-game.result.now.tree c.get-game.ensures.tree in
+    let asked = asked_with_some c.args.self.now.ready.now.query c.args.self.now.filter.now c.args.self.now.ready.now.shapes c.get-game.result.now.tree (gathered_of c.args.gathered.now c.args.at) (c.requires.gathered c.get-game.result.now c.get-game.ensures.value) own.0 own.1 c.is_empty.result c.is_empty.ensures c.if-is_empty.false in
+    let same : c.get-game.result.now ≡ game = same_game c.args.item.now.block.now c.args.at c.get-game.result.now game c.get-game.ensures.value at in
     subst (λ (h : Game). AreHitsAdded (AreGameHits c.args.self.now.ready.now.query c.args.self.now.filter.now (c.args.item.now.first + (c.args.at - c.args.item.now.skip)) h.tree) c.args.hits.now.items c.add_on_its_board.new.hits.items) same
     (c.in_ok-add_on_its_board.ensures.hits c.args.self.now.filter.now asked.0)
 
@@ -56,16 +61,18 @@ returns-in_err-found-clause-steps g c = λ game at. AreStepsIn-none c.args.self.
 
 pub returns-in_err-add_on_its_board-clause-steps : goal.returns-in_err-add_on_its_board-clause-steps
 returns-in_err-add_on_its_board-clause-steps g c = λ game at.
+    let own = has_changes c.get-game.result.now.tree c.get-game.ensures.tree in
     let query = c.args.self.now.ready.now.query in
-    let kept = kept_with_some query c.args.self.now.filter.now c.args.self.now.ready.now.shapes c.get-game.result.now.tree (gathered_of c.args.gathered.now c.args.at) (c.requires.gathered c.get-game.result.now c.get-game.ensures) c.deltas-changes.result.now c.deltas-changes.ensures c.is_empty.result c.is_empty.ensures c.if-is_empty.false in
-    let same : c.get-game.result.now ≡ game = same_game c.args.item.now.block.now c.args.at c.get-game.result.now game c.get-game.ensures at in
+    let kept = kept_with_some query c.args.self.now.filter.now c.args.self.now.ready.now.shapes c.get-game.result.now.tree (gathered_of c.args.gathered.now c.args.at) (c.requires.gathered c.get-game.result.now c.get-game.ensures.value) own.0 own.1 c.is_empty.result c.is_empty.ensures c.if-is_empty.false in
+    let same : c.get-game.result.now ≡ game = same_game c.args.item.now.block.now c.args.at c.get-game.result.now game c.get-game.ensures.value at in
     subst (λ (h : Game). AreStepsIn query (h ∷ []) c.args.steps.now c.add_on_its_board.new.steps) same
     (AreStepsIn-game query c.get-game.result.now c.args.steps.now c.add_on_its_board.new.steps kept c.add_on_its_board.ensures.grows c.add_on_its_board.ensures.ticks)
 
 pub returns-clause-steps : goal.returns-clause-steps
 returns-clause-steps g c = λ game at.
+    let own = has_changes c.get-game.result.now.tree c.get-game.ensures.tree in
     let query = c.args.self.now.ready.now.query in
-    let kept = kept_with_some query c.args.self.now.filter.now c.args.self.now.ready.now.shapes c.get-game.result.now.tree (gathered_of c.args.gathered.now c.args.at) (c.requires.gathered c.get-game.result.now c.get-game.ensures) c.deltas-changes.result.now c.deltas-changes.ensures c.is_empty.result c.is_empty.ensures c.if-is_empty.false in
-    let same : c.get-game.result.now ≡ game = same_game c.args.item.now.block.now c.args.at c.get-game.result.now game c.get-game.ensures at in
+    let kept = kept_with_some query c.args.self.now.filter.now c.args.self.now.ready.now.shapes c.get-game.result.now.tree (gathered_of c.args.gathered.now c.args.at) (c.requires.gathered c.get-game.result.now c.get-game.ensures.value) own.0 own.1 c.is_empty.result c.is_empty.ensures c.if-is_empty.false in
+    let same : c.get-game.result.now ≡ game = same_game c.args.item.now.block.now c.args.at c.get-game.result.now game c.get-game.ensures.value at in
     subst (λ (h : Game). AreStepsIn query (h ∷ []) c.args.steps.now c.add_on_its_board.new.steps) same
     (AreStepsIn-game query c.get-game.result.now c.args.steps.now c.add_on_its_board.new.steps kept c.add_on_its_board.ensures.grows c.add_on_its_board.ensures.ticks)

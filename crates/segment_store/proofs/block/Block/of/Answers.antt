@@ -13,4 +13,5 @@ invariant_of-result c =
       have,
       ArePlanesOf-made c.in_ok-shapes.shapes.items (map arc_value games) c.in_ok-planes.planes.items have c.in_ok-shapes.ensures.different made,
       rw c.as_slice-4.ensures.value at c.in_ok-orders.ensures,
+      rw c.as_slice.ensures.value at c.in_ok-shapes.ensures.trees,
     )
